@@ -1,0 +1,129 @@
+-- Laws of lists.
+use mathlib.Core.Path.{_≡_, ap, refl, subst, sym}
+use mathlib.Core.Bool.{cond, false, false≢true, true, true≢false}
+use mathlib.Core.Logic.{_≢_, ⊎-elim}
+use mathlib.Core.Option.{Option, none, some}
+use mathlib.Core.List.{List, List·Memᴰ, List·Memᴰ·append-cases, List·Memᴰ·cases-cons, List·Memᴰ·head, List·Memᴰ·not-nil, List·Memᴰ·tail, [], _++_, _∷_, map}
+use Prim.Native.Nat.{_<_, _≤_, suc, zero, ℕ}
+use native.Mathlib.Omega.{arith}
+use native.Mathlib.Nat.{not-suc-le-zero}
+use lib.Dec.{eqb}
+use lib.ListN.{getElem?, length}
+use borrow.Author.Tests.{eqb-false, eqb-true, ne-eqb}
+use Rattle.model.specs.Groups.{at}
+use Rattle.model.specs.Lists.{Each, andThen, isEmpty}
+use Rattle.model.proofs.Tests.{by-test}
+
+-- ---- a walk, step by step
+pub andThen-inv : {A B : Type 0} (o : Option A) (f : A → Option B) (b : B) → andThen o f ≡ some b → (a : A) × (o ≡ some a) × (f a ≡ some b)
+andThen-inv none f b e = absurd (let z : _≡_ {A = ℕ} 0 1 = cc in omega arith)
+andThen-inv (some a) f b e = (a, refl, e)
+
+-- ---- candidates
+pub getElem-at : {A : Type 0} (pre : List A) (x : A) (xs : List A) (n : ℕ) → length pre ≡ n → getElem? (pre ++ x ∷ xs) n ≡ some x
+getElem-at [] x xs zero e = refl
+getElem-at [] x xs (suc n) e = absurd (omega arith)
+getElem-at (p ∷ pre) x xs zero e = absurd (omega arith)
+getElem-at (p ∷ pre) x xs (suc n) e = getElem-at pre x xs n (omega arith)
+
+pub map-append : {A B : Type 0} (f : A → B) (xs ys : List A) → map f (xs ++ ys) ≡ map f xs ++ map f ys
+map-append f [] ys = refl
+map-append {A} {B} f (x ∷ xs) ys = ap (λ (l : List B). f x ∷ l) (map-append f xs ys)
+
+pub each-append {ℓ} : {A : Type ℓ} (P : A → Type 0) (xs ys : List A) → Each P xs → Each P ys → Each P (xs ++ ys)
+each-append P [] ys p q = q
+each-append P (x ∷ xs) ys p q = (p .0, each-append P xs ys (p .1) q)
+
+pub each-left {ℓ} : {A : Type ℓ} (P : A → Type 0) (xs ys : List A) → Each P (xs ++ ys) → Each P xs
+each-left P [] ys p = tt
+each-left P (x ∷ xs) ys p = (p .0, each-left P xs ys (p .1))
+
+pub each-right {ℓ} : {A : Type ℓ} (P : A → Type 0) (xs ys : List A) → Each P (xs ++ ys) → Each P ys
+each-right P [] ys p = p
+each-right P (x ∷ xs) ys p = each-right P xs ys (p .1)
+
+pub each-map {ℓ} : {A : Type ℓ} (P Q : A → Type 0) → ((x : A) → P x → Q x) → (xs : List A) → Each P xs → Each Q xs
+each-map P Q f [] p = tt
+each-map P Q f (x ∷ xs) p = (f x (p .0), each-map P Q f xs (p .1))
+
+pub each-of-map : {A B : Type 0} (P : B → Type 0) (f : A → B) (xs : List A) → Each (λ (x : A). P (f x)) xs → Each P (map f xs)
+each-of-map P f [] e = tt
+each-of-map P f (x ∷ xs) e = (e .0, each-of-map P f xs (e .1))
+
+pub each-any : {A : Type 0} (P : A → Type 0) → ((x : A) → P x) → (xs : List A) → Each P xs
+each-any P f [] = tt
+each-any P f (x ∷ xs) = (f x, each-any P f xs)
+
+pub each-mem : {A : Type 0} (xs : List A) → Each (λ (x : A). List·Memᴰ x xs) xs
+each-mem [] = tt
+each-mem {A} (x ∷ xs) = (List·Memᴰ·head refl, each-map (λ (y : A). List·Memᴰ y xs) (λ (y : A). List·Memᴰ y (x ∷ xs)) (λ y m. List·Memᴰ·tail m) xs (each-mem xs))
+
+pub mem-each : {A : Type 0} (xs : List A) (P : A → Type 0) → ((x : A) → List·Memᴰ x xs → P x) → Each P xs
+mem-each [] P f = tt
+mem-each (x ∷ xs) P f = (f x (List·Memᴰ·head refl), mem-each xs P (λ y m. f y (List·Memᴰ·tail m)))
+
+pub each-get : {A : Type 0} (P : A → Type 0) (x : A) (xs : List A) → Each P xs → List·Memᴰ x xs → P x
+each-get P x [] e m = absurd (List·Memᴰ·not-nil m)
+each-get P x (y ∷ xs) e m = ⊎-elim (λ q. subst P (sym q) (e .0)) (λ m′. each-get P x xs (e .1) m′) (List·Memᴰ·cases-cons m)
+
+pub each-less : (n k : ℕ) (ns : List ℕ) → n ≤ k → Each (λ (m : ℕ). m < n) ns → Each (λ (m : ℕ). m < k) ns
+each-less n k ns h = each-map (λ (m : ℕ). m < n) (λ (m : ℕ). m < k) (λ m p. omega arith) ns
+
+pub isEmpty-true : {A : Type 0} (xs : List A) → isEmpty xs ≡ true → xs ≡ []
+isEmpty-true [] e = refl
+isEmpty-true (x ∷ xs) e = absurd (false≢true e)
+
+pub isEmpty-false : {A : Type 0} (xs : List A) → isEmpty xs ≡ false → 0 < length xs
+isEmpty-false [] e = absurd (true≢false e)
+isEmpty-false (x ∷ xs) e = omega arith
+
+-- ---- distinct
+abbrev pub Distinct {ℓ} : {A : Type ℓ} → List A → Type ℓ
+Distinct [] = Unit
+Distinct (x ∷ xs) = (List·Memᴰ x xs → ⊥) × Distinct xs
+
+pub distinct-append : {A : Type 0} (xs ys : List A) → Distinct xs → Distinct ys → ((x : A) → List·Memᴰ x xs → List·Memᴰ x ys → ⊥) → Distinct (xs ++ ys)
+distinct-append [] ys p q f = q
+distinct-append (x ∷ xs) ys p q f = (
+  (λ m. ⊎-elim (p .0) (λ n. f x (List·Memᴰ·head refl) n) (List·Memᴰ·append-cases xs m)),
+  distinct-append xs ys (p .1) q (λ z m n. f z (List·Memᴰ·tail m) n),
+)
+
+-- ---- the pigeonhole
+abbrev without : ℕ → List ℕ → List ℕ
+without n [] = []
+without n (m ∷ ms) = cond (eqb m n) (without n ms) (m ∷ without n ms)
+
+without-mem : (n x : ℕ) (ms : List ℕ) → List·Memᴰ x (without n ms) → List·Memᴰ x ms
+without-mem n x [] m = m
+without-mem n x (y ∷ ms) m = by-test (eqb y n)
+    (λ t. List·Memᴰ·tail (without-mem n x ms (rw t at m)))
+    (λ f. ⊎-elim (λ e. List·Memᴰ·head e) (λ m′. List·Memᴰ·tail (without-mem n x ms m′)) (List·Memᴰ·cases-cons (rw f at m)))
+
+without-distinct : (n : ℕ) (ms : List ℕ) → Distinct ms → Distinct (without n ms)
+without-distinct n [] d = tt
+without-distinct n (y ∷ ms) d = by-test (eqb y n) (λ t. rw t (without-distinct n ms (d .1))) (λ f. rw f ((λ m. d .0 (without-mem n y ms m)), without-distinct n ms (d .1)))
+
+without-below : (n : ℕ) (ms : List ℕ) → Each (λ (m : ℕ). m < suc n) ms → Each (λ (m : ℕ). m < n) (without n ms)
+without-below n [] e = tt
+without-below n (y ∷ ms) e = by-test (eqb y n) (λ t. rw t (without-below n ms (e .1)))
+    (λ f. rw f (let ne : y ≢ n = eqb-false y n f in let lt : y < suc n = e .0 in (omega arith, without-below n ms (e .1))))
+
+without-absent : (n : ℕ) (ms : List ℕ) → (List·Memᴰ n ms → ⊥) → without n ms ≡ ms
+without-absent n [] h = refl
+without-absent n (y ∷ ms) h =
+    rw (ne-eqb y n (λ e. h (List·Memᴰ·head (sym e)))) (ap (λ (l : List ℕ). y ∷ l) (without-absent n ms (λ m. h (List·Memᴰ·tail m))))
+
+without-length : (n : ℕ) (ms : List ℕ) → Distinct ms → length ms ≤ suc (length (without n ms))
+without-length n [] d = omega arith
+without-length n (y ∷ ms) d = by-test (eqb y n)
+    (λ t. rw t (let same : without n ms ≡ ms = without-absent n ms (subst (λ (k : ℕ). List·Memᴰ k ms → ⊥) (eqb-true y n t) (d .0)) in omega (arith, ap length same)))
+    (λ f. rw f (omega (arith, without-length n ms (d .1))))
+
+-- distinct numbers below n are at most n
+pub pigeonhole : (n : ℕ) (ms : List ℕ) → Distinct ms → Each (λ (m : ℕ). m < n) ms → length ms ≤ n
+pigeonhole zero [] d e = omega arith
+pigeonhole zero (m ∷ ms) d e = absurd (not-suc-le-zero (e .0))
+pigeonhole (suc n) ms d e =
+    let below : length (without n ms) ≤ n = pigeonhole n (without n ms) (without-distinct n ms d) (without-below n ms e) in
+    omega (arith, without-length n ms d)

@@ -1,0 +1,86 @@
+-- Rules, situations, firing and walking; the paper's step relation; acceptance; Lemma 15.
+use mathlib.Core.Path.{_∙_, _≡_, ap, refl, sym}
+use mathlib.Core.Bool.{true}
+use mathlib.Core.Option.{Option, none, some}
+use mathlib.Core.List.{List, _∷_}
+use Prim.Native.Nat.{ℕ}
+use native.Mathlib.Omega.{arith}
+use lib.ListN.{getElem?}
+use Rattle.model.specs.Groups.{Processes, at, restrict, sameGroup}
+use Rattle.model.specs.Lists.{andThen}
+use Rattle.model.specs.SmallTables.{gives}
+use Rattle.model.specs.Systems.{Configuration, Equal, Rule, Step, System, enabled, fire, fired, walk}
+use Rattle.model.specs.Tables.{read}
+use Rattle.model.specs.Words.{Located, project, removeFirst, tops}
+use Rattle.model.proofs.Groups.{sameGroup-of, sameGroup-true}
+use Rattle.model.proofs.Lists.{andThen-inv}
+use Rattle.model.proofs.Tests.{and-both, and-left, and-right, by-test}
+use Rattle.model.proofs.Words.{Tops, equivalent-append, equivalent-pick, equivalent-tops, here, pick-equivalent, pick-tops, tops-of, tops-pick, tops-true}
+
+pub enabled-matches : (loc : ℕ → Processes) (r : Rule) (s : Configuration) → enabled loc r s ≡ true → restrict (loc (r .letter)) (s .states) ≡ r .before
+unfolding enabled
+enabled-matches loc r s e = sameGroup-true (restrict (loc (r .letter)) (s .states)) (r .before) (and-left _ _ e)
+
+pub enabled-tops : (loc : ℕ → Processes) (r : Rule) (s : Configuration) → enabled loc r s ≡ true → Tops loc (r .letter) (s .word)
+unfolding enabled
+enabled-tops loc r s e = tops-true loc (r .letter) (s .word) (and-right (sameGroup (restrict (loc (r .letter)) (s .states)) (r .before)) (tops loc (r .letter) (s .word)) e)
+
+pub enabled-of : (loc : ℕ → Processes) (r : Rule) (s : Configuration) → restrict (loc (r .letter)) (s .states) ≡ r .before → Tops loc (r .letter) (s .word) → enabled loc r s ≡ true
+unfolding enabled
+enabled-of loc r s m t =
+    and-both (sameGroup (restrict (loc (r .letter)) (s .states)) (r .before)) (tops loc (r .letter) (s .word)) (sameGroup-of (restrict (loc (r .letter)) (s .states)) (r .before) m) (tops-of loc (r .letter) (s .word) t)
+
+pub fire-some : (loc : ℕ → Processes) (r : Rule) (s : Configuration) → enabled loc r s ≡ true → fire loc r s ≡ some (fired loc r s)
+unfolding fire
+fire-some loc r s e = rw e
+
+pub record FiredTo (loc : ℕ → Processes) (r : Rule) (s t : Configuration) : Type 0 where
+  pub yes : enabled loc r s ≡ true
+  pub gives : fired loc r s ≡ t
+
+pub fire-inv : (loc : ℕ → Processes) (r : Rule) (s t : Configuration) → fire loc r s ≡ some t → FiredTo loc r s t
+unfolding fire
+fire-inv loc r s t e = by-test (enabled loc r s) (λ y. record { yes = y; gives = let q : some (fired loc r s) ≡ some t = rw y at e in cc }) (λ n. absurd (let q : none ≡ some t = rw n at e in let z : _≡_ {A = ℕ} 0 1 = cc in omega arith))
+
+-- Theorem A: what fires is a step, and every step is what fires, up to equal own piles
+pub fire-step : (loc : ℕ → Processes) → Located loc → (r : Rule) (s t : Configuration) → fire loc r s ≡ some t → Step loc r s t
+fire-step loc ne r s t e =
+    let f = fire-inv loc r s t e in
+    let p = tops-pick loc ne (r .letter) (s .word) (enabled-tops loc r s (f .yes)) in
+    record {
+      enabled = enabled-matches loc r s (f .yes);
+      states = ap (λ (x : Configuration). x .states) (sym (f .gives));
+      below = removeFirst (r .letter) (s .word);
+      read = pick-equivalent p;
+      written = λ i. ap (λ (x : Configuration). project loc i (x .word)) (sym (f .gives));
+    }
+
+pub step-fire : (loc : ℕ → Processes) → Located loc → (r : Rule) (s t : Configuration) → Step loc r s t → (fire loc r s ≡ some (fired loc r s)) × Equal loc (fired loc r s) t
+step-fire loc ne r s t st =
+    let top : Tops loc (r .letter) (s .word) = equivalent-tops loc (r .letter) (s .word) (r .letter ∷ st .below) (st .read) (pick-tops {loc = loc} {x = st .below} (here refl)) in
+    let p = tops-pick loc ne (r .letter) (s .word) top in (
+      fire-some loc r s (enabled-of loc r s (st .enabled) top),
+      record {
+        states = sym (st .states);
+        words = λ i. equivalent-append loc (r .written) (r .written) (removeFirst (r .letter) (s .word)) (st .below) (λ j. refl) (equivalent-pick (st .below) p (st .read)) i ∙ sym (st .written i);
+      },
+    )
+
+pub record WalkStep (sys : System) (n : ℕ) (ns : List ℕ) (s t : Configuration) : Type 0 where
+  pub rule : Rule
+  pub is : getElem? (sys .rules) n ≡ some rule
+  pub mid : Configuration
+  pub first : fire (sys .loc) rule s ≡ some mid
+  pub rest : walk sys ns mid ≡ some t
+
+pub walk-inv : (sys : System) (n : ℕ) (ns : List ℕ) (s t : Configuration) → walk sys (n ∷ ns) s ≡ some t → WalkStep sys n ns s t
+walk-inv sys n ns s t e =
+    let a = andThen-inv (getElem? (sys .rules) n) (λ r. andThen (fire (sys .loc) r s) (walk sys ns)) t e in
+    let b = andThen-inv (fire (sys .loc) (a .0) s) (walk sys ns) t (a .2) in
+    record { rule = a .0; is = a .1; mid = b .0; first = b .1; rest = b .2 }
+
+pub walk-cons : (sys : System) (n : ℕ) (ns : List ℕ) (s t : Configuration) → WalkStep sys n ns s t → walk sys (n ∷ ns) s ≡ some t
+walk-cons sys n ns s t w =
+    ap (λ (o : Option Rule). andThen o (λ r. andThen (fire (sys .loc) r s) (walk sys ns))) (w .is)
+    ∙ ap (λ (o : Option Configuration). andThen o (walk sys ns)) (w .first)
+    ∙ w .rest

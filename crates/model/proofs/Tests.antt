@@ -1,0 +1,59 @@
+-- Tests as equations.
+use mathlib.Core.Path.{_∙_, _≡_, refl, sym}
+use mathlib.Core.Bool.{Bool, _&&_, _||_, cond, false, false≢true, not, true}
+use Prim.Native.Nat.{_<_, suc, zero, ℕ}
+use native.Mathlib.Omega.{arith}
+use Rattle.model.specs.Groups.{Process, every, p0, p1, p2, p3}
+
+-- a test is true or false, with the equation
+pub by-test {ℓ} : {C : Type ℓ} (b : Bool) → (b ≡ true → C) → (b ≡ false → C) → C
+by-test true f g = f refl
+by-test false f g = g refl
+
+-- two tests that hold in the same cases are equal
+pub same-test : (a b : Bool) → (a ≡ true → b ≡ true) → (b ≡ true → a ≡ true) → a ≡ b
+same-test true b f g = sym (f refl)
+same-test false b f g = by-test b (λ y. g y ∙ sym y) (λ n. sym n)
+
+-- ---- tests as equations
+pub and-left : (a b : Bool) → (a && b) ≡ true → a ≡ true
+and-left true b e = refl
+and-left false b e = e
+
+pub and-right : (a b : Bool) → (a && b) ≡ true → b ≡ true
+and-right true b e = e
+and-right false b e = absurd (false≢true e)
+
+pub and-both : (a b : Bool) → a ≡ true → b ≡ true → (a && b) ≡ true
+and-both true b p q = q
+and-both false b p q = p
+
+pub implies : (a b : Bool) → (not a || b) ≡ true → a ≡ true → b ≡ true
+implies true b e m = e
+implies false b e m = absurd (false≢true m)
+
+pub implied : (a b : Bool) → (a ≡ true → b ≡ true) → (not a || b) ≡ true
+implied true b f = f refl
+implied false b f = refl
+
+pub not-true : (b : Bool) → not b ≡ true → b ≡ false
+not-true true e = absurd (false≢true e)
+not-true false e = refl
+
+pub cond-less : (b : Bool) (x y n : ℕ) → (b ≡ true → x < n) → y < n → cond b x y < n
+cond-less true x y n p q = p refl
+cond-less false x y n p q = q
+
+-- zero or more
+pub by-zero {ℓ} : {C : Type ℓ} (n : ℕ) → (n ≡ 0 → C) → (0 < n → C) → C
+by-zero zero f g = f refl
+by-zero (suc n) f g = g (omega arith)
+
+pub every-of : (f : Process → Bool) → ((i : Process) → f i ≡ true) → every f ≡ true
+every-of f h = rw (h p0, h p1, h p2, h p3)
+
+pub every-at : (f : Process → Bool) → every f ≡ true → (i : Process) → f i ≡ true
+every-at f e p0 = and-left (f p0) (f p1) (and-left (f p0 && f p1) (f p2) (and-left (f p0 && f p1 && f p2) (f p3) e))
+every-at f e p1 = and-right (f p0) (f p1) (and-left (f p0 && f p1) (f p2) (and-left (f p0 && f p1 && f p2) (f p3) e))
+every-at f e p2 = and-right (f p0 && f p1) (f p2) (and-left (f p0 && f p1 && f p2) (f p3) e)
+every-at f e p3 = and-right (f p0 && f p1 && f p2) (f p3) e

@@ -1,0 +1,59 @@
+-- Section 2 of the paper: processes, tuples of local states, their restriction to a set of processes, and the joint tuple.
+use mathlib.Core.Path.{_≡_}
+use mathlib.Core.Bool.{Bool, true, false, cond, _&&_}
+use Prim.Native.Nat.{ℕ, _/_, _%_}
+use lib.Dec.{eqb}
+use Rattle.model.specs.declared.Group.{Group}
+
+-- The paper's set P. Document 01: stations 0 to 3.
+pub data Process : Type 0 where
+  p0 p1 p2 p3 : Process
+
+-- a test that holds at all four processes
+abbrev pub every : (Process → Bool) → Bool
+every f = f p0 && f p1 && f p2 && f p3
+
+-- the local state of a process in a group
+abbrev pub at : Group → Process → ℕ
+at g p0 = g .s0
+at g p1 = g .s1
+at g p2 = g .s2
+at g p3 = g .s3
+
+abbrev pub build : (Process → ℕ) → Group
+build f = record { s0 = f p0; s1 = f p1; s2 = f p2; s3 = f p3 }
+
+unfoldable pub sameGroup : Group → Group → Bool
+sameGroup g h = every (λ i. eqb (at g i) (at h i))
+
+-- A set of processes: the paper's loc(a). Document 01: the stations of a task.
+pub record Processes : Type 0 where
+  pub b0 : Bool
+  pub b1 : Bool
+  pub b2 : Bool
+  pub b3 : Bool
+
+abbrev pub has : Processes → Process → Bool
+has L p0 = L .b0
+has L p1 = L .b1
+has L p2 = L .b2
+has L p3 = L .b3
+
+-- document 01: station bits, bit 0 is station 0
+abbrev pub processesOf : ℕ → Processes
+processesOf bits = record { b0 = eqb (bits % 2) 1; b1 = eqb (bits / 2 % 2) 1; b2 = eqb (bits / 4 % 2) 1; b3 = eqb (bits / 8 % 2) 1 }
+
+-- no process is in both sets; each process of M is in L
+abbrev pub Apart : Processes → Processes → Type 0
+Apart L M = (i : Process) → has L i ≡ true → has M i ≡ false
+
+abbrev pub Within : Processes → Processes → Type 0
+Within M L = (i : Process) → has M i ≡ true → has L i ≡ true
+
+-- the restriction of g to L, with 255 at every other process
+unfoldable pub restrict : Processes → Group → Group
+restrict L g = build (λ i. cond (has L i) (at g i) 255)
+
+-- the joint tuple: x at the processes of L, g at the others
+unfoldable pub merge : Processes → Group → Group → Group
+merge L x g = build (λ i. cond (has L i) (at x i) (at g i))

@@ -1,0 +1,12 @@
+pub mod Lists
+pub mod Groups
+pub mod Words
+pub mod Automata
+pub mod Systems
+pub mod Saturation
+pub mod Tables
+pub mod Log
+pub mod Unfolding
+pub mod Records
+pub mod Calls
+pub mod SmallTables

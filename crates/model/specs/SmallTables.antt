@@ -1,0 +1,110 @@
+-- Document 01, "Small tables": the starred ones, as one table of calls and what they give, with one theorem.
+use mathlib.Core.Path.{_≡_, refl}
+use mathlib.Core.List.{List, [], _∷_, _++_, map}
+use Prim.Native.Nat.{ℕ}
+use lib.ListN.{replicate}
+use Rattle.model.specs.Groups.{sameGroup, restrict, merge}
+use Rattle.model.specs.Words.{tops}
+use Rattle.model.specs.Systems.{enabled, fire}
+use Rattle.model.specs.Tables.{isOutOfTurn, groupFits, transitionFits, writtenFit, valueFits, cooperates, leavesControl, isTwin, refusal, readFrom, read, systemOf}
+use Rattle.model.specs.Log.{readsAt, keyLess, sameKey, additions, logAt, firstSaturated, saturatedAt}
+use Rattle.model.specs.Unfolding.{acceptingPath, emittedBy}
+use Rattle.model.specs.Lists.{valueOr}
+use Rattle.model.specs.Calls.{recordsOf, runOf, pageAfter, answerGiven, answerCall, runCall, walkCall, answerFigures, runGiven, runFigures, walkGiven, walkFigures}
+
+-- a call, with the lengths of its lent buffers
+pub data Call : Type 0 where
+  asks : (table : List ℕ) (log scratch : ℕ) → Call
+  runs : (table : List ℕ) (log scratch page : ℕ) → Call
+  walks : (table list : List ℕ) (pile scratch : ℕ) → Call
+
+-- a buffer that was used before
+abbrev pub used : ℕ → List ℕ
+used n = replicate n 7
+
+-- its figures, and what it leaves: of an answer nothing more, of a run the page, of a walk the part handed back and the pile
+abbrev pub gives : Call → List (List ℕ)
+gives (asks table log scratch) = answerFigures (answerCall table (used log) (used scratch) .answer) ∷ []
+gives (runs table log scratch page) =
+    let o = runCall table (used log) (used scratch) (used page) in runFigures (o .answer) ∷ o .page ∷ []
+gives (walks table list pile scratch) =
+    let o = walkCall table list (used pile) (used scratch) in walkFigures (o .answer) ∷ o .rest ∷ o .pile ∷ []
+
+-- ---- the tables
+-- Table T: two stations, q = s = 2; tasks 0 {0,1}, 1 {0}, 2 {1}
+abbrev pub head-T : List ℕ
+head-T = 1 ∷ 2 ∷ 2 ∷ 1 ∷ 2 ∷ 2 ∷ 2 ∷ 3 ∷ 2 ∷ 1 ∷ 2 ∷ 2 ∷ []
+
+-- rule 0: task 0, (0,0) to (0,0), writes 1 2; rule 1: task 1, 0 to 1, writes none; rule 2: task 2, the same
+abbrev pub rules01-T : List ℕ
+rules01-T =
+    3 ∷ 0 ∷ 0 ∷ 0 ∷ 255 ∷ 255 ∷ 0 ∷ 0 ∷ 255 ∷ 255 ∷ 2 ∷ 1 ∷ 2 ∷ 255 ∷ 255
+    ∷ 3 ∷ 1 ∷ 0 ∷ 255 ∷ 255 ∷ 255 ∷ 1 ∷ 255 ∷ 255 ∷ 255 ∷ 0 ∷ 255 ∷ 255 ∷ 255 ∷ 255 ∷ []
+
+abbrev pub rule2-T : List ℕ
+rule2-T = 3 ∷ 2 ∷ 255 ∷ 0 ∷ 255 ∷ 255 ∷ 255 ∷ 1 ∷ 255 ∷ 255 ∷ 0 ∷ 255 ∷ 255 ∷ 255 ∷ 255 ∷ []
+
+-- accepting (1,1); start (0,0), pile 0
+abbrev pub accepting-T : List ℕ
+accepting-T = 5 ∷ 1 ∷ 1 ∷ 255 ∷ 255 ∷ []
+
+abbrev pub start-T : List ℕ
+start-T = 6 ∷ 0 ∷ 0 ∷ 255 ∷ 255 ∷ 7 ∷ 0 ∷ 8 ∷ []
+
+abbrev pub table-T : List ℕ
+table-T = head-T ++ rules01-T ++ rule2-T ++ accepting-T ++ start-T
+
+-- one station, q = s = 2, tasks 0 and 1, rule: task 1, 1 to 1, writes none; watch: task 0, 0 to 1; accepting 1; start 0, pile 0 1
+abbrev pub re-entry : List ℕ
+re-entry =
+    1 ∷ 2 ∷ 2 ∷ 2 ∷ 1 ∷ 2 ∷ 1
+    ∷ 3 ∷ 1 ∷ 1 ∷ 255 ∷ 255 ∷ 255 ∷ 1 ∷ 255 ∷ 255 ∷ 255 ∷ 0 ∷ 255 ∷ 255 ∷ 255 ∷ 255
+    ∷ 4 ∷ 0 ∷ 0 ∷ 255 ∷ 255 ∷ 255 ∷ 1 ∷ 255 ∷ 255 ∷ 255
+    ∷ 5 ∷ 1 ∷ 255 ∷ 255 ∷ 255 ∷ 6 ∷ 0 ∷ 255 ∷ 255 ∷ 255 ∷ 7 ∷ 0 ∷ 7 ∷ 1 ∷ 8 ∷ []
+
+-- one station, one state, tasks 0 to 2, rule i writes i+1 twice, rule 2 none, state 0 accepting, pile 0
+abbrev pub doubling : List ℕ
+doubling =
+    1 ∷ 1 ∷ 1 ∷ 2 ∷ 1 ∷ 2 ∷ 1 ∷ 2 ∷ 1
+    ∷ 3 ∷ 0 ∷ 0 ∷ 255 ∷ 255 ∷ 255 ∷ 0 ∷ 255 ∷ 255 ∷ 255 ∷ 2 ∷ 1 ∷ 1 ∷ 255 ∷ 255
+    ∷ 3 ∷ 1 ∷ 0 ∷ 255 ∷ 255 ∷ 255 ∷ 0 ∷ 255 ∷ 255 ∷ 255 ∷ 2 ∷ 2 ∷ 2 ∷ 255 ∷ 255
+    ∷ 3 ∷ 2 ∷ 0 ∷ 255 ∷ 255 ∷ 255 ∷ 0 ∷ 255 ∷ 255 ∷ 255 ∷ 0 ∷ 255 ∷ 255 ∷ 255 ∷ 255
+    ∷ 5 ∷ 0 ∷ 255 ∷ 255 ∷ 255 ∷ 6 ∷ 0 ∷ 255 ∷ 255 ∷ 255 ∷ 7 ∷ 0 ∷ 8 ∷ []
+
+-- ---- the calls and what they give
+pub record Example : Type 0 where
+  pub call : Call
+  pub result : List (List ℕ)
+
+abbrev pub starred : List Example
+starred =
+    -- T: reachable, transitions 3, rounds 2, steps 3; with peak 2 and the run 0 1 2
+    record { call = asks table-T 72 34018; result = (0 ∷ 0 ∷ 1 ∷ 3 ∷ 2 ∷ 3 ∷ []) ∷ [] }
+    ∷ record { call = runs table-T 72 34018 5; result = (0 ∷ 0 ∷ 1 ∷ 3 ∷ 2 ∷ 3 ∷ 2 ∷ []) ∷ (0 ∷ 1 ∷ 2 ∷ 0 ∷ 0 ∷ []) ∷ [] }
+    -- T without rule 2: unreachable, 1, 1
+    ∷ record { call = asks (head-T ++ rules01-T ++ accepting-T ++ start-T) 72 34018; result = (0 ∷ 0 ∷ 0 ∷ 1 ∷ 1 ∷ 0 ∷ []) ∷ [] }
+    -- T without its accepting item: unreachable
+    ∷ record { call = asks (head-T ++ rules01-T ++ rule2-T ++ start-T) 72 34018; result = (0 ∷ 0 ∷ 0 ∷ 3 ∷ 2 ∷ 0 ∷ []) ∷ [] }
+    -- T with start (1,1) and no pile: steps 0, transitions 3, peak 0, and an empty run
+    ∷ record {
+      call = runs (head-T ++ rules01-T ++ rule2-T ++ accepting-T ++ (6 ∷ 1 ∷ 1 ∷ 255 ∷ 255 ∷ 8 ∷ [])) 72 34018 2;
+      result = (0 ∷ 0 ∷ 1 ∷ 3 ∷ 2 ∷ 0 ∷ 0 ∷ []) ∷ (0 ∷ 0 ∷ []) ∷ [];
+    }
+    -- T, log of 71 bytes: refusal 10
+    ∷ record { call = asks table-T 71 34018; result = (10 ∷ 0 ∷ 0 ∷ 0 ∷ 0 ∷ 0 ∷ []) ∷ [] }
+    -- the empty file: 1 at 0
+    ∷ record { call = asks [] 72 34018; result = (1 ∷ 0 ∷ 0 ∷ 0 ∷ 0 ∷ 0 ∷ []) ∷ [] }
+    -- T, walk 0 2 1: (1,1), empty, watched
+    ∷ record { call = walks table-T (0 ∷ 2 ∷ 1 ∷ []) 3 2048; result = (0 ∷ 0 ∷ 1 ∷ 0 ∷ 1 ∷ 1 ∷ 255 ∷ 255 ∷ []) ∷ [] ∷ (0 ∷ 0 ∷ 0 ∷ []) ∷ [] }
+    -- T, walk 1: 12 at 0
+    ∷ record { call = walks table-T (1 ∷ []) 3 2048; result = (12 ∷ 0 ∷ 0 ∷ 0 ∷ 0 ∷ 0 ∷ 0 ∷ 0 ∷ []) ∷ (1 ∷ []) ∷ (0 ∷ 0 ∷ 0 ∷ []) ∷ [] }
+    -- re-entry: 7 at the watch transition
+    ∷ record { call = asks re-entry 72 34018; result = (7 ∷ 22 ∷ 0 ∷ 0 ∷ 0 ∷ 0 ∷ []) ∷ [] }
+    -- doubling: run 0 1 2 2 1 2 2, peak 3
+    ∷ record { call = runs doubling 72 34018 7; result = (0 ∷ 0 ∷ 1 ∷ 3 ∷ 3 ∷ 7 ∷ 3 ∷ []) ∷ (0 ∷ 1 ∷ 2 ∷ 2 ∷ 1 ∷ 2 ∷ 2 ∷ []) ∷ [] }
+    ∷ []
+
+-- the definitions give each result
+pub starred-hold : map (λ (e : Example). gives (e .call)) starred ≡ map (λ (e : Example). e .result) starred
+unfolding sameGroup restrict merge tops enabled fire isOutOfTurn groupFits transitionFits writtenFit valueFits cooperates leavesControl isTwin refusal readFrom read systemOf readsAt keyLess sameKey additions logAt firstSaturated saturatedAt acceptingPath emittedBy recordsOf runOf pageAfter answerGiven answerCall runGiven runCall walkGiven walkCall
+starred-hold = refl

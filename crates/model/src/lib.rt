@@ -1,0 +1,53 @@
+// The types that the definitions of specs/ and the crates above share. There is no code here.
+
+// Document 01: a state group. One local state for each of the four processes, 255 where a process has no part.
+pub struct Group {
+    pub s0: u8,
+    pub s1: u8,
+    pub s2: u8,
+    pub s3: u8,
+}
+
+// What the answer call gives: the verdict with its figures, or a refusal with its number and place.
+pub enum Answered {
+    Reachable {
+        transitions: u32,
+        rounds: u32,
+        steps: u32,
+    },
+    Unreachable {
+        transitions: u32,
+        rounds: u32,
+    },
+    Refused {
+        number: u8,
+        place: usize,
+    },
+}
+
+// What the run call gives: the figures of the reachable verdict and the peak, or a refusal.
+pub enum Ran {
+    Reached {
+        transitions: u32,
+        rounds: u32,
+        steps: u32,
+        peak: u32,
+    },
+    Refused {
+        number: u8,
+        place: usize,
+    },
+}
+
+// What the walk call gives: the end states, the length of the pile and whether the situation is watched, or a refusal.
+pub enum Walked {
+    Ended {
+        states: Group,
+        length: usize,
+        watched: bool,
+    },
+    Refused {
+        number: u8,
+        place: usize,
+    },
+}
