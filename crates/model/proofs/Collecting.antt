@@ -1,9 +1,9 @@
 -- What the log of each round holds: the rules' additions and nothing else, each with its reason.
 use mathlib.Core.Path.{_∙_, _≡_, ap, ap₂, refl, subst, sym}
-use mathlib.Core.Bool.{_&&_, _||_, cond, false, false≢true, true}
+use mathlib.Core.Bool.{_&&_, cond, false, true}
 use mathlib.Core.Logic.{_⊎_, inl, inr, ⊎-elim}
 use mathlib.Core.Option.{some}
-use mathlib.Core.List.{List, List·Memᴰ, List·Memᴰ·cases-cons, List·Memᴰ·head, List·Memᴰ·not-nil, List·Memᴰ·tail, Memᴰ·append-left, Memᴰ·append-right, Memᴰ·cast, Memᴰ·map, [], _++_, _∷_, map}
+use mathlib.Core.List.{List, List·Memᴰ, List·Memᴰ·cases-cons, List·Memᴰ·head, List·Memᴰ·not-nil, List·Memᴰ·tail, Memᴰ·append-left, Memᴰ·append-right, Memᴰ·cast, Memᴰ·map, Memᴰ·of-map, [], _++_, _∷_, map}
 use Prim.Native.Nat.{_+_, _<_, suc, zero, ℕ}
 use native.Mathlib.Omega.{arith}
 use lib.Dec.{eqb}
@@ -12,14 +12,14 @@ use lib.Seq.{append-snoc}
 use borrow.Author.Tests.{eq-eqb, eqb-true}
 use Rattle.model.specs.declared.Group.{Group}
 use Rattle.model.specs.Automata.{Along, Transition, label}
-use Rattle.model.specs.Groups.{Processes, at, sameGroup}
+use Rattle.model.specs.Groups.{Processes, sameGroup}
 use Rattle.model.specs.Lists.{Each}
 use Rattle.model.specs.Log.{Candidate, Path, Record, addedRecord, additions, candidate, candidates, collect, inLog, insert, keyLess, keys, logAt, paths, recordAt, sameKey}
 use Rattle.model.specs.Saturation.{added}
 use Rattle.model.specs.Systems.{Rule, System}
 use Rattle.model.proofs.Completeness.{Saturates}
 use Rattle.model.proofs.Groups.{sameGroup-of, sameGroup-true}
-use Rattle.model.proofs.Lists.{each-append, each-map, each-of-map, getElem-at}
+use Rattle.model.proofs.Lists.{any-of, any-true, each-append, each-map, each-of-map, getElem-at}
 use Rattle.model.proofs.LogPaths.{IsPath, paths-complete, paths-sound}
 use Rattle.model.proofs.Soundness.{transitionsAt}
 use Rattle.model.proofs.Tests.{and-both, and-left, and-right, by-test}
@@ -44,18 +44,14 @@ sameKey-of t u e =
     (sameGroup-of (t .after) (u .after) (ap (λ (x : Transition). x .after) e))
 
 pub inLog-true : (t : Transition) (log : List Record) → inLog t log ≡ true → List·Memᴰ t (keys log)
-inLog-true t [] e = absurd (false≢true e)
-inLog-true t (r ∷ log) e = by-test (sameKey (r .key) t)
-    (λ y. List·Memᴰ·head (sym (sameKey-true (r .key) t y)))
-    (λ n. List·Memᴰ·tail (inLog-true t log (rw n at e)))
+inLog-true t log e =
+    let r = any-true (λ (r : Record). sameKey (r .key) t) log e in
+    Memᴰ·cast (sym (sameKey-true (r .0 .key) t (r .2))) (Memᴰ·map (λ (x : Record). x .key) (r .1))
 
 pub inLog-of : (t : Transition) (log : List Record) → List·Memᴰ t (keys log) → inLog t log ≡ true
-inLog-of t [] m = absurd (List·Memᴰ·not-nil m)
-inLog-of t (r ∷ log) m = step (λ m′. inLog-of t log m′) (List·Memᴰ·cases-cons m)
-  where
-    step : (List·Memᴰ t (keys log) → inLog t log ≡ true) → (t ≡ r .key) ⊎ List·Memᴰ t (keys log) → (sameKey (r .key) t || inLog t log) ≡ true
-    step below (inl e) = rw (sameKey-of (r .key) t (sym e))
-    step below (inr m′) = by-test (sameKey (r .key) t) (λ y. rw y) (λ n. rw n (below m′))
+inLog-of t log m =
+    let r = Memᴰ·of-map (λ (x : Record). x .key) log m in
+    any-of (λ (x : Record). sameKey (x .key) t) log (r .0) (r .1) (sameKey-of (r .0 .key) t (r .2))
 
 -- ---- placing and settling
 pub each-insert : (P : Candidate → Type 0) (c : Candidate) (ds : List Candidate) → P c → Each P ds → Each P (insert c ds)

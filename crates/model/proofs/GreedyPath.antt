@@ -4,23 +4,15 @@ use mathlib.Core.Bool.{Bool, _&&_, _||_, cond, false, true}
 use mathlib.Core.Option.{Option, Option·map, none, some}
 use mathlib.Core.List.{List, [], _++_, _∷_, map}
 use Prim.Native.Nat.{suc, ℕ}
+use lib.Dec.{eqb}
 use Rattle.model.specs.declared.Group.{Group}
-use Rattle.model.specs.Automata.{move}
-use Rattle.model.specs.Groups.{Processes}
-use Rattle.model.specs.Log.{Path, Record, extend, paths, push, readsAt}
-use Rattle.model.specs.Systems.{Configuration, System, isAccepting}
+use Rattle.model.specs.Automata.{Transition, move}
+use Rattle.model.specs.Groups.{Processes, restrict, sameGroup}
+use Rattle.model.specs.Lists.{anyOf}
+use Rattle.model.specs.Log.{Path, Record, extend, keys, paths, push, readsAt}
+use Rattle.model.specs.Systems.{Configuration, System, accepts, isAccepting}
 use Rattle.model.specs.Unfolding.{acceptingPath, firstAccepting}
 use Rattle.model.proofs.Tests.{by-test}
-
--- some record of the list reads a in g and leads to a state of which `next` holds
-abbrev pub canFrom : (ℕ → Processes) → ℕ → Group → (Group → Bool) → List Record → Bool
-canFrom loc a g next [] = false
-canFrom loc a g next (r ∷ rs) = (readsAt loc a g r && next (move loc (r .key) g)) || canFrom loc a g next rs
-
--- some path reads w from g and ends in an accepting group
-abbrev pub can : (ℕ → Processes) → List Record → List Group → List ℕ → Group → Bool
-can loc log acc [] g = isAccepting g acc
-can loc log acc (a ∷ w) g = canFrom loc a g (λ h. can loc log acc w h) log
 
 abbrev pub pickFrom : (ℕ → Processes) → ℕ → Group → (Group → Bool) → (Group → Option Path) → List Record → ℕ → Option Path
 pickFrom loc a g ok next [] n = none
@@ -29,7 +21,7 @@ pickFrom loc a g ok next (r ∷ rs) n = cond (readsAt loc a g r && ok (move loc 
 -- at each task the lowest record that can still end well
 abbrev pub greedy : (ℕ → Processes) → List Record → List Group → List ℕ → Group → Option Path
 greedy loc log acc [] g = cond (isAccepting g acc) (some (record { numbers = []; end = g })) none
-greedy loc log acc (a ∷ w) g = pickFrom loc a g (λ h. can loc log acc w h) (λ h. greedy loc log acc w h) log 0
+greedy loc log acc (a ∷ w) g = pickFrom loc a g (λ h. accepts loc (keys log) acc w h) (λ h. greedy loc log acc w h) log 0
 
 abbrev pub isSome : {A : Type 0} → Option A → Bool
 isSome none = false
@@ -66,10 +58,11 @@ or-pick true f (some a) p = refl
 or-pick false f o p = refl
 
 module _ (loc : ℕ → Processes) (acc : List Group) (a : ℕ) (g : Group) (next : Group → List Path) where
-  can-extend : (ok : Group → Bool) → ((h : Group) → ok h ≡ isSome (firstAccepting acc (next h))) → (rs : List Record) (n : ℕ) → canFrom loc a g ok rs ≡ isSome (firstAccepting acc (extend loc a g next rs n))
-  can-extend ok same [] n = refl
-  can-extend ok same (r ∷ rs) n =
-      rw (same (move loc (r .key) g), can-extend ok same rs (suc n), first-extend loc acc a g next r rs n)
+  accepts-extend : (ok : Group → Bool) → ((h : Group) → ok h ≡ isSome (firstAccepting acc (next h))) → (rs : List Record) (n : ℕ) → anyOf (λ (t : Transition). eqb (t .letter) a && sameGroup (restrict (loc a) g) (t .before) && ok (move loc t g)) (keys rs) ≡ isSome (firstAccepting acc (extend loc a g next rs n))
+  unfolding readsAt
+  accepts-extend ok same [] n = refl
+  accepts-extend ok same (r ∷ rs) n =
+      rw (same (move loc (r .key) g), accepts-extend ok same rs (suc n), first-extend loc acc a g next r rs n)
       (sym (or-some (readsAt loc a g r) (push n) (firstAccepting acc (next (move loc (r .key) g))) (firstAccepting acc (extend loc a g next rs (suc n)))))
 
   pick-extend : (ok : Group → Bool) → ((h : Group) → ok h ≡ isSome (firstAccepting acc (next h))) → (go : Group → Option Path) → ((h : Group) → go h ≡ firstAccepting acc (next h))
@@ -83,14 +76,14 @@ isSome-cond : {A : Type 0} (b : Bool) (x : A) → b ≡ isSome (cond b (some x) 
 isSome-cond true x = refl
 isSome-cond false x = refl
 
-pub can-is : (loc : ℕ → Processes) (log : List Record) (acc : List Group) (w : List ℕ) (g : Group) → can loc log acc w g ≡ isSome (firstAccepting acc (paths loc log w g))
-can-is loc log acc [] g = isSome-cond (isAccepting g acc) (record { numbers = []; end = g })
-can-is loc log acc (a ∷ w) g = can-extend loc acc a g (λ h. paths loc log w h) (λ h. can loc log acc w h) (λ h. can-is loc log acc w h) log 0
+pub accepts-is : (loc : ℕ → Processes) (log : List Record) (acc : List Group) (w : List ℕ) (g : Group) → accepts loc (keys log) acc w g ≡ isSome (firstAccepting acc (paths loc log w g))
+accepts-is loc log acc [] g = isSome-cond (isAccepting g acc) (record { numbers = []; end = g })
+accepts-is loc log acc (a ∷ w) g = accepts-extend loc acc a g (λ h. paths loc log w h) (λ h. accepts loc (keys log) acc w h) (λ h. accepts-is loc log acc w h) log 0
 
 pub greedy-is : (loc : ℕ → Processes) (log : List Record) (acc : List Group) (w : List ℕ) (g : Group) → greedy loc log acc w g ≡ firstAccepting acc (paths loc log w g)
 greedy-is loc log acc [] g = refl
 greedy-is loc log acc (a ∷ w) g =
-    pick-extend loc acc a g (λ h. paths loc log w h) (λ h. can loc log acc w h) (λ h. can-is loc log acc w h) (λ h. greedy loc log acc w h) (λ h. greedy-is loc log acc w h) log 0
+    pick-extend loc acc a g (λ h. paths loc log w h) (λ h. accepts loc (keys log) acc w h) (λ h. accepts-is loc log acc w h) (λ h. greedy loc log acc w h) (λ h. greedy-is loc log acc w h) log 0
 
 pub accepting-path-greedy : (sys : System) (log : List Record) (s : Configuration) → acceptingPath sys log s ≡ greedy (sys .loc) log (sys .accepting) (s .word) (s .states)
 unfolding acceptingPath

@@ -4,6 +4,7 @@ pub mod Groups
 pub mod Words
 pub mod Paths
 pub mod Steps
+pub mod Acceptance
 pub mod Completeness
 pub mod Soundness
 pub mod Emission
@@ -15,8 +16,6 @@ pub mod Order
 pub mod Limit
 pub mod FirstCandidates
 pub mod Rounds
-pub mod Answer
-pub mod Equality
 pub mod Reasons
 pub mod EmissionStack
 pub mod GreedyPath
@@ -24,3 +23,5 @@ pub mod UniqueRound
 pub mod CodeTests
 pub mod RoundLoops
 pub mod Bounds
+pub mod Tables
+pub mod Demands

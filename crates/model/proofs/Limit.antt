@@ -77,9 +77,7 @@ code-below t s = horner-below 0 1 (keyDigits t) (omega arith) (keyDigits-bytes t
 
 -- ---- the log's keys are of bytes
 pub record ByteSystem (sys : System) : Type 0 where
-  pub rule-letter : (n : ℕ) (r : Rule) → getElem? (sys .rules) n ≡ some r → r .letter < 256
-  pub rule-before : (n : ℕ) (r : Rule) → getElem? (sys .rules) n ≡ some r → ByteGroup (r .before)
-  pub rule-after : (n : ℕ) (r : Rule) → getElem? (sys .rules) n ≡ some r → ByteGroup (r .after)
+  pub rules : (n : ℕ) (r : Rule) → getElem? (sys .rules) n ≡ some r → ByteTransition (record { letter = r .letter; before = r .before; after = r .after })
   pub automaton : (t : Transition) → InAutomaton sys t → ByteTransition t
 
 merge-byte : (L : Processes) (x g : Group) → ByteGroup x → ByteGroup g → ByteGroup (merge L x g)
@@ -103,10 +101,10 @@ each-keys P (r ∷ log) e = (e .0, each-keys P log (e .1))
 reasoned-bytes : (sys : System) → ByteSystem sys → (log : List Record) → Each ByteTransition (keys log) → (c : Candidate) → Reasoned sys log c → ByteTransition (c .key)
 reasoned-bytes sys by log e c ρ =
     rw (ρ .key-is) (record {
-      letter = by .rule-letter (c .rule) (ρ .rule) (ρ .is);
-      before = by .rule-before (c .rule) (ρ .rule) (ρ .is);
+      letter = by .rules (c .rule) (ρ .rule) (ρ .is) .letter;
+      before = by .rules (c .rule) (ρ .rule) (ρ .is) .before;
       after = restrict-byte (sys .loc (ρ .rule .letter)) (ρ .end)
-          (along-byte (sys .loc) (transitionsAt log (c .path)) (ρ .rule .after) (ρ .end) (each-transitionsAt ByteTransition log (c .path) (each-keys ByteTransition log e) (ρ .is-path .inside)) (by .rule-after (c .rule) (ρ .rule) (ρ .is)) (ρ .is-path .along));
+          (along-byte (sys .loc) (transitionsAt log (c .path)) (ρ .rule .after) (ρ .end) (each-transitionsAt ByteTransition log (c .path) (each-keys ByteTransition log e) (ρ .is-path .inside)) (by .rules (c .rule) (ρ .rule) (ρ .is) .after) (ρ .is-path .along));
     })
 
 bytes-zero : (sys : System) → ByteSystem sys → Each ByteTransition (keys (logAt sys 0))

@@ -1,6 +1,6 @@
 -- Laws of lists.
-use mathlib.Core.Path.{_≡_, ap, refl, subst, sym}
-use mathlib.Core.Bool.{cond, false, false≢true, true, true≢false}
+use mathlib.Core.Path.{_∙_, _≡_, ap, refl, subst, sym}
+use mathlib.Core.Bool.{Bool, cond, false, false≢true, true, true≢false}
 use mathlib.Core.Logic.{_≢_, ⊎-elim}
 use mathlib.Core.Option.{Option, none, some}
 use mathlib.Core.List.{List, List·Memᴰ, List·Memᴰ·append-cases, List·Memᴰ·cases-cons, List·Memᴰ·head, List·Memᴰ·not-nil, List·Memᴰ·tail, [], _++_, _∷_, map}
@@ -11,8 +11,8 @@ use lib.Dec.{eqb}
 use lib.ListN.{getElem?, length}
 use borrow.Author.Tests.{eqb-false, eqb-true, ne-eqb}
 use Rattle.model.specs.Groups.{at}
-use Rattle.model.specs.Lists.{Each, andThen, isEmpty}
-use Rattle.model.proofs.Tests.{by-test}
+use Rattle.model.specs.Lists.{Each, allOf, andThen, anyOf, isEmpty}
+use Rattle.model.proofs.Tests.{and-left, and-right, by-test}
 
 -- ---- a walk, step by step
 pub andThen-inv : {A B : Type 0} (o : Option A) (f : A → Option B) (b : B) → andThen o f ≡ some b → (a : A) × (o ≡ some a) × (f a ≡ some b)
@@ -127,3 +127,25 @@ pigeonhole zero (m ∷ ms) d e = absurd (not-suc-le-zero (e .0))
 pigeonhole (suc n) ms d e =
     let below : length (without n ms) ≤ n = pigeonhole n (without n ms) (without-distinct n ms d) (without-below n ms e) in
     omega (arith, without-length n ms d)
+
+pub each-elem : {A : Type 0} (P : A → Type 0) (xs : List A) → Each P xs → (n : ℕ) (x : A) → getElem? xs n ≡ some x → P x
+each-elem P [] e n x is = absurd (let z : _≡_ {A = ℕ} 0 1 = cc in omega arith)
+each-elem P (y ∷ xs) e zero x is = let same : y ≡ x = cc in subst P same (e .0)
+each-elem P (y ∷ xs) e (suc n) x is = each-elem P xs (e .1) n x is
+
+pub all-each : {A : Type 0} (f : A → Bool) (xs : List A) → allOf f xs ≡ true → Each (λ (x : A). f x ≡ true) xs
+all-each f [] e = tt
+all-each f (x ∷ xs) e = (and-left (f x) (allOf f xs) e, all-each f xs (and-right (f x) (allOf f xs) e))
+
+pub any-true : {A : Type 0} (f : A → Bool) (xs : List A) → anyOf f xs ≡ true → (x : A) × List·Memᴰ x xs × (f x ≡ true)
+any-true f [] e = absurd (false≢true e)
+any-true f (x ∷ xs) e = by-test (f x)
+    (λ y. (x, List·Memᴰ·head refl, y))
+    (λ n. let r = any-true f xs (rw n at e) in (r .0, List·Memᴰ·tail (r .1), r .2))
+
+pub any-of : {A : Type 0} (f : A → Bool) (xs : List A) (x : A) → List·Memᴰ x xs → f x ≡ true → anyOf f xs ≡ true
+any-of f [] x m e = absurd (List·Memᴰ·not-nil m)
+any-of {A} f (y ∷ xs) x m e = by-test (f y) (λ t. rw t) (λ n. rw n (⊎-elim
+    (λ (same : x ≡ y). absurd (true≢false (sym e ∙ ap f same ∙ n)))
+    (λ (m′ : List·Memᴰ x xs). any-of f xs x m′ e)
+    (List·Memᴰ·cases-cons m)))

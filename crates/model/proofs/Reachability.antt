@@ -1,26 +1,26 @@
 -- The answer is right: Proposition 18, for the log that saturation ends in.
 use mathlib.Core.Path.{_∙_, _≡_, ap, refl, subst, sym}
-use mathlib.Core.Bool.{_||_, false, false≢true, true, true≢false}
+use mathlib.Core.Bool.{false, true≢false}
 use mathlib.Core.Logic.{_⊎_, inl, inr, ⊎-elim}
 use mathlib.Core.Option.{none, some}
-use mathlib.Core.List.{List, List·Memᴰ, List·Memᴰ·cases-cons, List·Memᴰ·head, List·Memᴰ·not-nil, List·Memᴰ·tail, [], _++_, _∷_, append-nil, map}
+use mathlib.Core.List.{List, List·Memᴰ, List·Memᴰ·cases-cons, List·Memᴰ·not-nil, [], _++_, _∷_, append-nil, map}
 use Prim.Native.Nat.{_+_, min, suc, zero, ℕ}
 use native.Mathlib.Omega.{arith}
 use native.Mathlib.Nat.{add-comm}
 use lib.ListN.{length}
 use Rattle.model.specs.declared.Group.{Group}
 use Rattle.model.specs.Automata.{Along, Transition, label}
-use Rattle.model.specs.Groups.{at, sameGroup}
-use Rattle.model.specs.Lists.{Each, sumOver}
-use Rattle.model.specs.Log.{Candidate, Path, Record, addedRecord, additions, initialCandidate, initialRecord, keys, logAt, paths, recordAt, stepsCap}
+use Rattle.model.specs.Groups.{at}
+use Rattle.model.specs.Lists.{Each}
+use Rattle.model.specs.Log.{Candidate, Path, Record, addedRecord, additions, initialCandidate, initialRecord, keys, logAt, paths, stepsCap}
 use Rattle.model.specs.SmallTables.{walks}
 use Rattle.model.specs.Systems.{Accepting, Accepts, Configuration, InAutomaton, Joins, System, isAccepting}
-use Rattle.model.specs.Unfolding.{acceptingPath, emitted, firstAccepting}
+use Rattle.model.specs.Unfolding.{Unfolds, acceptingPath, emitted, firstAccepting, pathSteps}
 use Rattle.model.specs.Words.{project}
+use Rattle.model.proofs.Acceptance.{isAccepting-of, isAccepting-true}
 use Rattle.model.proofs.Collecting.{Held, candidateKeys, collect-adds, log-saturates, logAt-suc, number-all}
 use Rattle.model.proofs.Completeness.{complete}
 use Rattle.model.proofs.Emission.{emitted-unfolds, steps-emitted}
-use Rattle.model.proofs.Groups.{sameGroup-of, sameGroup-true}
 use Rattle.model.proofs.Lists.{each-map}
 use Rattle.model.proofs.LogPaths.{IsPath, paths-complete, paths-sound}
 use Rattle.model.proofs.Soundness.{Control, Cooperating, Leaves, sound}
@@ -88,18 +88,6 @@ path-joins sys good k s control t tr ok =
     (emitted-unfolds (logAt sys k) (log-earlier sys k) (t .numbers) (tr .inside)) s (t .end) (tr .inside) control (tr .along) (λ i. ap (project (sys .loc) i) (sym (tr .reads))) ok in
     record { end = r .0; walks = r .1; watched = r .2 }
 
-isAccepting-true : (g : Group) (hs : List Group) → isAccepting g hs ≡ true → List·Memᴰ g hs
-isAccepting-true g [] e = absurd (false≢true e)
-isAccepting-true g (h ∷ hs) e = by-test (sameGroup g h) (λ y. List·Memᴰ·head (sameGroup-true g h y)) (λ n. List·Memᴰ·tail (isAccepting-true g hs (rw n at e)))
-
-isAccepting-of : (g : Group) (hs : List Group) → List·Memᴰ g hs → isAccepting g hs ≡ true
-isAccepting-of g [] m = absurd (List·Memᴰ·not-nil m)
-isAccepting-of g (h ∷ hs) m = step (λ m′. isAccepting-of g hs m′) (List·Memᴰ·cases-cons m)
-  where
-    step : (List·Memᴰ g hs → isAccepting g hs ≡ true) → (g ≡ h) ⊎ List·Memᴰ g hs → (sameGroup g h || isAccepting g hs) ≡ true
-    step below (inl e) = rw (sameGroup-of g h e)
-    step below (inr m′) = by-test (sameGroup g h) (λ y. rw y) (λ n. rw n (below m′))
-
 first-some : (acc : List Group) (P : Path → Type 0) (ts : List Path) → Each P ts → (t : Path) → firstAccepting acc ts ≡ some t → P t × List·Memᴰ (t .end) acc
 first-some acc P [] e t is = absurd (let z : _≡_ {A = ℕ} 0 1 = cc in omega arith)
 first-some acc P (u ∷ ts) e t is = by-test (isAccepting (u .end) acc)
@@ -116,20 +104,25 @@ first-none acc (u ∷ ts) e t m a = by-test (isAccepting (u .end) acc)
     step n below (inl q) = true≢false (sym (isAccepting-of (t .end) acc a) ∙ ap (λ (v : Path). isAccepting (v .end) acc) q ∙ n)
     step n below (inr m′) = below (rw n at e) m′
 
--- Reachable: the run that is written joins the start and the watched set, and its length is the steps figure up to the cap
+-- the path found is a path of the log over the word, and ends in an accepting group
+pub accepting-path-found : (sys : System) (log : List Record) (s : Configuration) (t : Path) → acceptingPath sys log s ≡ some t
+    → IsPath (sys .loc) log (s .word) (s .states) t × Accepting sys (t .end)
+unfolding acceptingPath
+accepting-path-found sys log s t e =
+    first-some (sys .accepting) (IsPath (sys .loc) log (s .word) (s .states)) (paths (sys .loc) log (s .word) (s .states)) (paths-sound (sys .loc) log (s .word) (s .states)) t e
+
+-- Reachable: the rules that the path emits are a run from the configuration to the accepted set
 pub answer-yes : (sys : System) → WellFormed sys → (k : ℕ) (s : Configuration) → Control (sys .controls) (s .states) → (t : Path) → acceptingPath sys (logAt sys k) s ≡ some t
     → Joins sys s (emitted (logAt sys k) (t .numbers))
-unfolding acceptingPath
-answer-yes sys good k s control t e =
-    let f = first-some (sys .accepting) (IsPath (sys .loc) (logAt sys k) (s .word) (s .states)) (paths (sys .loc) (logAt sys k) (s .word) (s .states)) (paths-sound (sys .loc) (logAt sys k) (s .word) (s .states)) t e in
-    path-joins sys good k s control t (f .0) (f .1)
+answer-yes sys good k s control t e = let f = accepting-path-found sys (logAt sys k) s t e in path-joins sys good k s control t (f .0) (f .1)
 
+pub path-unfolds : (sys : System) (k : ℕ) (s : Configuration) (t : Path) → acceptingPath sys (logAt sys k) s ≡ some t → Unfolds (logAt sys k) (t .numbers) (emitted (logAt sys k) (t .numbers))
+path-unfolds sys k s t e = emitted-unfolds (logAt sys k) (log-earlier sys k) (t .numbers) (accepting-path-found sys (logAt sys k) s t e .0 .inside)
+
+-- the steps figure is the number of rules emitted, up to the cap
 pub answer-steps : (sys : System) (k : ℕ) (s : Configuration) (t : Path) → acceptingPath sys (logAt sys k) s ≡ some t
-    → min (sumOver (λ m. recordAt (logAt sys k) m .steps) (t .numbers)) stepsCap ≡ min (length (emitted (logAt sys k) (t .numbers))) stepsCap
-unfolding acceptingPath
-answer-steps sys k s t e =
-    let f = first-some (sys .accepting) (IsPath (sys .loc) (logAt sys k) (s .word) (s .states)) (paths (sys .loc) (logAt sys k) (s .word) (s .states)) (paths-sound (sys .loc) (logAt sys k) (s .word) (s .states)) t e in
-    steps-emitted (logAt sys k) (log-earlier sys k) (log-counted sys k) (t .numbers) (f .0 .inside)
+    → pathSteps (logAt sys k) (t .numbers) ≡ min (length (emitted (logAt sys k) (t .numbers))) stepsCap
+answer-steps sys k s t e = steps-emitted (logAt sys k) (log-earlier sys k) (log-counted sys k) (t .numbers) (accepting-path-found sys (logAt sys k) s t e .0 .inside)
 
 -- Unreachable: no run joins the start and the watched set
 pub answer-no : (sys : System) → WellFormed sys → (k : ℕ) → Saturated sys k → (s : Configuration) → acceptingPath sys (logAt sys k) s ≡ none → (ns : List ℕ) → Joins sys s ns → ⊥

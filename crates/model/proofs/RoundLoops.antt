@@ -11,11 +11,11 @@ use Rattle.model.specs.Automata.{move}
 use Rattle.model.specs.Groups.{Processes}
 use Rattle.model.specs.Log.{Candidate, Path, Record, additions, candidate, candidates, collect, extend, inLog, insert, logAt, paths, push, readsAt, saturatedAt}
 use Rattle.model.specs.Systems.{Rule, System}
-use Rattle.model.proofs.Equality.{log-longer-later}
 use Rattle.model.proofs.Limit.{ByteSystem, limit-saturated}
 use Rattle.model.proofs.Lists.{map-append}
 use Rattle.model.proofs.Reachability.{limit-log}
 use Rattle.model.proofs.Reasons.{collect-append}
+use Rattle.model.proofs.Rounds.{log-longer-later}
 use Rattle.model.proofs.Tests.{by-test}
 
 abbrev pub offer : List Record → Candidate → List Candidate → List Candidate

@@ -1,28 +1,29 @@
 -- Rounds: the paper's sets of transitions, the round of a record, the order of the log, the last round.
-use mathlib.Core.Path.{_∙_, _≡_, refl, subst, sym}
+use mathlib.Core.Path.{_∙_, _≡_, ap, refl, subst, sym}
 use mathlib.Core.Bool.{false, true≢false}
 use mathlib.Core.Logic.{_≢_, _⊎_, inl, inr, ⊎-elim}
-use mathlib.Core.List.{List, List·Memᴰ, List·Memᴰ·append-cases, List·Memᴰ·head, List·Memᴰ·tail, Memᴰ·append-right, Memᴰ·cast, Memᴰ·map, Memᴰ·of-map, [], _++_, _∷_, map}
+use mathlib.Core.List.{List, List·Memᴰ, List·Memᴰ·append-cases, List·Memᴰ·cases-cons, List·Memᴰ·head, List·Memᴰ·not-nil, List·Memᴰ·tail, Memᴰ·append-right, Memᴰ·cast, Memᴰ·map, Memᴰ·of-map, [], _++_, _∷_, append-assoc, append-nil, map}
 use Prim.Native.Nat.{_+_, _<_, _≤_, suc, zero, zero-le, ℕ}
 use native.Mathlib.Omega.{arith}
-use native.Mathlib.Nat.{le-refl, not-suc-le-zero}
+use native.Mathlib.Nat.{le-antisymm, le-refl, not-suc-le-zero}
 use lib.Dec.{eqb}
-use lib.ListN.{length}
+use lib.ListN.{length, length-append}
 use borrow.Author.Tests.{eqb-false, eqb-true}
 use Rattle.model.specs.Automata.{Transition}
 use Rattle.model.specs.Groups.{at}
 use Rattle.model.specs.Lists.{Each, isEmpty}
-use Rattle.model.specs.Log.{Candidate, Record, addedRecord, additions, collect, firstSaturated, inLog, initialCandidate, initialRecord, keyBound, keys, logAt, recordAt, saturatedAt}
+use Rattle.model.specs.Log.{Candidate, Record, addedRecord, additions, collect, firstSaturated, inLog, initialCandidate, initialRecord, keyBound, keys, limit, logAt, recordAt, rounds, saturatedAt}
 use Rattle.model.specs.Saturation.{Added, Delta}
 use Rattle.model.specs.Systems.{InAutomaton, System}
 use Rattle.model.proofs.Collecting.{Held, Reasoned, additions-reasoned, candidateKeys, inLog-of, keys-suc, log-saturates, logAt-suc}
-use Rattle.model.proofs.Limit.{saturated-later, saturated-now}
+use Rattle.model.proofs.Limit.{length-suc, saturated-later, saturated-now}
 use Rattle.model.proofs.Lists.{each-append, each-get, each-map, each-of-map, isEmpty-false, mem-each}
 use Rattle.model.proofs.Order.{Less, Sorted, additions-fresh, additions-sorted, collect-sorted, each-candidateKeys}
 use Rattle.model.proofs.Reachability.{initial-held, keys-initial}
 use Rattle.model.proofs.Soundness.{transitionsAt}
 use Rattle.model.proofs.Tests.{by-test}
 use Rattle.model.proofs.Validity.{initial-each}
+use Rattle.model.proofs.Words.{here, there}
 
 added-map : (sys : System) (D E : Transition → Type 0) → ((t : Transition) → D t → E t) → (t : Transition) → Added sys D t → Added sys E t
 added-map sys D E f t a = record { number = a .number; rule = a .rule; is = a .is; path = a .path; goods = each-map D E f (a .path) (a .goods); reads = a .reads; end = a .end; along = a .along; makes = a .makes }
@@ -178,3 +179,41 @@ has-round sys k h =
 
 pub rounds-held : (sys : System) (k : ℕ) → saturatedAt sys ≡ suc k → (x : Record) × List·Memᴰ x (logAt sys (saturatedAt sys)) × (x .round ≡ saturatedAt sys)
 rounds-held sys k e = subst (λ (r : ℕ). (x : Record) × List·Memᴰ x (logAt sys r) × (x .round ≡ r)) (sym e) (has-round sys k (before-saturated sys k (subst (λ (r : ℕ). k < r) (sym e) (le-refl (suc k)))))
+
+-- ---- the log only grows
+pub log-prefix : (sys : System) (d k : ℕ) → (more : List Record) × (logAt sys (d + k) ≡ logAt sys k ++ more)
+log-prefix sys zero k = ([], ap (logAt sys) (omega arith) ∙ sym (append-nil (logAt sys k)))
+log-prefix sys (suc d) k =
+    let p = log-prefix sys d k in
+    let last : List Record = map (addedRecord (suc (d + k)) (logAt sys (d + k))) (additions sys (logAt sys (d + k))) in
+    (p .0 ++ last, ap (logAt sys) (omega arith) ∙ logAt-suc sys (d + k) ∙ ap (λ (l : List Record). l ++ last) (p .1) ∙ append-assoc (logAt sys k) (p .0) last)
+
+pub log-longer-later : (sys : System) (d k : ℕ) → length (logAt sys k) ≤ length (logAt sys (d + k))
+log-longer-later sys d k = let p = log-prefix sys d k in omega (arith, ap length (p .1), length-append (logAt sys k) (p .0))
+
+-- each round up to the limit adds a record, so there are at least as many records as rounds
+longer : (sys : System) (k : ℕ) → k ≤ saturatedAt sys → k ≤ length (logAt sys k)
+longer sys zero h = zero-le
+longer sys (suc k) h = omega (arith, longer sys k (omega arith), length-suc sys k, before-saturated sys k h)
+
+pub rounds-short : (sys : System) → saturatedAt sys ≤ length (logAt sys (saturatedAt sys))
+rounds-short sys = longer sys (saturatedAt sys) (le-refl (saturatedAt sys))
+
+-- ---- `rounds`, the highest round held, is the last round that adds something
+rounds-below : (m : ℕ) (log : List Record) → Each (λ (x : Record). x .round ≤ m) log → rounds log ≤ m
+rounds-below m [] e = zero-le
+rounds-below m (x ∷ log) e = let here : x .round ≤ m = e .0 in let there : rounds log ≤ m = rounds-below m log (e .1) in omega arith
+
+rounds-above : (x : Record) (log : List Record) → List·Memᴰ x log → x .round ≤ rounds log
+rounds-above x [] m = absurd (List·Memᴰ·not-nil m)
+rounds-above x (y ∷ log) m = ⊎-elim
+    (λ (e : x ≡ y). let same : x .round ≡ y .round = ap (λ (r : Record). r .round) e in omega arith)
+    (λ (m′ : List·Memᴰ x log). let below : x .round ≤ rounds log = rounds-above x log m′ in omega arith)
+    (List·Memᴰ·cases-cons m)
+
+pub rounds-limit : (sys : System) → rounds (limit sys) ≡ saturatedAt sys
+rounds-limit sys = le-antisymm (rounds-below (saturatedAt sys) (limit sys) (rounds-most sys)) (low (saturatedAt sys) refl)
+  where
+    low : (k : ℕ) → saturatedAt sys ≡ k → saturatedAt sys ≤ rounds (limit sys)
+    low zero e = subst (λ (n : ℕ). n ≤ rounds (limit sys)) (sym e) zero-le
+    low (suc k) e = let x = rounds-held sys k e in subst (λ (n : ℕ). n ≤ rounds (limit sys)) (x .2) (rounds-above (x .0) (limit sys) (x .1))

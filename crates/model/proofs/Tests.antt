@@ -1,6 +1,6 @@
 -- Tests as equations.
 use mathlib.Core.Path.{_∙_, _≡_, refl, sym}
-use mathlib.Core.Bool.{Bool, _&&_, _||_, cond, false, false≢true, not, true}
+use mathlib.Core.Bool.{Bool, _&&_, _||_, cond, false, false≢true, not, true, true≢false}
 use Prim.Native.Nat.{_<_, suc, zero, ℕ}
 use native.Mathlib.Omega.{arith}
 use Rattle.model.specs.Groups.{Process, every, p0, p1, p2, p3}
@@ -27,6 +27,10 @@ and-right false b e = absurd (false≢true e)
 pub and-both : (a b : Bool) → a ≡ true → b ≡ true → (a && b) ≡ true
 and-both true b p q = q
 and-both false b p q = p
+
+pub or-right : (a b : Bool) → (a || b) ≡ false → b ≡ false
+or-right true b e = absurd (true≢false e)
+or-right false b e = e
 
 pub implies : (a b : Bool) → (not a || b) ≡ true → a ≡ true → b ≡ true
 implies true b e m = e

@@ -9,4 +9,5 @@ pub mod Log
 pub mod Unfolding
 pub mod Records
 pub mod Calls
+pub mod Demands
 pub mod SmallTables

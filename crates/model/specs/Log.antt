@@ -5,7 +5,7 @@ use Prim.Native.Nat.{ℕ, zero, suc, _+_, _^_, min, max}
 use lib.Dec.{eqb, ltb}
 use lib.ListN.{getD}
 use Rattle.model.specs.declared.Group.{Group}
-use Rattle.model.specs.Lists.{isEmpty, sumOver}
+use Rattle.model.specs.Lists.{anyOf, isEmpty, sumOver}
 use Rattle.model.specs.Groups.{Processes, sameGroup, restrict}
 use Rattle.model.specs.Automata.{Transition, move}
 use Rattle.model.specs.Systems.{Rule, System}
@@ -99,8 +99,7 @@ unfoldable pub sameKey : Transition → Transition → Bool
 sameKey t u = eqb (t .letter) (u .letter) && sameGroup (t .before) (u .before) && sameGroup (t .after) (u .after)
 
 abbrev pub inLog : Transition → List Record → Bool
-inLog t [] = false
-inLog t (r ∷ rs) = sameKey (r .key) t || inLog t rs
+inLog t log = anyOf (λ (r : Record). sameKey (r .key) t) log
 
 -- the candidate in its place among the candidates that are there, unless one with its key is
 abbrev pub insert : Candidate → List Candidate → List Candidate

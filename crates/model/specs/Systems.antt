@@ -1,7 +1,7 @@
 -- Definitions 4 and 8 of the paper: cooperating multi-pushdown systems, their steps, and the sets that an automaton accepts.
 -- Document 01, "Words of the line".
 use mathlib.Core.Path.{_≡_}
-use mathlib.Core.Bool.{Bool, true, false, cond, _&&_, _||_}
+use mathlib.Core.Bool.{Bool, cond, _&&_}
 use mathlib.Core.Option.{Option, none, some}
 use mathlib.Core.List.{List, [], _∷_, _++_, List·Memᴰ}
 use Prim.Native.Nat.{ℕ, max}
@@ -96,8 +96,7 @@ abbrev pub Accepted : System → Configuration → Type 0
 Accepted sys c = Accepts (sys .loc) (Accepting sys) (InAutomaton sys) c
 
 abbrev pub isAccepting : Group → List Group → Bool
-isAccepting g [] = false
-isAccepting g (h ∷ hs) = sameGroup g h || isAccepting g hs
+isAccepting g acc = anyOf (sameGroup g) acc
 
 -- acceptance as a test: for the first letter some transition, then the rest of the word
 abbrev pub accepts : (ℕ → Processes) → List Transition → List Group → List ℕ → Group → Bool
