@@ -160,9 +160,6 @@ module _ (sys : System) (page : List ℕ) (answer : Answered) (ran : Ran) (left 
             let z : _≡_ {A = ℕ} 0 1 = cc in omega arith)
 
 -- ---- a short log, and nowhere else
-abbrev Short : List ℕ → List ℕ → List ℕ → Type 0
-Short table log scratch = (items : List Item) × (read table ≡ accepted items) × ScratchServes log scratch × LogShort (systemOf items) log
-
 -- no verdict is a refusal 10
 verdict-no-10 : (log : List Record) (o : Option Path) → verdict log o ≡ Answered.Refused 10 0 → ⊥
 verdict-no-10 log none e = let z : _≡_ {A = ℕ} 0 1 = cc in omega arith

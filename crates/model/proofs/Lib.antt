@@ -25,3 +25,5 @@ pub mod RoundLoops
 pub mod Bounds
 pub mod Tables
 pub mod Demands
+pub mod Peak
+pub mod Theorems

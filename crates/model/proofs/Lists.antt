@@ -8,7 +8,7 @@ use Prim.Native.Nat.{_<_, _≤_, suc, zero, ℕ}
 use native.Mathlib.Omega.{arith}
 use native.Mathlib.Nat.{not-suc-le-zero}
 use lib.Dec.{eqb}
-use lib.ListN.{getElem?, length}
+use lib.ListN.{getD, getElem?, length}
 use borrow.Author.Tests.{eqb-false, eqb-true, ne-eqb}
 use Rattle.model.specs.Groups.{at}
 use Rattle.model.specs.Lists.{Each, allOf, andThen, anyOf, isEmpty}
@@ -149,3 +149,8 @@ any-of {A} f (y ∷ xs) x m e = by-test (f y) (λ t. rw t) (λ n. rw n (⊎-elim
     (λ (same : x ≡ y). absurd (true≢false (sym e ∙ ap f same ∙ n)))
     (λ (m′ : List·Memᴰ x xs). any-of f xs x m′ e)
     (List·Memᴰ·cases-cons m)))
+
+pub getD-mem : {A : Type 0} (xs : List A) (i : ℕ) (d : A) → i < length xs → List·Memᴰ (getD xs i d) xs
+getD-mem [] i d h = absurd (not-suc-le-zero h)
+getD-mem (x ∷ xs) zero d h = List·Memᴰ·head refl
+getD-mem (x ∷ xs) (suc i) d h = List·Memᴰ·tail (getD-mem xs i d (omega arith))

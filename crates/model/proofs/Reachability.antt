@@ -10,7 +10,7 @@ use native.Mathlib.Nat.{add-comm}
 use lib.ListN.{length}
 use Rattle.model.specs.declared.Group.{Group}
 use Rattle.model.specs.Automata.{Along, Transition, label}
-use Rattle.model.specs.Groups.{at}
+use Rattle.model.specs.Groups.{Processes, at}
 use Rattle.model.specs.Lists.{Each}
 use Rattle.model.specs.Log.{Candidate, Path, Record, addedRecord, additions, initialCandidate, initialRecord, keys, logAt, paths, stepsCap}
 use Rattle.model.specs.SmallTables.{walks}
@@ -67,19 +67,14 @@ pub initial-held : (sys : System) (t : Transition) → InAutomaton sys t → Hel
 unfolding logAt
 initial-held sys t m = rw keys-initial (⊎-elim (λ n. absurd (List·Memᴰ·not-nil n)) (λ n. n) (collect-adds t [] (map initialCandidate (sys .transitions)) [] (rw candidateKeys-initial m)))
 
--- ---- Proposition 18
-pub reach-accepts : (sys : System) → WellFormed sys → (k : ℕ) → Saturated sys k → (s : Configuration) (ns : List ℕ) → Joins sys s ns → Accepts (sys .loc) (Accepting sys) (Held sys k) s
-reach-accepts sys good k lim s ns j =
-    let a = complete sys (good .cooperating .located) (good .cooperating .cooperates) (Accepting sys) (Held sys) (log-saturates sys) ns s (j .end) (j .walks)
-    (record {
-      path = j .watched .path;
-      reads = j .watched .reads;
-      goods = each-map (InAutomaton sys) (Held sys 0) (initial-held sys) (j .watched .path) (j .watched .goods);
-      end = j .watched .end;
-      along = j .watched .along;
-      accepting = j .watched .accepting;
-    }) in
-    record { path = a .path; reads = a .reads; goods = each-map (Held sys (length ns)) (Held sys k) (held-limit sys k lim (length ns)) (a .path) (a .goods); end = a .end; along = a .along; accepting = a .accepting }
+-- ---- Lemma 15: what reaches the accepted set in k steps is accepted by the transitions of rounds up to k
+pub accepts-map : (loc : ℕ → Processes) (F : Group → Type 0) (D E : Transition → Type 0) → ((t : Transition) → D t → E t) → (c : Configuration) → Accepts loc F D c → Accepts loc F E c
+accepts-map loc F D E f c a = record { path = a .path; reads = a .reads; goods = each-map D E f (a .path) (a .goods); end = a .end; along = a .along; accepting = a .accepting }
+
+pub reach-accepts : (sys : System) → WellFormed sys → (s : Configuration) (ns : List ℕ) → Joins sys s ns → Accepts (sys .loc) (Accepting sys) (Held sys (length ns)) s
+reach-accepts sys good s ns j =
+    complete sys (good .cooperating .located) (good .cooperating .cooperates) (Accepting sys) (Held sys) (log-saturates sys) ns s (j .end) (j .walks)
+    (accepts-map (sys .loc) (Accepting sys) (InAutomaton sys) (Held sys 0) (initial-held sys) (j .end) (j .watched))
 
 pub path-joins : (sys : System) → WellFormed sys → (k : ℕ) (s : Configuration) → Control (sys .controls) (s .states) → (t : Path) → IsPath (sys .loc) (logAt sys k) (s .word) (s .states) t → Accepting sys (t .end)
     → Joins sys s (emitted (logAt sys k) (t .numbers))
@@ -128,7 +123,7 @@ answer-steps sys k s t e = steps-emitted (logAt sys k) (log-earlier sys k) (log-
 pub answer-no : (sys : System) → WellFormed sys → (k : ℕ) → Saturated sys k → (s : Configuration) → acceptingPath sys (logAt sys k) s ≡ none → (ns : List ℕ) → Joins sys s ns → ⊥
 unfolding acceptingPath
 answer-no sys good k lim s e ns j =
-    let a = reach-accepts sys good k lim s ns j in
+    let a = accepts-map (sys .loc) (Accepting sys) (Held sys (length ns)) (Held sys k) (held-limit sys k lim (length ns)) s (reach-accepts sys good s ns j) in
     let num = number-all (logAt sys k) (a .path) (a .goods) in
     first-none (sys .accepting) (paths (sys .loc) (logAt sys k) (s .word) (s .states)) e (record { numbers = num .numbers; end = a .end })
     (paths-complete (sys .loc) (logAt sys k) (s .word) (s .states) (num .numbers) (a .end) (num .inside) (ap label (num .are) ∙ a .reads)

@@ -1,0 +1,182 @@
+-- The paper's theorem of the definitions, for every accepted table. Demand 3 itself is `demand-3` of Demands.
+use mathlib.Core.Path.{_∙_, _≡_, ap, refl, subst, sym}
+use mathlib.Core.Bool.{true}
+use mathlib.Core.Logic.{_↔_, _⊎_}
+use mathlib.Core.Option.{some}
+use mathlib.Core.List.{List, List·Memᴰ, Memᴰ·cast, [], _∷_}
+use Prim.Native.Nat.{_+_, _-_, _<_, _≤_, min, suc, zero, ℕ}
+use native.Mathlib.Omega.{arith}
+use native.Mathlib.Nat.{not-suc-le-zero}
+use lib.ListN.{getD, getElem?, length, length-map}
+use Rattle.model.specs.declared.Group.{Group}
+use Rattle.model.specs.Automata.{Along, Transition, label}
+use Rattle.model.specs.Calls.{startPath}
+use Rattle.model.specs.Groups.{Process, at}
+use Rattle.model.specs.Lists.{Each}
+use Rattle.model.specs.Log.{Path, Record, additions, keyLess, keys, lexLess, limit, logAt, noRecord, paths, recordAt, saturatedAt, stepsCap}
+use Rattle.model.specs.Saturation.{Delta, added}
+use Rattle.model.specs.Systems.{Accepting, Accepts, Configuration, Equal, Joins, Rule, Step, Steps, System, fire, fired, walk}
+use Rattle.model.specs.Tables.{Item, accepted, read, systemOf}
+use Rattle.model.specs.Unfolding.{Unfolds, emitted, pathSteps}
+use Rattle.model.specs.Words.{Equivalent, Located}
+use Rattle.model.proofs.Collecting.{Held}
+use Rattle.model.proofs.Completeness.{accepts-same}
+use Rattle.model.proofs.Emission.{emitted-unfolds, steps-emitted, unfolds-unique}
+use Rattle.model.proofs.Limit.{limit-saturated}
+use Rattle.model.proofs.Lists.{Distinct, each-get, getD-mem}
+use Rattle.model.proofs.LogPaths.{IsPath, paths-complete, paths-sound}
+use Rattle.model.proofs.Order.{log-distinct}
+use Rattle.model.proofs.Paths.{rearrange}
+use Rattle.model.proofs.Reachability.{WellFormed, answer-steps, held-more, limit-log, path-joins, path-unfolds, reach-accepts}
+use Rattle.model.proofs.Reasons.{HasReason, LeastReason, log-least, log-reasons}
+use Rattle.model.proofs.Rounds.{Before, FirstHeld, Ordered, delta-held, each-first, held-delta, log-ordered}
+use Rattle.model.proofs.Steps.{fire-step, step-fire, steps-walk, walk-steps}
+use Rattle.model.proofs.Tables.{accepted-bytes, accepted-well-formed, read-complete}
+use Rattle.model.proofs.Tests.{by-zero}
+use Rattle.model.proofs.Validity.{each-at, log-counted, log-earlier}
+
+-- ---- where a sorted or marked list holds at a place
+later : (log : List Record) → Ordered log → (i j : ℕ) → i < j → j < length log → Before (recordAt log i) (recordAt log j)
+later [] o i j h l = absurd (not-suc-le-zero l)
+later (x ∷ log) o i zero h l = absurd (not-suc-le-zero h)
+later (x ∷ log) o zero (suc j) h l = each-at (Before x) log (o .0) j (omega arith)
+later (x ∷ log) o (suc i) (suc j) h l = later log (o .1) i j (omega arith) (omega arith)
+
+different : (ts : List Transition) → Distinct ts → (d : Transition) (i j : ℕ) → i < j → j < length ts → getD ts i d ≡ getD ts j d → ⊥
+different [] o d i j h l q = not-suc-le-zero l
+different (t ∷ ts) o d i zero h l q = not-suc-le-zero h
+different (t ∷ ts) o d zero (suc j) h l q = o .0 (Memᴰ·cast q (getD-mem ts j d (omega arith)))
+different (t ∷ ts) o d (suc i) (suc j) h l q = different ts (o .1) d i j (omega arith) (omega arith) q
+
+key-at : (log : List Record) (i : ℕ) → getD (keys log) i (noRecord .key) ≡ recordAt log i .key
+key-at [] i = refl
+key-at (x ∷ log) zero = refl
+key-at (x ∷ log) (suc i) = key-at log i
+
+-- a record's reason, by the rules' numbers and the paths of the log of the round before
+pub record ReasonAt (sys : System) (log : List Record) (x : Record) : Type 0 where
+  pub rule : Rule
+  pub is : getElem? (sys .rules) (x .rule) ≡ some rule
+  pub end : Group
+  pub path : List·Memᴰ (record { numbers = x .path; end = end }) (paths (sys .loc) log (rule .written) (rule .after))
+  pub adds : x .key ≡ added (sys .loc) rule end
+  -- every other rule and path that add it are later: by the rule's number, then by the path's record numbers
+  pub least : (m : ℕ) (r : Rule) → getElem? (sys .rules) m ≡ some r → (p : Path) → List·Memᴰ p (paths (sys .loc) log (r .written) (r .after)) → added (sys .loc) r (p .end) ≡ x .key
+      → (m ∷ p .numbers ≡ x .rule ∷ x .path) ⊎ (lexLess (x .rule ∷ x .path) (m ∷ p .numbers) ≡ true)
+
+module _ (table : List ℕ) (items : List Item) (e : read table ≡ accepted items) where
+  good : WellFormed (systemOf items)
+  good = accepted-well-formed items (read-complete table items e)
+
+  located : Located (systemOf items .loc)
+  located = good .cooperating .located
+
+  -- ---- steps-as-the-paper: a rule fires exactly where Definition 4 has a step by it, and leads to an equal configuration
+  pub fire-is-step : (r : Rule) (c d : Configuration) → fire (systemOf items .loc) r c ≡ some d → Step (systemOf items .loc) r c d
+  fire-is-step = fire-step (systemOf items .loc) located
+
+  pub step-is-fire : (r : Rule) (c d : Configuration) → Step (systemOf items .loc) r c d → (f : Configuration) × (fire (systemOf items .loc) r c ≡ some f) × Equal (systemOf items .loc) f d
+  step-is-fire r c d s = let f = step-fire (systemOf items .loc) located r c d s in (fired (systemOf items .loc) r c, f .0, f .1)
+
+  -- so a walk moves exactly as the paper's systems step
+  pub walk-is-steps : (ns : List ℕ) (c d : Configuration) → walk (systemOf items) ns c ≡ some d → Steps (systemOf items) ns c d
+  walk-is-steps = walk-steps (systemOf items) located
+
+  pub steps-are-walk : (ns : List ℕ) (c e : Configuration) → Steps (systemOf items) ns c e → (d : Configuration) × (walk (systemOf items) ns c ≡ some d) × Equal (systemOf items .loc) d e
+  steps-are-walk ns c e s = steps-walk (systemOf items) located s
+
+  -- ---- equivalent-paths: what transitions read between two states they read for every equivalent word
+  pub equivalent-paths : (D : Transition → Type 0) (ts : List Transition) (v : List ℕ) (g f : Group) → Each D ts → Along (systemOf items .loc) g ts f → Equivalent (systemOf items .loc) (label ts) v
+      → (us : List Transition) × (label us ≡ v) × Each D us × Along (systemOf items .loc) g us f
+  equivalent-paths D ts v g f goods along same = let r = rearrange (systemOf items .loc) located D v ts g f same along goods in (r .path, r .reads, r .goods, r .along)
+
+  -- acceptance does not tell equal configurations apart
+  pub equal-accepted : (F : Group → Type 0) (D : Transition → Type 0) (c d : Configuration) → Equal (systemOf items .loc) c d → Accepts (systemOf items .loc) F D c → Accepts (systemOf items .loc) F D d
+  equal-accepted F D c d q = accepts-same (systemOf items .loc) located F D c d (q .states) (q .words)
+
+  -- ---- log-is-delta: the log of rounds up to k holds δ(k), no more and no less
+  pub log-is-delta : (k : ℕ) (t : Transition) → List·Memᴰ t (keys (logAt (systemOf items) k)) ↔ Delta (systemOf items) k t
+  log-is-delta k t = (held-delta (systemOf items) k t, delta-held (systemOf items) k t)
+
+  -- each record's round is the first in which the paper adds it
+  pub first-round : (k n : ℕ) → n < length (logAt (systemOf items) k)
+      → Delta (systemOf items) (recordAt (logAt (systemOf items) k) n .round) (recordAt (logAt (systemOf items) k) n .key)
+      × ((j : ℕ) → j < recordAt (logAt (systemOf items) k) n .round → Delta (systemOf items) j (recordAt (logAt (systemOf items) k) n .key) → ⊥)
+  first-round k n h =
+      let f = each-at (FirstHeld (systemOf items) k) (logAt (systemOf items) k) (each-first (systemOf items) k) n h in (
+        held-delta (systemOf items) (recordAt (logAt (systemOf items) k) n .round) (recordAt (logAt (systemOf items) k) n .key) (f .held),
+        λ j l d. not-earlier (recordAt (logAt (systemOf items) k) n) k f j l (delta-held (systemOf items) j (recordAt (logAt (systemOf items) k) n .key) d),
+      )
+    where
+      -- held in round j, so held in every later one, the last before the record's round among them
+      not-earlier : (x : Record) (k : ℕ) → FirstHeld (systemOf items) k x → (j : ℕ) → j < x .round → Held (systemOf items) j (x .key) → ⊥
+      not-earlier x k f j l m = f .not-before (x .round - 1) (omega arith) (subst (λ (i : ℕ). Held (systemOf items) i (x .key)) (omega arith) (held-more (systemOf items) (x .round - 1 - j) j (x .key) m))
+
+  -- records stand in the order of round, letter, before, after
+  pub in-order : (k i j : ℕ) → i < j → j < length (logAt (systemOf items) k)
+      → (recordAt (logAt (systemOf items) k) i .round < recordAt (logAt (systemOf items) k) j .round)
+      ⊎ ((recordAt (logAt (systemOf items) k) i .round ≡ recordAt (logAt (systemOf items) k) j .round) × (keyLess (recordAt (logAt (systemOf items) k) i .key) (recordAt (logAt (systemOf items) k) j .key) ≡ true))
+  in-order k i j h l = later (logAt (systemOf items) k) (log-ordered (systemOf items) k) i j h l
+
+  -- no two records have the same key
+  pub distinct-keys : (k i j : ℕ) → i < j → j < length (logAt (systemOf items) k) → recordAt (logAt (systemOf items) k) i .key ≡ recordAt (logAt (systemOf items) k) j .key → ⊥
+  distinct-keys k i j h l q =
+      different (keys (logAt (systemOf items) k)) (log-distinct (systemOf items) k) (noRecord .key) i j h (omega (arith, length-map (logAt (systemOf items) k) (λ (r : Record). r .key)))
+      (key-at (logAt (systemOf items) k) i ∙ q ∙ sym (key-at (logAt (systemOf items) k) j))
+
+  -- each record of round j + 1 has its reason over the log of rounds up to j: the lowest rule's first path
+  pub reasons : (k n j : ℕ) → n < length (logAt (systemOf items) k) → suc j ≡ recordAt (logAt (systemOf items) k) n .round → ReasonAt (systemOf items) (logAt (systemOf items) j) (recordAt (logAt (systemOf items) k) n)
+  reasons k n j h q =
+      let ρ = each-at (HasReason (systemOf items)) (logAt (systemOf items) k) (log-reasons (systemOf items) k) n h j q in
+      record {
+        rule = ρ .rule;
+        is = ρ .is;
+        end = ρ .end;
+        path = paths-complete (systemOf items .loc) (logAt (systemOf items) j) (ρ .rule .written) (ρ .rule .after) (recordAt (logAt (systemOf items) k) n .path) (ρ .end) (ρ .is-path .inside) (ρ .is-path .reads) (ρ .is-path .along);
+        adds = ρ .key-is;
+        least = λ m r is p i a. each-at (LeastReason (systemOf items)) (logAt (systemOf items) k) (log-least (systemOf items) k) n h j q m r is p
+            (each-get (IsPath (systemOf items .loc) (logAt (systemOf items) j) (r .written) (r .after)) p (paths (systemOf items .loc) (logAt (systemOf items) j) (r .written) (r .after))
+            (paths-sound (systemOf items .loc) (logAt (systemOf items) j) (r .written) (r .after)) i) a;
+      }
+
+  -- ---- limit-exists: some round adds nothing, and no later one does
+  pub limit-adds-nothing : additions (systemOf items) (limit (systemOf items)) ≡ []
+  limit-adds-nothing = limit-saturated (systemOf items) (accepted-bytes items (read-complete table items e))
+
+  pub limit-is-last : (d : ℕ) → logAt (systemOf items) (d + saturatedAt (systemOf items)) ≡ limit (systemOf items)
+  limit-is-last d = limit-log (systemOf items) (saturatedAt (systemOf items)) d limit-adds-nothing
+
+  -- ---- Lemma 15: the records of rounds up to the length of a run that joins c and the watched set accept c
+  pub lemma-15 : (c : Configuration) (ns : List ℕ) → Joins (systemOf items) c ns
+      → Accepts (systemOf items .loc) (Accepting (systemOf items)) (λ (t : Transition). List·Memᴰ t (keys (logAt (systemOf items) (length ns)))) c
+  lemma-15 = reach-accepts (systemOf items) good
+
+  -- ---- unfolding-is-a-run: an accepting path of the log over a configuration's word unfolds into a run that joins it and the watched set
+  pub unfolding-is-a-run : (k : ℕ) (c : Configuration) → ((i : Process) → at (c .states) i < systemOf items .controls i) → (p : Path)
+      → List·Memᴰ p (paths (systemOf items .loc) (logAt (systemOf items) k) (c .word) (c .states)) → Accepting (systemOf items) (p .end)
+      → (rs : List ℕ) → Unfolds (logAt (systemOf items) k) (p .numbers) rs → Joins (systemOf items) c rs
+  unfolding-is-a-run k c control p m f rs u =
+      let t = each-get (IsPath (systemOf items .loc) (logAt (systemOf items) k) (c .word) (c .states)) p (paths (systemOf items .loc) (logAt (systemOf items) k) (c .word) (c .states))
+      (paths-sound (systemOf items .loc) (logAt (systemOf items) k) (c .word) (c .states)) m in
+      subst (Joins (systemOf items) c) (unfolds-unique u (emitted (logAt (systemOf items) k) (p .numbers)) (emitted-unfolds (logAt (systemOf items) k) (log-earlier (systemOf items) k) (p .numbers) (t .inside)))
+      (path-joins (systemOf items) good k c control p t f)
+
+  -- ---- steps-count: a record's steps are the length of its unfolding, and the start's those of its path, up to the cap
+  pub record-steps : (k n : ℕ) → n < length (logAt (systemOf items) k) → (rs : List ℕ) → Unfolds (logAt (systemOf items) k) (n ∷ []) rs
+      → recordAt (logAt (systemOf items) k) n .steps ≡ min (length rs) stepsCap
+  record-steps k n h rs u =
+      let figure : min (recordAt (logAt (systemOf items) k) n .steps + 0) stepsCap ≡ min (length (emitted (logAt (systemOf items) k) (n ∷ []))) stepsCap =
+      steps-emitted (logAt (systemOf items) k) (log-earlier (systemOf items) k) (log-counted (systemOf items) k) (n ∷ []) (h, tt) in
+      let same : emitted (logAt (systemOf items) k) (n ∷ []) ≡ rs = unfolds-unique u (emitted (logAt (systemOf items) k) (n ∷ [])) (emitted-unfolds (logAt (systemOf items) k) (log-earlier (systemOf items) k) (n ∷ []) (h, tt)) in
+      let capped : recordAt (logAt (systemOf items) k) n .steps ≤ stepsCap = steps-capped k n h in
+      omega (arith, ap length same)
+    where
+      steps-capped : (k n : ℕ) → n < length (logAt (systemOf items) k) → recordAt (logAt (systemOf items) k) n .steps ≤ stepsCap
+      steps-capped k n h = by-zero (recordAt (logAt (systemOf items) k) n .round)
+          (λ z. omega (arith, log-counted (systemOf items) k n h .0 z))
+          (λ z. omega (arith, log-counted (systemOf items) k n h .1 z))
+
+  pub start-steps : (p : Path) → startPath (systemOf items) ≡ some p → (rs : List ℕ) → Unfolds (limit (systemOf items)) (p .numbers) rs → pathSteps (limit (systemOf items)) (p .numbers) ≡ min (length rs) stepsCap
+  start-steps p q rs u =
+      answer-steps (systemOf items) (saturatedAt (systemOf items)) (systemOf items .start) p q
+      ∙ ap (λ (l : List ℕ). min (length l) stepsCap) (unfolds-unique u (emitted (limit (systemOf items)) (p .numbers)) (path-unfolds (systemOf items) (saturatedAt (systemOf items)) (systemOf items .start) p q))
