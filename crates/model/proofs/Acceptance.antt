@@ -74,7 +74,7 @@ module _ (loc : ℕ → Processes) (ts : List Transition) (acc : List Group) whe
       let rest : label path ≡ w = cc in
       any-of (leads a w g) ts t (e .0) (leads-of a w g t (record { letter = is; before = p .0; rest = accepts-of w (move loc t g) f path rest (e .1) (p .1) m }))
 
--- what the walk call tells as watched is that the table's automaton accepts the situation
+-- what the walk call tells as watched is that the table's automaton accepts the configuration
 pub watched-is-accepted : (sys : System) (c : Configuration) → (accepts (sys .loc) (sys .transitions) (sys .accepting) (c .word) (c .states) ≡ true) ↔ Accepted sys c
 watched-is-accepted sys c = (
   accepts-true (sys .loc) (sys .transitions) (sys .accepting) (c .word) (c .states),

@@ -1,4 +1,4 @@
--- States stay below what the table says of each station, along every path of the log.
+-- States stay below what the table says of each process, along every path of the log.
 use mathlib.Core.Path.{_≡_, subst}
 use mathlib.Core.Option.{some}
 use mathlib.Core.List.{List, List·Memᴰ, [], _∷_, map}
@@ -20,7 +20,7 @@ use Rattle.model.proofs.Soundness.{Control, ControlOn, control-merge, t
 use Rattle.model.proofs.Tests.{cond-less}
 use Rattle.model.proofs.Validity.{initial-each}
 
--- the transition leads below q at its task's stations
+-- the transition leads below q at its letter's processes
 abbrev pub Below : (ℕ → Processes) → (Process → ℕ) → Transition → Type 0
 Below loc q t = ControlOn q (loc (t .letter)) (t .after)
 
@@ -36,7 +36,7 @@ pub along-on : (loc : ℕ → Processes) (q : Process → ℕ) (L : Processes) (
 along-on loc q L [] g f e l p = subst (ControlOn q L) p l
 along-on loc q L (t ∷ ts) g f e l p = along-on loc q L ts (move loc t g) f (e .1) (on-merge q L (loc (t .letter)) (t .after) g (e .0) l) (p .1)
 
--- every transition of the log leads below q, if those of the watch automaton do and the rules' after states are
+-- every transition of the log leads below q, if those of the table's automaton do and the rules' after states are
 pub record Bounded (sys : System) (q : Process → ℕ) : Type 0 where
   pub rules : (n : ℕ) (r : Rule) → getElem? (sys .rules) n ≡ some r → ControlOn q (sys .loc (r .letter)) (r .after)
   pub automaton : (t : Transition) → InAutomaton sys t → Below (sys .loc) q t

@@ -1,4 +1,4 @@
--- The tests as code makes them: one scan of the pile for a task that tops, and states compared at the task's stations only.
+-- The tests as code makes them: one scan of the word for a letter that tops, and states compared at the letter's processes only.
 use mathlib.Core.Path.{_∙_, _≡_, sym}
 use mathlib.Core.Bool.{Bool, _&&_, _||_, cond, false, false≢true, not, true}
 use mathlib.Core.List.{List, [], _∷_}
@@ -13,7 +13,7 @@ use Rattle.model.proofs.Tests.{and-left, and-right, by-test, every-at, 
 use Rattle.model.proofs.Words.{Pick, here, pick-tops, there, tops-of, tops-pick, tops-true}
 
 -- ---- states
--- g and b agree at the stations of L
+-- g and b agree at the processes of L
 abbrev pub matchAt : Processes → Group → Group → Bool
 matchAt L g b = every (λ i. not (has L i) || eqb (at g i) (at b i))
 
@@ -24,7 +24,7 @@ match-is L g b nb = same-test (matchAt L g b) (sameGroup (restrict L g) b)
     (λ e. every-of (λ i. not (has L i) || eqb (at g i) (at b i)) (λ i. implied (has L i) (eqb (at g i) (at b i))
     (λ m. eq-eqb (at g i) (at b i) (agree-at L g b (sameGroup-true (restrict L g) b e ∙ sym nb) i m))))
 
--- ---- the task that tops
+-- ---- the letter that tops
 abbrev pub apartTest : Processes → Processes → Bool
 apartTest L M = every (λ i. not (has L i) || not (has M i))
 
@@ -34,7 +34,7 @@ apart-true L M e i m = not-true (has M i) (implies (has L i) (not (has M i)) (ev
 pub apart-of : (L M : Processes) → Apart L M → apartTest L M ≡ true
 apart-of L M d = every-of (λ i. not (has L i) || not (has M i)) (λ i. implied (has L i) (not (has M i)) (λ m. rw (d i m)))
 
--- from the top: a itself, or past a task that shares no station with a
+-- from the top: a itself, or past a letter that shares no process with a
 abbrev pub topsScan : (ℕ → Processes) → ℕ → List ℕ → Bool
 topsScan loc a [] = false
 topsScan loc a (b ∷ w) = cond (eqb b a) true (apartTest (loc a) (loc b) && topsScan loc a w)

@@ -1,4 +1,4 @@
--- Lemma 15: what reaches the watched set in k steps is accepted by the transitions of rounds up to k.
+-- Lemma 15: what reaches the accepted set in k steps is accepted by the transitions of rounds up to k.
 use mathlib.Core.Path.{_∙_, _≡_, ap, refl, subst, sym}
 use mathlib.Core.Option.{some}
 use mathlib.Core.List.{List, [], _++_, _∷_}
@@ -16,7 +16,7 @@ use Rattle.model.proofs.Lists.{each-left, each-map, each-right}
 use Rattle.model.proofs.Paths.{Inside, along-inside, along-outside, along-split, cut, rearrange}
 use Rattle.model.proofs.Steps.{fire-step, walk-inv}
 
--- acceptance does not tell equal situations apart
+-- acceptance does not tell equal configurations apart
 pub accepts-same : (loc : ℕ → Processes) → Located loc → (F : Group → Type 0) (P : Transition → Type 0) (s t : Configuration)
     → s .states ≡ t .states → Equivalent loc (s .word) (t .word) → Accepts loc F P s → Accepts loc F P t
 accepts-same loc ne F P s t e m a =
@@ -39,7 +39,7 @@ pub record Saturates (sys : System) (D : ℕ → Transition → Type 0) : Type 1
   pub adds : (k n : ℕ) (r : Rule) → getElem? (sys .rules) n ≡ some r → (ts : List Transition) (e : Group) → Each (D k) ts → label ts ≡ r .written
       → Along (sys .loc) (r .after) ts e → D (suc k) (added (sys .loc) r e)
 
--- what the rule adds for the path's front part, from the situation before the rule, in one transition
+-- what the rule adds for the path's front part, from the configuration before the rule, in one transition
 across : (loc : ℕ → Processes) (r : Rule) (front back : List Transition) (g h f : Group) → restrict (loc (r .letter)) g ≡ r .before
     → Inside loc (loc (r .letter)) (label front) → Along loc (merge (loc (r .letter)) (r .after) g) front h → Along loc h back f
     → Along loc g (added loc r (merge (loc (r .letter)) h (r .after)) ∷ back) f
@@ -53,7 +53,7 @@ across loc r front back g h f m inside p q =
     (m, subst (λ (y : Group). Along loc y back f) (sym same) q)
 
 module _ (sys : System) (ne : Located (sys .loc)) (co : Cooperates sys) (F : Group → Type 0) (D : ℕ → Transition → Type 0) (sat : Saturates sys D) where
-  -- the heart: if round k accepts what the rule leaves, round k + 1 accepts the situation before it
+  -- the heart: if round k accepts what the rule leaves, round k + 1 accepts the configuration before it
   back-parts : (k n : ℕ) (r : Rule) → getElem? (sys .rules) n ≡ some r → (g h f : Group) (front back : List Transition) → restrict (sys .loc (r .letter)) g ≡ r .before
       → label front ≡ r .written → Each (D k) (front ++ back)
       → Along (sys .loc) (merge (sys .loc (r .letter)) (r .after) g) front h → Along (sys .loc) h back f → F f

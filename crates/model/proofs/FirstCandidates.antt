@@ -149,7 +149,7 @@ first-skip k c (x ∷ xs) ys n = ap (cond (sameKey (x .key) k) (some x)) (first-
 other-key : (k : Transition) (log : List Record) (c : Candidate) → inLog k log ≡ false → inLog (c .key) log ≡ true → sameKey (c .key) k ≡ false
 other-key k log c n y = by-test (sameKey (c .key) k) (λ z. absurd (true≢false (sym y ∙ ap (λ (t : Transition). inLog t log) (sameKey-true (c .key) k z) ∙ n))) (λ m. m)
 
--- for a key that the log lacks, what settles is the first candidate
+-- for a key that the log lacks, what is collected is the first candidate
 pub collect-first : (k : Transition) (log : List Record) → inLog k log ≡ false → (cs got : List Candidate) → Sorted got → firstOf k (collect log cs got) ≡ firstOf k (got ++ cs)
 collect-first k log n [] got s = ap (firstOf k) (sym (append-nil got))
 collect-first k log n (c ∷ cs) got s = by-test (inLog (c .key) log)

@@ -18,7 +18,7 @@ abbrev pub pickFrom : (ℕ → Processes) → ℕ → Group → (Group → Bool)
 pickFrom loc a g ok next [] n = none
 pickFrom loc a g ok next (r ∷ rs) n = cond (readsAt loc a g r && ok (move loc (r .key) g)) (Option·map (push n) (next (move loc (r .key) g))) (pickFrom loc a g ok next rs (suc n))
 
--- at each task the lowest record that can still end well
+-- at each letter the lowest record that can still end well
 abbrev pub greedy : (ℕ → Processes) → List Record → List Group → List ℕ → Group → Option Path
 greedy loc log acc [] g = cond (isAccepting g acc) (some (record { numbers = []; end = g })) none
 greedy loc log acc (a ∷ w) g = pickFrom loc a g (λ h. accepts loc (keys log) acc w h) (λ h. greedy loc log acc w h) log 0

@@ -1,4 +1,4 @@
--- Stations, groups of local states, and the two ways to cut and join groups along a task's stations.
+-- Laws of restriction and of the joint tuple, one process at a time.
 use mathlib.Core.Path.{_∙_, _≡_, ap, refl, sym}
 use mathlib.Core.Bool.{Bool, cond, false, true}
 use Prim.Native.Nat.{ℕ}
@@ -14,7 +14,7 @@ at-build f p1 = refl
 at-build f p2 = refl
 at-build f p3 = refl
 
--- two groups are equal if they are so at each station
+-- two groups are equal if they are so at each process
 pub ext : {g h : Group} → ((i : Process) → at g i ≡ at h i) → g ≡ h
 ext e = λ i. record { s0 = e p0 i; s1 = e p1 i; s2 = e p2 i; s3 = e p3 i }
 

@@ -1,4 +1,4 @@
--- Local transitions, paths of transitions, and the trace lemma: a path over a word can be rearranged into one over any word that is equal for every station.
+-- Paths of local transitions, and the trace lemma: a path over a word can be rearranged into one over any equivalent word.
 use mathlib.Core.Path.{_∙_, _≡_, ap, ap₂, refl, subst, sym}
 use mathlib.Core.Bool.{true≢false}
 use mathlib.Core.Logic.{_⊎_, inl, inr}
@@ -17,7 +17,7 @@ use Rattle.model.proofs.Words.{Pick, equivalent-nil, equivalent-pick, e
 pub apart-sym : (L M : Processes) → Apart L M → Apart M L
 apart-sym L M h i m = by-test (has L i) (λ l. absurd (true≢false (sym m ∙ h i l))) (λ l. l)
 
--- ---- taking the task that tops to the front
+-- ---- taking the letter that tops to the front
 pub pick-nil : {loc : ℕ → Processes} {a : ℕ} {x : List ℕ} → Pick loc a [] x → ⊥
 pick-nil p = elim p [ ]
 
@@ -36,7 +36,7 @@ pub record Pulled (loc : ℕ → Processes) (P : Transition → Type 0) (a : ℕ
   pub along : Along loc g (first ∷ rest) f
 
 module _ (loc : ℕ → Processes) (P : Transition → Type 0) where
-  -- one transition moves in front of another with which it shares no station
+  -- one transition moves in front of another with which it shares no process
   swap : (t s : Transition) (ts : List Transition) (g f : Group) → Apart (loc (s .letter)) (loc (t .letter))
       → Along loc g (t ∷ s ∷ ts) f → Along loc g (s ∷ t ∷ ts) f
   swap t s ts g f d al = (
@@ -74,7 +74,7 @@ pub record Rearranged (loc : ℕ → Processes) (P : Transition → Type 0) (v :
   pub goods : Each P path
   pub along : Along loc g path f
 
--- The trace lemma. A path over a word gives a path over every word that is equal for every station, with the same ends and of the same transitions.
+-- The trace lemma. A path over a word gives a path over every word that is equivalent, with the same ends and of the same transitions.
 pub rearrange : (loc : ℕ → Processes) → Located loc → (P : Transition → Type 0) (v : List ℕ) (ts : List Transition) (g f : Group)
     → Equivalent loc (label ts) v → Along loc g ts f → Each P ts → Rearranged loc P v g f
 rearrange loc ne P [] ts g f s al ea = nothing ts (equivalent-nil loc ne (label ts) s) al
@@ -94,7 +94,7 @@ rearrange loc ne P (a ∷ x) ts g f s al ea =
       along = (u .along .0, below .along);
     }
 
--- ---- paths cut in two, and paths seen from the stations that they touch
+-- ---- paths cut in two, and paths seen from the processes that they touch
 pub along-append : (loc : ℕ → Processes) (ts us : List Transition) (g h f : Group) → Along loc g ts h → Along loc h us f → Along loc g (ts ++ us) f
 along-append loc [] us g h f p q = subst (λ (x : Group). Along loc x us f) (sym p) q
 along-append loc (t ∷ ts) us g h f p q = (p .0, along-append loc ts us (move loc t g) h f (p .1) q)
@@ -126,7 +126,7 @@ cut (t ∷ ts) (a ∷ u) x e =
 abbrev pub Inside : (ℕ → Processes) → Processes → List ℕ → Type 0
 Inside loc L w = Each (λ (a : ℕ). Within (loc a) L) w
 
--- A path whose tasks lie within L is a path from any group that agrees on L; outside L nothing changes
+-- A path whose letters lie within L is a path from any group that agrees on L; outside L nothing changes
 pub along-inside : (loc : ℕ → Processes) (L : Processes) (ts : List Transition) (g h f : Group) → Inside loc L (label ts) → restrict L g ≡ restrict L h
     → Along loc g ts f → Along loc h ts (merge L f h)
 along-inside loc L [] g h f w e p = sym (merge-cong L f h h (ap (restrict L) (sym p) ∙ e) ∙ merge-self L h)
@@ -136,7 +136,7 @@ along-inside loc L (t ∷ ts) g h f w e p = (
       (along-inside loc L ts (move loc t g) (move loc t h) f (w .1) (restrict-merge-cong L (loc (t .letter)) (t .after) g h e) (p .1)),
 )
 
--- A path whose tasks share no station with L does not see what stands at L
+-- A path whose letters share no process with L does not see what stands at L
 pub along-apart : (loc : ℕ → Processes) (L : Processes) (x : Group) (ts : List Transition) (g f : Group) → Each (λ (t : Transition). Apart (loc (t .letter)) L) ts
     → Along loc g ts f → Along loc (merge L x g) ts (merge L x f)
 along-apart loc L x [] g f w p = ap (merge L x) p

@@ -54,7 +54,7 @@ held-more sys (suc d) j t m = subst (λ (n : ℕ). Held sys n t) (omega arith) (
 pub held-limit : (sys : System) (k : ℕ) → Saturated sys k → (j : ℕ) (t : Transition) → Held sys j t → Held sys k t
 held-limit sys k e j t m = subst (λ (log : List Record). List·Memᴰ t (keys log)) (limit-log sys k j e) (subst (λ (n : ℕ). Held sys n t) (add-comm k j) (held-more sys k j t m))
 
--- ---- round 0 is the watch automaton
+-- ---- round 0 is the table's automaton
 pub keys-initial : (cs : List Candidate) → keys (map initialRecord cs) ≡ candidateKeys cs
 keys-initial [] = refl
 keys-initial (c ∷ cs) = ap (λ (l : List Transition). c .key ∷ l) (keys-initial cs)
@@ -119,7 +119,7 @@ pub answer-steps : (sys : System) (k : ℕ) (s : Configuration) (t : Path) → a
     → pathSteps (logAt sys k) (t .numbers) ≡ min (length (emitted (logAt sys k) (t .numbers))) stepsCap
 answer-steps sys k s t e = steps-emitted (logAt sys k) (log-earlier sys k) (log-counted sys k) (t .numbers) (accepting-path-found sys (logAt sys k) s t e .0 .inside)
 
--- Unreachable: no run joins the start and the watched set
+-- Unreachable: no run joins the start and the accepted set
 pub answer-no : (sys : System) → WellFormed sys → (k : ℕ) → Saturated sys k → (s : Configuration) → acceptingPath sys (logAt sys k) s ≡ none → (ns : List ℕ) → Joins sys s ns → ⊥
 unfolding acceptingPath
 answer-no sys good k lim s e ns j =

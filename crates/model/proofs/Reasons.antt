@@ -76,7 +76,7 @@ pub collect-append : (log : List Record) (xs ys got : List Candidate) → collec
 collect-append log [] ys got = refl
 collect-append log (x ∷ xs) ys got = collect-append log xs ys (cond (inLog (x .key) log) got (insert x got))
 
--- a reason's path has a place for each written task
+-- a reason's path has a place for each written letter
 length-transitionsAt : (log : List Record) (ns : List ℕ) → length (label (transitionsAt log ns)) ≡ length ns
 length-transitionsAt log [] = refl
 length-transitionsAt log (n ∷ ns) = ap suc (length-transitionsAt log ns)

@@ -1,4 +1,4 @@
--- A round as nested loops make it: for each rule, go through the records for each written task in turn, and offer what each full path adds.
+-- A round as nested loops make it: for each rule, go through the records for each written letter in turn, and offer what each full path adds.
 use mathlib.Core.Path.{_∙_, _≡_, ap, ap₂, refl, sym}
 use mathlib.Core.Bool.{cond}
 use mathlib.Core.List.{List, [], _++_, _∷_, append-assoc, append-nil, map}
@@ -26,7 +26,7 @@ abbrev pub scan : (ℕ → Processes) → ℕ → Group → (ℕ → Group → L
 scan loc a g next [] n got = got
 scan loc a g next (r ∷ rs) n got = scan loc a g next rs (suc n) (cond (readsAt loc a g r) (next n (move loc (r .key) g) got) got)
 
--- from g, with the path so far: the tasks still to read
+-- from g, with the path so far: the letters still to read
 abbrev pub visit : (ℕ → Processes) → List Record → (List ℕ → Group → Candidate) → List ℕ → Group → List ℕ → List Candidate → List Candidate
 visit loc log make [] g pre got = offer log (make pre g) got
 visit loc log make (a ∷ w) g pre got = scan loc a g (λ n h got′. visit loc log make w h (pre ++ (n ∷ [])) got′) log 0 got
@@ -36,7 +36,7 @@ visitRules loc log [] n got = got
 visitRules loc log (r ∷ rs) n got =
     visitRules loc log rs (suc n) (visit loc log (λ ns e. candidate loc r n (record { numbers = ns; end = e })) (r .written) (r .after) [] got)
 
--- ---- it is what settles
+-- ---- it is what is collected
 abbrev made : (List ℕ → Group → Candidate) → List ℕ → Path → Candidate
 made make pre t = make (pre ++ t .numbers) (t .end)
 

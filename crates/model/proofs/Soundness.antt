@@ -1,4 +1,4 @@
--- Soundness by unfolding: a path of log records from a start of line states unfolds into a run that ends in the watched set.
+-- Soundness by unfolding: a path of log records from a start of control states unfolds into a run that ends in the accepted set.
 use mathlib.Core.Path.{_∙_, _≡_, ap, refl, subst, sym}
 use mathlib.Core.Bool.{false, true, true≢false}
 use mathlib.Core.Option.{some}
@@ -25,15 +25,15 @@ use Rattle.model.proofs.Steps.{enabled-of, fire-some, walk-cons}
 use Rattle.model.proofs.Tests.{by-test, cond-less}
 use Rattle.model.proofs.Words.{Pick, Tops, equivalent-append, equivalent-pick, equivalent-tops, here, pick-equivalent, pick-tops, project-append, there, tops-pick}
 
--- ---- line states
--- the group's states are line states, at the stations of L
+-- ---- control states
+-- the group's states are control states, at the processes of L
 abbrev pub ControlOn : (Process → ℕ) → Processes → Group → Type 0
 ControlOn q L g = (i : Process) → has L i ≡ true → at g i < q i
 
 abbrev pub Control : (Process → ℕ) → Group → Type 0
 Control q g = (i : Process) → at g i < q i
 
--- the transition enters no line state, at any station of its task
+-- the transition enters no control state, at any process of its letter
 abbrev pub Leaves : System → Transition → Type 0
 Leaves sys t = (i : Process) → has (sys .loc (t .letter)) i ≡ true → sys .controls i ≤ at (t .after) i
 
@@ -48,7 +48,7 @@ untouched loc L [] g h a p = ap (restrict L) (sym p)
 untouched loc L (t ∷ ts) g h a p =
     untouched loc L ts (move loc t g) h (a .1) (p .1) ∙ restrict-merge-apart L (loc (t .letter)) (t .after) g (apart-sym (loc (t .letter)) L (a .0))
 
--- transitions that enter no line state share no station with an L where line states stand after them
+-- transitions that enter no control state share no process with an L where control states stand after them
 apart-head : (sys : System) (L : Processes) (t : Transition) (ts : List Transition) (g h : Group) → Leaves sys t → ApartFrom (sys .loc) L ts
     → Along (sys .loc) (move (sys .loc) t g) ts h → ControlOn (sys .controls) L h → Apart L (sys .loc (t .letter))
 apart-head sys L t ts g h e rest p l i m = by-test (has (sys .loc (t .letter)) i) (λ y. absurd (clash y)) (λ y. y)
@@ -67,7 +67,7 @@ apart-of-control sys L (t ∷ ts) g h e p l =
     let rest = apart-of-control sys L ts (move (sys .loc) t g) h (e .1) (p .1) l in
     (apart-sym L (sys .loc (t .letter)) (apart-head sys L t ts g h (e .0) rest (p .1) l), rest)
 
--- ---- words: what stands before the rule's task, and what the rule writes
+-- ---- words: what stands before the rule's letter, and what the rule writes
 pub pick-through : (loc : ℕ → Processes) (a : ℕ) (ts : List Transition) (x : List ℕ) → ApartFrom loc (loc a) ts → Pick loc a (label ts ++ a ∷ x) (label ts ++ x)
 pick-through loc a [] x d = here refl
 pick-through loc a (t ∷ ts) x d = there (apart-sym (loc (t .letter)) (loc a) (d .0)) (pick-through loc a ts x (d .1))
@@ -83,7 +83,7 @@ project-inside loc L i (a ∷ u) m d = rw out (project-inside loc L i u m (d .1)
     out : has (loc a) i ≡ false
     out = by-test (has (loc a) i) (λ y. absurd (true≢false (sym (d .0 i y) ∙ m))) (λ y. y)
 
--- words that share no station commute
+-- words that share no process commute
 pub equivalent-swap : (loc : ℕ → Processes) (L : Processes) (ts : List Transition) (u x : List ℕ) → ApartFrom loc L ts → Inside loc L u
     → Equivalent loc (u ++ (label ts ++ x)) (label ts ++ (u ++ x))
 equivalent-swap loc L ts u x d n i = simp project-append (by-test (has L i) within without)
@@ -100,7 +100,7 @@ pub record Cooperating (sys : System) : Type 0 where
   pub cooperates : Cooperates sys
   pub rules-control : RulesControl sys
 
--- zs, then what rule r adds for the path ps, then ms: from line states, where zs enters none
+-- zs, then what rule r adds for the path ps, then ms: from control states, where zs enters none
 pub record Ready (sys : System) (r : Rule) (zs ps ms : List Transition) (e f : Group) (s : Configuration) : Type 0 where
   pub zs-leave : Each (Leaves sys) zs
   pub ps-read : label ps ≡ r .written
@@ -130,7 +130,7 @@ new-along loc r zs ps ms g h e f apart inside ps-along before rest =
     along-append loc zs (ps ++ ms) (merge L (r .after) g) (merge L (r .after) h) f (along-apart loc L (r .after) zs g h apart before)
     (along-append loc ps ms (merge L (r .after) h) (merge L (restrict L e) h) f (subst (λ (y : Group). Along loc (merge L (r .after) h) ps y) same middle) rest)
 
--- the new pile
+-- the new word
 new-reads : (loc : ℕ → Processes) → Located loc → (r : Rule) (zs ps ms : List Transition) (w : List ℕ) → ApartFrom loc (loc (r .letter)) zs → Inside loc (loc (r .letter)) (r .written)
     → label ps ≡ r .written → Equivalent loc w (label zs ++ r .letter ∷ label ms)
     → Equivalent loc (r .written ++ removeFirst (r .letter) w) (label (zs ++ (ps ++ ms)))
@@ -197,7 +197,7 @@ transitionsAt-append : (log : List Record) (ns ms : List ℕ) → transitionsAt 
 transitionsAt-append log [] ms = refl
 transitionsAt-append log (n ∷ ns) ms = ap (λ (l : List Transition). recordAt log n .key ∷ l) (transitionsAt-append log ns ms)
 
--- the state of the unfolding: the path zs ms from the situation reads its pile, zs is of round 0, and all stations are in line states
+-- the state of the unfolding: the path zs ms from the configuration reads its word, zs is of round 0, and all processes are in control states
 pub record Stands (sys : System) (P : Transition → Type 0) (zs ms : List Transition) (f : Group) (s : Configuration) : Type 0 where
   pub goods : Each P zs
   pub control : Control (sys .controls) (s .states)
@@ -260,7 +260,7 @@ module _ (sys : System) (fa : Cooperating sys) (P : Transition → Type 0) (leav
       (each-append (λ (m : ℕ). m < length log) (recordAt log n .path) ns (each-less n (length log) (recordAt log n .path) (omega (arith, np .0)) (ρ .earlier)) (np .1))
       (unrolled n (ρ .rule) ns zs s f (st .goods) o))
 
-  -- Soundness: an accepting path of log records over the start's pile unfolds into a run that joins the start and the watched set
+  -- Soundness: an accepting path of log records over the start's word unfolds into a run that joins the start and the accepted set
   pub sound : (F : Group → Type 0) {ns rs : List ℕ} → Unfolds log ns rs → (s : Configuration) (f : Group) → Each (λ (n : ℕ). n < length log) ns → Control (sys .controls) (s .states)
       → Along (sys .loc) (s .states) (transitionsAt log ns) f → Equivalent (sys .loc) (s .word) (label (transitionsAt log ns)) → F f
       → (t : Configuration) × (walk sys rs s ≡ some t) × Accepts (sys .loc) F P t

@@ -1,4 +1,4 @@
--- Rules, situations, firing and walking; the paper's step relation; acceptance; Lemma 15.
+-- Firing is the paper's step, and a walk is a list of steps; equal configurations walk alike.
 use mathlib.Core.Path.{_∙_, _≡_, ap, refl, subst, sym}
 use mathlib.Core.Bool.{true}
 use mathlib.Core.Option.{Option, none, some}
@@ -43,7 +43,7 @@ pub fire-inv : (loc : ℕ → Processes) (r : Rule) (s t : Configuration) → fi
 unfolding fire
 fire-inv loc r s t e = by-test (enabled loc r s) (λ y. record { yes = y; gives = let q : some (fired loc r s) ≡ some t = rw y at e in cc }) (λ n. absurd (let q : none ≡ some t = rw n at e in let z : _≡_ {A = ℕ} 0 1 = cc in omega arith))
 
--- Theorem A: what fires is a step, and every step is what fires, up to equal own piles
+-- what fires is a step, and every step is what fires, up to equivalence
 pub fire-step : (loc : ℕ → Processes) → Located loc → (r : Rule) (s t : Configuration) → fire loc r s ≡ some t → Step loc r s t
 fire-step loc ne r s t e =
     let f = fire-inv loc r s t e in
@@ -96,7 +96,7 @@ step-equal loc r s s′ t e st = record {
   written = st .written;
 }
 
--- if a rule fires in one of two equal situations it fires in the other, and leaves equal ones
+-- if a rule fires in one of two equal configurations it fires in the other, and leaves equal ones
 pub fire-equal : (sys : System) → Located (sys .loc) → (r : Rule) (s s′ t : Configuration) → Equal (sys .loc) s s′ → fire (sys .loc) r s ≡ some t
     → (t′ : Configuration) × (fire (sys .loc) r s′ ≡ some t′) × Equal (sys .loc) t t′
 fire-equal sys ne r s s′ t e f =

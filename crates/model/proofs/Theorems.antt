@@ -146,12 +146,12 @@ module _ (table : List ℕ) (items : List Item) (e : read table ≡ accepted ite
   pub limit-is-last : (d : ℕ) → logAt (systemOf items) (d + saturatedAt (systemOf items)) ≡ limit (systemOf items)
   limit-is-last d = limit-log (systemOf items) (saturatedAt (systemOf items)) d limit-adds-nothing
 
-  -- ---- Lemma 15: the records of rounds up to the length of a run that joins c and the watched set accept c
+  -- ---- Lemma 15: the records of rounds up to the length of a run that joins c and the accepted set accept c
   pub lemma-15 : (c : Configuration) (ns : List ℕ) → Joins (systemOf items) c ns
       → Accepts (systemOf items .loc) (Accepting (systemOf items)) (λ (t : Transition). List·Memᴰ t (keys (logAt (systemOf items) (length ns)))) c
   lemma-15 = reach-accepts (systemOf items) good
 
-  -- ---- unfolding-is-a-run: an accepting path of the log over a configuration's word unfolds into a run that joins it and the watched set
+  -- ---- unfolding-is-a-run: an accepting path of the log over a configuration's word unfolds into a run that joins it and the accepted set
   pub unfolding-is-a-run : (k : ℕ) (c : Configuration) → ((i : Process) → at (c .states) i < systemOf items .controls i) → (p : Path)
       → List·Memᴰ p (paths (systemOf items .loc) (logAt (systemOf items) k) (c .word) (c .states)) → Accepting (systemOf items) (p .end)
       → (rs : List ℕ) → Unfolds (logAt (systemOf items) k) (p .numbers) rs → Joins (systemOf items) c rs

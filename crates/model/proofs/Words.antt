@@ -1,4 +1,4 @@
--- Words of tasks, a station's own pile, words that are equal for every station, and the task that tops its stations' own piles.
+-- Equivalent words, and the two views of a letter that tops its processes: the test, and the place where it stands.
 use mathlib.Core.Path.{_∙_, _≡_, ap, ap₂, refl, sym}
 use mathlib.Core.Bool.{Bool, _||_, false, false≢true, not, true}
 use mathlib.Core.List.{List, [], _++_, _∷_}
@@ -10,7 +10,7 @@ use Rattle.model.specs.Groups.{Apart, Process, Processes, at, has}
 use Rattle.model.specs.Words.{Equivalent, Located, keep, project, removeFirst, startsWith, tops}
 use Rattle.model.proofs.Tests.{by-test, every-at, every-of, implied, implies}
 
--- w is u a v where no task of u shares a station with a, and x is u v
+-- w is u a v where no letter of u shares a process with a, and x is u v
 pub data Pick (loc : ℕ → Processes) (a : ℕ) : List ℕ → List ℕ → Type 0 where
   here : {b : ℕ} {w : List ℕ} → b ≡ a → Pick loc a (b ∷ w) w
   there : {b : ℕ} {w x : List ℕ} → Apart (loc a) (loc b) → Pick loc a w x → Pick loc a (b ∷ w) (b ∷ x)
@@ -102,6 +102,6 @@ pub equivalent-nil : (loc : ℕ → Processes) → Located loc → (w : List ℕ
 equivalent-nil loc ne [] s = refl
 equivalent-nil loc ne (a ∷ w) s = absurd (let (i, m) = ne a in let z : _≡_ {A = ℕ} 0 1 = cc (m, s i) in omega arith)
 
--- the pile under a that two equal words leave is the same for every station
+-- the word under a that two equal words leave is the same for every process
 pub equivalent-pick : {loc : ℕ → Processes} {a : ℕ} {w x : List ℕ} (y : List ℕ) → Pick loc a w x → Equivalent loc w (a ∷ y) → Equivalent loc x y
 equivalent-pick {loc} {a} {w} {x} y p s = equivalent-cancel loc a x y (λ i. sym (pick-equivalent p i) ∙ s i)

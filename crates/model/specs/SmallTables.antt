@@ -71,6 +71,16 @@ doubling =
     ∷ 3 ∷ 2 ∷ 0 ∷ 255 ∷ 255 ∷ 255 ∷ 0 ∷ 255 ∷ 255 ∷ 255 ∷ 0 ∷ 255 ∷ 255 ∷ 255 ∷ 255
     ∷ 5 ∷ 0 ∷ 255 ∷ 255 ∷ 255 ∷ 6 ∷ 0 ∷ 255 ∷ 255 ∷ 255 ∷ 7 ∷ 0 ∷ 8 ∷ []
 
+-- one station, one state, tasks 0 to 2, rules 0 and 1 on task 0 write 1 and 2, rules 2 and 3 take these away, state 0 accepting, pile 0
+abbrev pub choice : List ℕ
+choice =
+    1 ∷ 1 ∷ 1 ∷ 2 ∷ 1 ∷ 2 ∷ 1 ∷ 2 ∷ 1
+    ∷ 3 ∷ 0 ∷ 0 ∷ 255 ∷ 255 ∷ 255 ∷ 0 ∷ 255 ∷ 255 ∷ 255 ∷ 1 ∷ 1 ∷ 255 ∷ 255 ∷ 255
+    ∷ 3 ∷ 0 ∷ 0 ∷ 255 ∷ 255 ∷ 255 ∷ 0 ∷ 255 ∷ 255 ∷ 255 ∷ 1 ∷ 2 ∷ 255 ∷ 255 ∷ 255
+    ∷ 3 ∷ 1 ∷ 0 ∷ 255 ∷ 255 ∷ 255 ∷ 0 ∷ 255 ∷ 255 ∷ 255 ∷ 0 ∷ 255 ∷ 255 ∷ 255 ∷ 255
+    ∷ 3 ∷ 2 ∷ 0 ∷ 255 ∷ 255 ∷ 255 ∷ 0 ∷ 255 ∷ 255 ∷ 255 ∷ 0 ∷ 255 ∷ 255 ∷ 255 ∷ 255
+    ∷ 5 ∷ 0 ∷ 255 ∷ 255 ∷ 255 ∷ 6 ∷ 0 ∷ 255 ∷ 255 ∷ 255 ∷ 7 ∷ 0 ∷ 8 ∷ []
+
 -- ---- the calls and what they give
 pub record Example : Type 0 where
   pub call : Call
@@ -102,6 +112,13 @@ starred =
     ∷ record { call = asks re-entry 72 34018; result = (7 ∷ 22 ∷ 0 ∷ 0 ∷ 0 ∷ 0 ∷ []) ∷ [] }
     -- doubling: run 0 1 2 2 1 2 2, peak 3
     ∷ record { call = runs doubling 72 34018 7; result = (0 ∷ 0 ∷ 1 ∷ 3 ∷ 3 ∷ 7 ∷ 3 ∷ []) ∷ (0 ∷ 1 ∷ 2 ∷ 2 ∷ 1 ∷ 2 ∷ 2 ∷ []) ∷ [] }
+    -- beside the starred ones: the order 2, 3, 4, 1 of the checks of an item; 16 and 11 of a run; the lowest of two rules as the reason
+    ∷ record { call = asks (9 ∷ []) 72 34018; result = (2 ∷ 0 ∷ 0 ∷ 0 ∷ 0 ∷ 0 ∷ []) ∷ [] }
+    ∷ record { call = asks (2 ∷ []) 72 34018; result = (3 ∷ 0 ∷ 0 ∷ 0 ∷ 0 ∷ 0 ∷ []) ∷ [] }
+    ∷ record { call = asks (1 ∷ 1 ∷ 1 ∷ 1 ∷ 1 ∷ 1 ∷ 1 ∷ 1 ∷ 1 ∷ 1 ∷ 1 ∷ 1 ∷ 1 ∷ []) 72 34018; result = (4 ∷ 12 ∷ 0 ∷ 0 ∷ 0 ∷ 0 ∷ []) ∷ [] }
+    ∷ record { call = runs (head-T ++ rules01-T ++ accepting-T ++ start-T) 72 34018 2; result = (16 ∷ 0 ∷ 0 ∷ 0 ∷ 0 ∷ 0 ∷ 0 ∷ []) ∷ (7 ∷ 7 ∷ []) ∷ [] }
+    ∷ record { call = runs table-T 72 34018 2; result = (11 ∷ 0 ∷ 0 ∷ 0 ∷ 0 ∷ 0 ∷ 0 ∷ []) ∷ (7 ∷ 7 ∷ []) ∷ [] }
+    ∷ record { call = runs choice 72 34018 2; result = (0 ∷ 0 ∷ 1 ∷ 3 ∷ 2 ∷ 2 ∷ 1 ∷ []) ∷ (0 ∷ 2 ∷ []) ∷ [] }
     ∷ []
 
 -- the definitions give each result
