@@ -1,9 +1,12 @@
+-- The theorems about the definitions of specs/, for the crates above. Theorems and Demands have what docs/PROOFS.md names; the files before them
+-- lead there; GreedyPath to Bounds join the definitions with the way the code computes them.
 pub mod Tests
 pub mod Lists
 pub mod Groups
 pub mod Words
 pub mod Paths
 pub mod Steps
+pub mod Peak
 pub mod Acceptance
 pub mod Completeness
 pub mod Soundness
@@ -17,13 +20,12 @@ pub mod Limit
 pub mod FirstCandidates
 pub mod Rounds
 pub mod Reasons
-pub mod EmissionStack
-pub mod GreedyPath
-pub mod UniqueRound
-pub mod CodeTests
-pub mod RoundLoops
-pub mod Bounds
 pub mod Tables
 pub mod Demands
-pub mod Peak
 pub mod Theorems
+pub mod GreedyPath
+pub mod EmissionStack
+pub mod UniqueRound
+pub mod RoundLoops
+pub mod CodeTests
+pub mod Bounds

@@ -1,3 +1,6 @@
+-- The definitions that the contracts cite: what a reader has to believe.
+-- The paper: Groups, Words, Automata, Systems, Saturation. Document 01: Tables, Log, Unfolding, Records, Calls, and SmallTables with its examples.
+-- The claim: Demands.
 pub mod Lists
 pub mod Groups
 pub mod Words
