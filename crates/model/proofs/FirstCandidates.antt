@@ -131,11 +131,11 @@ insert-first k c (d ∷ ds) s = by-test (sameKey (c .key) (d .key))
     (λ m. rw m (sym (first-miss k c (d ∷ ds) m)))))
     (λ m. rw m (ap (cond (sameKey (d .key) k) (some d)) (insert-first k c ds (s .1))))))
 
-abbrev orElse : {A : Type 0} → Option A → Option A → Option A
+abbrev pub orElse : {A : Type 0} → Option A → Option A → Option A
 orElse none o = o
 orElse (some a) o = some a
 
-first-both : (k : Transition) (xs ys : List Candidate) → firstOf k (xs ++ ys) ≡ orElse (firstOf k xs) (firstOf k ys)
+pub first-both : (k : Transition) (xs ys : List Candidate) → firstOf k (xs ++ ys) ≡ orElse (firstOf k xs) (firstOf k ys)
 first-both k [] ys = refl
 first-both k (x ∷ xs) ys = by-test (sameKey (x .key) k) (λ y. rw y) (λ n. rw n (first-both k xs ys))
 

@@ -26,6 +26,8 @@ pub mod Theorems
 pub mod GreedyPath
 pub mod EmissionStack
 pub mod UniqueRound
+pub mod RoundGroups
+pub mod Skipping
 pub mod RoundLoops
 pub mod CodeTests
 pub mod Bounds

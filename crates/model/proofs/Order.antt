@@ -18,7 +18,7 @@ use Rattle.model.proofs.Reachability.{keys-initial}
 use Rattle.model.proofs.Tests.{by-test}
 
 -- ---- lexicographic order
-lex-cases : (a b : ℕ) (as′ bs : List ℕ) → lexLess (a ∷ as′) (b ∷ bs) ≡ true → (a < b) ⊎ ((a ≡ b) × (lexLess as′ bs ≡ true))
+pub lex-cases : (a b : ℕ) (as′ bs : List ℕ) → lexLess (a ∷ as′) (b ∷ bs) ≡ true → (a < b) ⊎ ((a ≡ b) × (lexLess as′ bs ≡ true))
 lex-cases a b as′ bs e = by-test (ltb a b) (λ y. inl (ltb-true a b y)) (λ n. by-test (eqb a b)
     (λ y. inr (eqb-true a b y, rw (n, y) at e))
     (λ m. absurd (let bad : false ≡ true = rw (n, m) at e in false≢true bad)))
@@ -56,6 +56,21 @@ lex-total (x ∷ xs) [] n e = refl
 lex-total (x ∷ xs) (y ∷ ys) n e = by-test (ltb x y) (λ t. absurd (let bad : true ≡ false = rw t at e in true≢false bad)) (λ f. by-test (eqb x y)
     (λ t. lex-eq y x ys xs (sym (eqb-true x y t)) (lex-total xs ys (λ q. n (ap₂ (λ (a : ℕ) (l : List ℕ). a ∷ l) (eqb-true x y t) q)) (rw (f, t) at e)))
     (λ g. lex-lt y x ys xs (let le : y ≤ x = ltb-false x y f in let ne : x ≢ y = eqb-false x y g in omega arith)))
+
+-- equal or not
+pub sameDigits : (xs ys : List ℕ) → (xs ≡ ys) ⊎ (xs ≡ ys → ⊥)
+sameDigits [] [] = inl refl
+sameDigits [] (y ∷ ys) = inr (λ e. let z : _≡_ {A = ℕ} 0 1 = cc in omega arith)
+sameDigits (x ∷ xs) [] = inr (λ e. let z : _≡_ {A = ℕ} 0 1 = cc in omega arith)
+sameDigits (x ∷ xs) (y ∷ ys) = by-test (eqb x y)
+    (λ t. ⊎-elim (λ q. inl (ap₂ (λ (a : ℕ) (l : List ℕ). a ∷ l) (eqb-true x y t) q)) (λ q. inr (λ e. q (tails e))) (sameDigits xs ys))
+    (λ n. inr (λ e. eqb-false x y n (heads e)))
+  where
+    heads : x ∷ xs ≡ y ∷ ys → x ≡ y
+    heads e = cc
+
+    tails : x ∷ xs ≡ y ∷ ys → xs ≡ ys
+    tails e = cc
 
 pub keyDigits-inj : (t u : Transition) → keyDigits t ≡ keyDigits u → t ≡ u
 keyDigits-inj t u e =

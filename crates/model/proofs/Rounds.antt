@@ -31,7 +31,7 @@ added-map sys D E f t a = record { number = a .number; rule = a .rule; is = a .i
 held-added : (sys : System) (k : ℕ) (t : Transition) → Added sys (Held sys k) t → Held sys (suc k) t
 held-added sys k t a = Memᴰ·cast (a .makes) (log-saturates sys .adds k (a .number) (a .rule) (a .is) (a .path) (a .end) (a .goods) (a .reads) (a .along))
 
-each-transitionsAt-held : (log : List Record) (ns : List ℕ) → Each (λ (n : ℕ). n < length log) ns → Each (λ (t : Transition). List·Memᴰ t (keys log)) (transitionsAt log ns)
+pub each-transitionsAt-held : (log : List Record) (ns : List ℕ) → Each (λ (n : ℕ). n < length log) ns → Each (λ (t : Transition). List·Memᴰ t (keys log)) (transitionsAt log ns)
 each-transitionsAt-held log [] e = tt
 each-transitionsAt-held log (n ∷ ns) e = (mem-key log n (e .0), each-transitionsAt-held log ns (e .1))
   where

@@ -9,12 +9,11 @@ use lib.ListN.{length}
 use Rattle.model.specs.Automata.{Transition}
 use Rattle.model.specs.Groups.{at}
 use Rattle.model.specs.Lists.{Each}
-use Rattle.model.specs.Log.{Candidate, Record, additions, candidates, collect, inLog, insert, keyLess, sameKey}
-use Rattle.model.specs.Systems.{System}
+use Rattle.model.specs.Log.{Candidate, Record, collect, inLog, insert, keyLess, sameKey}
 use Rattle.model.proofs.Collecting.{sameKey-of, sameKey-true}
 use Rattle.model.proofs.FirstCandidates.{collect-first, firstOf}
 use Rattle.model.proofs.Lists.{each-map}
-use Rattle.model.proofs.Order.{Less, Sorted, additions-fresh, additions-sorted, less-irrefl, less-total, less-trans}
+use Rattle.model.proofs.Order.{Less, Sorted, collect-fresh, collect-sorted, less-irrefl, less-total, less-trans}
 use Rattle.model.proofs.Tests.{by-test}
 
 -- a key below every key of a sorted list is not in it
@@ -63,24 +62,23 @@ additions-lacks k log (c ∷ cs) e y = by-test (sameKey (c .key) k)
     (λ z. absurd (true≢false (sym y ∙ ap (λ (t : Transition). inLog t log) (sym (sameKey-true (c .key) k z)) ∙ e .0)))
     (λ n. rw n (additions-lacks k log cs (e .1) y))
 
--- what a round has to find, however it goes about it
-pub record Round (sys : System) (log : List Record) (ys : List Candidate) : Type 0 where
+-- what a round has to find among its candidates cs, however it goes about it
+pub record Chosen (log : List Record) (cs ys : List Candidate) : Type 0 where
   pub sorted : Sorted ys
   pub lacks : (k : Transition) → inLog k log ≡ true → firstOf k ys ≡ none
-  pub firsts : (k : Transition) → inLog k log ≡ false → firstOf k ys ≡ firstOf k (candidates (sys .loc) log (sys .rules) 0)
+  pub firsts : (k : Transition) → inLog k log ≡ false → firstOf k ys ≡ firstOf k cs
 
-pub additions-round : (sys : System) (log : List Record) → Round sys log (additions sys log)
-unfolding additions
-additions-round sys log = record {
-  sorted = additions-sorted sys log;
-  lacks = λ k y. additions-lacks k log (additions sys log) (additions-fresh sys log) y;
-  firsts = λ k n. collect-first k log n (candidates (sys .loc) log (sys .rules) 0) [] tt;
+pub collect-chosen : (log : List Record) (cs : List Candidate) → Chosen log cs (collect log cs [])
+collect-chosen log cs = record {
+  sorted = collect-sorted log cs [] tt;
+  lacks = λ k y. additions-lacks k log (collect log cs []) (collect-fresh (λ (c : Candidate). inLog (c .key) log ≡ false) log (λ c n. n) cs [] tt) y;
+  firsts = λ k n. collect-first k log n cs [] tt;
 }
 
-pub round-additions : (sys : System) (log : List Record) (ys : List Candidate) → Round sys log ys → ys ≡ additions sys log
-round-additions sys log ys r =
-    let o = additions-round sys log in
-    sorted-ext ys (additions sys log) (r .sorted) (o .sorted)
+pub chosen-collect : (log : List Record) (cs ys : List Candidate) → Chosen log cs ys → ys ≡ collect log cs []
+chosen-collect log cs ys r =
+    let o = collect-chosen log cs in
+    sorted-ext ys (collect log cs []) (r .sorted) (o .sorted)
     (λ k. by-test (inLog k log) (λ y. r .lacks k y ∙ sym (o .lacks k y)) (λ n. r .firsts k n ∙ sym (o .firsts k n)))
 
 -- ---- room: a round that overflows part way overflows
