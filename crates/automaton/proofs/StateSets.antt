@@ -1,0 +1,230 @@
+-- Laws of sets of state numbers.
+use mathlib.Core.Path.{_≡_, refl, ap, sym, subst, _∙_}
+use mathlib.Core.Bool.{Bool, true, false, _&&_, _||_, true≢false}
+use mathlib.Core.List.{List, [], _∷_, _++_, append-nil}
+use Prim.Native.Nat.{ℕ, zero, suc, _+_, _-_, _*_, _/_, _%_, _^_, _<_, _≤_, max}
+use native.Mathlib.Nat.{div-self, div-eq-of-lt, mod-eq-of-lt, one-mul, mul-mod-left, pow-suc, max-le, max-eq-right, max-zero, zero-div, div-one, div-div-eq-div-mul, mul-comm}
+use native.Mathlib.Decide.{ℕ-discrete, decLt}
+use native.Mathlib.Numerals.{add-one}
+use native.Mathlib.Omega.{arith}
+use lib.Dec.{eqb}
+use lib.Bits.{bitOr, or-shr, or-step}
+use lib.Pow.{pow-pos, pow-lt, pow-add, shl-shr}
+use lib.ListN.{length, getD, set, length-set, drop, drop-of-length-le, replicate}
+use lib.Seq.{getD-set-same, getD-set-other, drop-cons}
+use borrow.Author.Tests.{eq-eqb, eqb-true, eqb-false}
+use Rattle.model.proofs.Tests.{by-test, and-left, and-right, and-both}
+use Rattle.automaton.specs.StateNumbers.{stateCount}
+use Rattle.automaton.specs.StateSets.{member, inserted, noMember, firstFrom, nextMember}
+
+-- ---- a number put in
+-- a one shifted within a byte
+pub one-shifted : (k : ℕ) → k < 8 → 1 * 2 ^ k % 256 ≡ 2 ^ k
+one-shifted k h = rw one-mul (mod-eq-of-lt (pow-lt {j = 8} h))
+
+-- bit j of a or b
+or-bit : (a b j : ℕ) → bitOr a b / 2 ^ j % 2 ≡ max (a / 2 ^ j % 2) (b / 2 ^ j % 2)
+or-bit a b j =
+    let x = a / 2 ^ j in
+    let y = b / 2 ^ j in
+    let m : max (x % 2) (y % 2) ≤ 1 = max-le (omega arith) (omega arith) in
+    ap (λ (n : ℕ). n % 2) (or-shr a b j) ∙ omega (arith, or-step x y)
+
+pow-bit-same : (k : ℕ) → 2 ^ k / 2 ^ k % 2 ≡ 1
+pow-bit-same k = rw (div-self (pow-pos k))
+
+pow-bit-under : (m j : ℕ) → 2 ^ (suc m + j) / 2 ^ j % 2 ≡ 0
+pow-bit-under m j = rw (pow-add 2 (suc m) j, shl-shr (2 ^ suc m) j, pow-suc) (mul-mod-left (2 ^ m) 2)
+
+pow-bit-other : (k j : ℕ) → (j ≡ k → ⊥) → 2 ^ k / 2 ^ j % 2 ≡ 0
+pow-bit-other k j n = elim (decLt k j) [
+  | yes h ↦ rw (div-eq-of-lt (pow-lt h))
+  | no h ↦ subst (λ (i : ℕ). 2 ^ i / 2 ^ j % 2 ≡ 0) (omega arith) (pow-bit-under (k - j - 1) j)
+]
+
+-- a number that was put in is in
+pub member-same : (l : List ℕ) (n : ℕ) → n < 8 * length l → member (inserted l n) n ≡ true
+unfolding member inserted
+member-same l n h =
+    let x = getD l (n / 8) 0 in
+    let k = n % 8 in
+    ap (λ (y : ℕ). eqb (y / 2 ^ k % 2) 1) (getD-set-same l (n / 8) (bitOr x (2 ^ k)) 0 (omega arith))
+    ∙ ap (λ (y : ℕ). eqb y 1) (or-bit x (2 ^ k) k ∙ ap (λ (y : ℕ). max (x / 2 ^ k % 2) y) (pow-bit-same k) ∙ max-eq-right (omega arith))
+
+-- and every other number is in or out as it was
+pub member-other : (l : List ℕ) (n m : ℕ) → n < 8 * length l → (m ≡ n → ⊥) → member (inserted l n) m ≡ member l m
+unfolding member inserted
+member-other l n m h ne =
+    let x = getD l (n / 8) 0 in
+    let k = n % 8 in
+    let v = bitOr x (2 ^ k) in
+    let bit : ℕ → ℕ = λ y. y / 2 ^ (m % 8) % 2 in
+    let same : bit (getD (set l (n / 8) v) (m / 8) 0) ≡ bit (getD l (m / 8) 0) = elim (ℕ-discrete (m / 8) (n / 8)) [
+      | yes e ↦
+          let other : m % 8 ≡ k → ⊥ = λ q. ne (omega arith) in
+          ap (λ (b : ℕ). bit (getD (set l (n / 8) v) b 0)) e
+          ∙ ap bit (getD-set-same l (n / 8) v 0 (omega arith))
+          ∙ or-bit x (2 ^ k) (m % 8)
+          ∙ ap (λ (y : ℕ). max (x / 2 ^ (m % 8) % 2) y) (pow-bit-other k (m % 8) other)
+          ∙ max-zero (x / 2 ^ (m % 8) % 2)
+          ∙ ap (λ (b : ℕ). bit (getD l b 0)) (sym e)
+      | no e ↦ ap bit (getD-set-other l (n / 8) (m / 8) v 0 e)
+    ] in
+    ap (λ (y : ℕ). eqb y 1) same
+
+pub member-inserted : (l : List ℕ) (n m : ℕ) → n < 8 * length l → member (inserted l n) m ≡ eqb m n || member l m
+member-inserted l n m h = by-test (eqb m n)
+    (λ t. rw (t, eqb-true m n t) (member-same l n h))
+    (λ f. rw f (member-other l n m h (eqb-false m n f)))
+
+pub length-inserted : (l : List ℕ) (n : ℕ) → length (inserted l n) ≡ length l
+unfolding inserted
+length-inserted l n = simp length-set
+
+-- ---- no number
+-- no number of a zero byte is in
+pub member-byte : (l : List ℕ) (n : ℕ) → getD l (n / 8) 0 ≡ 0 → member l n ≡ false
+unfolding member
+member-byte l n e = ap (λ (x : ℕ). eqb (x / 2 ^ (n % 8) % 2) 1) e ∙ ap (λ (x : ℕ). eqb (x % 2) 1) (zero-div (2 ^ (n % 8)))
+
+noMember-byte : (l : List ℕ) (i : ℕ) → noMember l ≡ true → getD l i 0 ≡ 0
+unfolding noMember
+noMember-byte [] i e = refl
+noMember-byte (x ∷ l) zero e = eqb-true x 0 (and-left (eqb x 0) (noMember l) e)
+noMember-byte (x ∷ l) (suc i) e = noMember-byte l i (and-right (eqb x 0) (noMember l) e)
+
+-- no number is in a set that is said to have none
+pub noMember-none : (l : List ℕ) (n : ℕ) → noMember l ≡ true → member l n ≡ false
+noMember-none l n e = member-byte l n (noMember-byte l (n / 8) e)
+
+-- a byte without a bit is zero
+no-bit : (k x : ℕ) → x < 2 ^ k → ((j : ℕ) → j < k → x / 2 ^ j % 2 ≡ 0) → x ≡ 0
+no-bit zero x h f = omega arith
+no-bit (suc k) x h f =
+    let low : x % 2 ≡ 0 = subst (λ (y : ℕ). y % 2 ≡ 0) (div-one x) (f 0 (omega arith)) in
+    let less : x / 2 < 2 ^ k = omega (arith, pow-suc 2 k) in
+    let high : x / 2 ≡ 0 = no-bit k (x / 2) less half in
+    omega arith
+  where
+    half : (j : ℕ) → j < k → x / 2 / 2 ^ j % 2 ≡ 0
+    half j q =
+        let e : 2 * 2 ^ j ≡ 2 ^ suc j = mul-comm 2 (2 ^ j) ∙ sym (pow-suc 2 j) in
+        ap (λ (y : ℕ). y % 2) (div-div-eq-div-mul x 2 (2 ^ j)) ∙ ap (λ (y : ℕ). x / y % 2) e ∙ f (suc j) (omega arith)
+
+member-first : (x : ℕ) (l : List ℕ) (j : ℕ) → j < 8 → member (x ∷ l) j ≡ false → x / 2 ^ j % 2 ≡ 0
+unfolding member
+member-first x l j h f =
+    let a : j / 8 ≡ 0 = omega arith in
+    let b : j % 8 ≡ j = omega arith in
+    let ne : x / 2 ^ j % 2 ≡ 1 → ⊥ = eqb-false (x / 2 ^ j % 2) 1 (rw (a, b) at f) in
+    omega arith
+
+member-rest : (x : ℕ) (l : List ℕ) (n : ℕ) → member (x ∷ l) (8 + n) ≡ member l n
+unfolding member
+member-rest x l n =
+    let a : (8 + n) / 8 ≡ suc (n / 8) = omega arith in
+    let b : (8 + n) % 8 ≡ n % 8 = omega arith in
+    rw (a, b)
+
+-- a set of bytes that has no number is said to have none
+pub noMember-of : (l : List ℕ) → ((i : ℕ) → getD l i 0 < 256) → ((n : ℕ) → n < 8 * length l → member l n ≡ false) → noMember l ≡ true
+unfolding noMember
+noMember-of [] b f = refl
+noMember-of (x ∷ l) b f =
+    and-both (eqb x 0) (noMember l)
+    (eq-eqb x 0 (no-bit 8 x (b 0) (λ j h. member-first x l j h (f j (omega arith)))))
+    (noMember-of l (λ i. b (suc i)) (λ n h. sym (member-rest x l n) ∙ f (8 + n) (omega arith)))
+
+pub noMember-zeros : (k : ℕ) → noMember (replicate k 0) ≡ true
+unfolding noMember
+noMember-zeros zero = refl
+noMember-zeros (suc k) = noMember-zeros k
+
+-- nothing is in a zero set
+pub member-zeros : (k n : ℕ) → member (replicate k 0) n ≡ false
+member-zeros k n = noMember-none (replicate k 0) n (noMember-zeros k)
+
+-- the test of a list from i on: its element there, and the rest
+pub noMember-at : (l : List ℕ) (i : ℕ) → i < length l → noMember (drop i l) ≡ eqb (getD l i 0) 0 && noMember (drop (i + 1) l)
+unfolding noMember
+noMember-at l i h = rw (add-one, drop-cons l i 0)
+
+pub noMember-end : (l : List ℕ) (i : ℕ) → length l ≤ i → noMember (drop i l) ≡ true
+unfolding noMember
+noMember-end l i h = ap noMember (drop-of-length-le l h)
+
+-- a list that is filled to its end
+pub fill-end : (d : List ℕ) (v i : ℕ) → i ≤ length d → length d ≤ i → replicate i v ++ drop i d ≡ replicate (length d) v
+fill-end d v i h k =
+    let e : i ≡ length d = omega arith in
+    ap (λ (l : List ℕ). replicate i v ++ l) (drop-of-length-le d {i = i} k) ∙ append-nil (replicate i v) ∙ ap (λ (n : ℕ). replicate n v) e
+
+-- ---- the first number that passes a test
+-- none from n on and below m passes
+abbrev pub Fails : (ℕ → Bool) → ℕ → ℕ → Type 0
+Fails test n m = (j : ℕ) → n ≤ j → j < m → test j ≡ false
+
+pub fails-none : (test : ℕ → Bool) (n : ℕ) → Fails test n n
+fails-none test n j h q = absurd (omega arith)
+
+pub fails-join : (test : ℕ → Bool) (n m k : ℕ) → Fails test n m → Fails test m k → Fails test n k
+fails-join test n m k f g j h q = elim (decLt j m) [ yes l ↦ f j h l | no l ↦ g j (omega arith) q ]
+
+pub fails-one : (test : ℕ → Bool) (n : ℕ) → test n ≡ false → Fails test n (n + 1)
+fails-one test n f j h q =
+    let e : j ≡ n = omega arith in
+    ap test e ∙ f
+
+-- what is known of the first number: it lies within, it passes unless it is the end, and none before it passes
+pub record First (test : ℕ → Bool) (n k r : ℕ) : Type 0 where
+  pub low : n ≤ r
+  pub high : r ≤ n + k
+  pub passes : r < n + k → test r ≡ true
+  pub fails : Fails test n r
+
+pub first-of : (test : ℕ → Bool) (n k : ℕ) → First test n k (firstFrom test n k)
+unfolding firstFrom
+first-of test n zero = record { low = omega arith; high = omega arith; passes = λ h. absurd (omega arith); fails = fails-none test n }
+first-of test n (suc k) = by-test (test n) (λ t. rw t (here t)) (λ f. rw f (later f (first-of test (suc n) k)))
+  where
+    here : test n ≡ true → First test n (suc k) n
+    here t = record { low = omega arith; high = omega arith; passes = λ h. t; fails = fails-none test n }
+
+    later : {r : ℕ} → test n ≡ false → First test (suc n) k r → First test n (suc k) r
+    later {r} f w = record {
+      low = omega (arith, w .low);
+      high = omega (arith, w .high);
+      passes = λ h. w .passes (omega arith);
+      fails = fails-join test n (suc n) r (rw add-one at (fails-one test n f)) (w .fails);
+    }
+
+-- a number of which that is known is the first
+pub first-is : (test : ℕ → Bool) (n k r : ℕ) → First test n k r → r ≡ firstFrom test n k
+first-is test n k r a =
+    let s = firstFrom test n k in
+    let b = first-of test n k in
+    elim (decLt r s) [
+      | yes h ↦ absurd (true≢false (sym (a .passes (omega (arith, b .high))) ∙ b .fails r (a .low) h))
+      | no h ↦ elim (decLt s r) [
+        | yes q ↦ absurd (true≢false (sym (b .passes (omega (arith, a .high))) ∙ a .fails s (b .low) q))
+        | no q ↦ omega arith
+      ]
+    ]
+
+pub first-at : (test : ℕ → Bool) (n k r : ℕ) → r ≡ firstFrom test n k → First test n k r
+first-at test n k r e = subst (λ (x : ℕ). First test n k x) (sym e) (first-of test n k)
+
+-- the next member is the first number at or after `from` that is in
+pub next-at : (l : List ℕ) (from r : ℕ) → r ≡ nextMember l from → First (member l) from (stateCount - from) r
+unfolding nextMember
+next-at l from r e = first-at (member l) from (stateCount - from) r e
+
+pub next-is : (l : List ℕ) (from r : ℕ) → First (member l) from (stateCount - from) r → r ≡ nextMember l from
+unfolding nextMember
+next-is l from r w = first-is (member l) from (stateCount - from) r w
+
+-- no number of a zero byte is in
+pub fails-byte : (l : List ℕ) (n : ℕ) → getD l (n / 8) 0 ≡ 0 → Fails (member l) n (n - n % 8 + 8)
+fails-byte l n e j h q =
+    let same : j / 8 ≡ n / 8 = omega arith in
+    member-byte l j (ap (λ (i : ℕ). getD l i 0) same ∙ e)

@@ -1,0 +1,54 @@
+use mathlib.Core.Path.{_≡_, refl, _∙_}
+use mathlib.Core.List.{_++_}
+use Prim.Native.Nat.{_≤_, _-_}
+use lib.ListN.{drop, replicate, length, length-set}
+use borrow.Author.Fill.{fill-more}
+use Rattle.automaton.proofs.StateSets.{fill-end}
+use native.Mathlib.Omega.{arith}
+use Rattle.automaton.proofs.sets.clear.Statement.{statement}
+use Rattle.automaton.proofs.sets.clear.Tie as tie
+
+abbrev Inv-loop : tie.InvT-loop
+Inv-loop buffer₀ i₀ buffer i = (i ≤ length buffer₀) × (length buffer ≡ length buffer₀) × (buffer ≡ replicate i 0 ++ drop i buffer₀)
+
+abbrev μ-loop : tie.MeasureT-loop
+μ-loop buffer₀ i₀ buffer i = length buffer₀ - i
+
+loop-holds : tie.Need-loop-holds Inv-loop μ-loop
+loop-holds c = (omega arith, refl, refl)
+
+slice-write-buffer : tie.Need-slice-write-buffer Inv-loop μ-loop
+slice-write-buffer c = omega arith
+
+add-i : tie.Need-add-i Inv-loop μ-loop
+add-i c = omega arith
+
+loop-less : tie.Need-loop-less Inv-loop μ-loop
+loop-less c = omega arith
+
+loop-again : tie.Need-loop-again Inv-loop μ-loop
+loop-again c =
+    let m = c .before .loop in
+    (omega arith, simp length-set (m .inv .1), rw (m .inv .2) (fill-more (m .i) 0 _ (omega arith)))
+
+same-length : tie.Need-same-length Inv-loop μ-loop
+same-length c = c .before .loop .inv .1
+
+returns : tie.Need-returns Inv-loop μ-loop
+returns c =
+    let m = c .before .loop in
+    m .inv .2 ∙ fill-end (c .before .before .args .buffer .now) 0 (m .i) (omega arith) (omega arith)
+
+pub clear-spec : {M : Type 1} → statement M
+clear-spec =
+    tie.close
+    (tie.spec
+    Inv-loop
+    μ-loop
+    loop-holds
+    slice-write-buffer
+    add-i
+    loop-less
+    loop-again
+    same-length
+    returns)

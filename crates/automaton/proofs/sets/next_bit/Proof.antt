@@ -1,0 +1,63 @@
+use mathlib.Core.Path.{sym, _∙_}
+use Prim.Native.Nat.{_≤_, _-_, _+_, _%_}
+use Rattle.automaton.specs.StateSets.{member}
+use Rattle.automaton.proofs.StateSets.{Fails, fails-none, fails-one, fails-join, first-is}
+use native.Mathlib.Omega.{arith}
+use Rattle.automaton.proofs.sets.next_bit.Statement.{statement}
+use Rattle.automaton.proofs.sets.next_bit.Tie as tie
+
+abbrev Inv-loop : tie.InvT-loop
+Inv-loop members n end m₀ m = (n ≤ m) × (m ≤ end) × Fails (member members) n m
+
+abbrev μ-loop : tie.MeasureT-loop
+μ-loop members n end m₀ m = end - m
+
+byte-end-requires : tie.Need-byte-end-requires Inv-loop μ-loop
+byte-end-requires c κs = omega arith
+
+loop-holds : tie.Need-loop-holds Inv-loop μ-loop
+loop-holds c = let a = c .before .before .args in (omega arith, omega arith, fails-none (member (a .members .now)) (a .n))
+
+contains-requires : tie.Need-contains-requires Inv-loop μ-loop
+contains-requires c κs = omega arith
+
+returns : tie.Need-returns Inv-loop μ-loop
+returns c =
+    let a = c .before .before .before .before .before .before .args in
+    let m = c .before .before .before .loop in
+    let t = sym (c .before .contains .ensures) ∙ c .if1 .taken in
+    first-is (member (a .members .now)) (a .n) (8 - a .n % 8) (m .m) (record { low = m .inv .0; high = omega arith; passes = λ h. t; fails = m .inv .2 })
+
+add-m : tie.Need-add-m Inv-loop μ-loop
+add-m c = omega arith
+
+loop-less : tie.Need-loop-less Inv-loop μ-loop
+loop-less c = omega arith
+
+loop-again : tie.Need-loop-again Inv-loop μ-loop
+loop-again c =
+    let a = c .before .before .before .before .before .before .args in
+    let m = c .before .before .before .loop in
+    let f = sym (c .before .contains .ensures) ∙ c .if1 .left in
+    (omega arith, omega arith, fails-join (member (a .members .now)) (a .n) (m .m) (m .m + 1) (m .inv .2) (fails-one (member (a .members .now)) (m .m) f))
+
+returns-2 : tie.Need-returns-2 Inv-loop μ-loop
+returns-2 c =
+    let a = c .before .before .before .before .args in
+    let m = c .before .loop in
+    first-is (member (a .members .now)) (a .n) (8 - a .n % 8) (m .m) (record { low = m .inv .0; high = omega arith; passes = λ h. absurd (omega arith); fails = m .inv .2 })
+
+pub next-bit-spec : {M : Type 1} → statement M
+next-bit-spec =
+    tie.close
+    (tie.spec
+    Inv-loop
+    μ-loop
+    byte-end-requires
+    loop-holds
+    contains-requires
+    returns
+    add-m
+    loop-less
+    loop-again
+    returns-2)

@@ -1,0 +1,33 @@
+-- Sets of state numbers as bits of a list of bytes: the number n is bit n % 8 of byte n / 8.
+use mathlib.Core.Bool.{Bool, cond}
+use mathlib.Core.List.{List}
+use Prim.Native.Nat.{ℕ, zero, suc, _-_, _/_, _%_, _^_}
+use lib.Bits.{bitOr}
+use lib.Dec.{eqb}
+use lib.ListN.{getD, set}
+use Rattle.model.specs.Lists.{allOf}
+use Rattle.automaton.specs.StateNumbers.{stateCount}
+
+-- how many bytes a set of all state numbers takes
+abbrev pub setLength : ℕ
+setLength = 512
+
+unfoldable pub member : List ℕ → ℕ → Bool
+member l n = eqb (getD l (n / 8) 0 / 2 ^ (n % 8) % 2) 1
+
+-- the set with one number more
+unfoldable pub inserted : List ℕ → ℕ → List ℕ
+inserted l n = set l (n / 8) (bitOr (getD l (n / 8) 0) (2 ^ (n % 8)))
+
+-- the set has no number
+unfoldable pub noMember : List ℕ → Bool
+noMember l = allOf (λ x. eqb x 0) l
+
+-- the first of the k numbers from n on that passes the test, or n + k
+unfoldable pub firstFrom : (ℕ → Bool) → ℕ → ℕ → ℕ
+firstFrom test n zero = n
+firstFrom test n (suc k) = cond (test n) n (firstFrom test (suc n) k)
+
+-- the least member at or after a number, or the number of state numbers
+unfoldable pub nextMember : List ℕ → ℕ → ℕ
+nextMember l from = firstFrom (member l) from (stateCount - from)

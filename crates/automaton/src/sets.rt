@@ -1,0 +1,97 @@
+// Sets of state numbers in lent bytes, eight numbers to a byte.
+ghost use mathlib.Core.Path.{_≡_};
+ghost use Prim.Native.Nat.{_+_, _*_, _-_, _%_, _<_, _≤_};
+ghost use lib.ListN.{length};
+ghost use Rattle.model.specs.Calls.{zeros};
+ghost use Rattle.automaton.specs.StateNumbers.{stateCount};
+ghost use Rattle.automaton.specs.StateSets.{setLength, member, inserted, noMember, firstFrom, nextMember};
+
+pub fn contains(members: &[u8], n: usize) -> bool
+    requires { ⌜ n < 8 * length (now members) ⌝ }
+    ensures { λ r. ⌜ r ≡ member (now (members .entry)) n ⌝ }
+{
+    (members[n / 8] >> (n % 8)) % 2 == 1
+}
+
+pub fn insert(members: &mut [u8], n: usize)
+    requires { ⌜ n < 8 * length (now members) ⌝ }
+    ensures { λ _. ⌜ now (members .exit) ≡ inserted (now (members .entry)) n ⌝ }
+{
+    let at = n / 8;
+    members[at] = members[at] | (1 << (n % 8));
+}
+
+pub fn clear(buffer: &mut [u8])
+    ensures { λ _. ⌜ now (buffer .exit) ≡ zeros (now (buffer .entry)) ⌝ }
+{
+    let mut i = 0;
+    while i < buffer.len() {
+        buffer[i] = 0;
+        i += 1;
+    }
+}
+
+pub fn is_empty(members: &[u8]) -> bool
+    ensures { λ r. ⌜ r ≡ noMember (now (members .entry)) ⌝ }
+{
+    let mut i = 0;
+    while i < members.len() {
+        if members[i] != 0 {
+            return false;
+        }
+        i += 1;
+    }
+    true
+}
+
+// The first number after those of n's byte.
+fn byte_end(n: usize) -> usize
+    requires { ⌜ n < stateCount ⌝ }
+    ensures { λ r. ⌜ r ≡ n - n % 8 + 8 ⌝ }
+{
+    n - n % 8 + 8
+}
+
+// The first member at or after n among the numbers of n's byte, or the first number after them, bit by bit.
+fn next_bit(members: &[u8], n: usize) -> usize
+    requires { ⌜ (n < stateCount) × (setLength ≤ length (now members)) ⌝ }
+    ensures { λ r. ⌜ r ≡ firstFrom (member (now (members .entry))) n (8 - n % 8) ⌝ }
+{
+    let end = byte_end(n);
+    let mut m = n;
+    while m < end {
+        if contains(members, m) {
+            return m;
+        }
+        m += 1;
+    }
+    m
+}
+
+// The same, at once where the byte is zero.
+fn next_in_byte(members: &[u8], n: usize) -> usize
+    requires { ⌜ (n < stateCount) × (setLength ≤ length (now members)) ⌝ }
+    ensures { λ r. ⌜ r ≡ firstFrom (member (now (members .entry))) n (8 - n % 8) ⌝ }
+{
+    if members[n / 8] == 0 {
+        return byte_end(n);
+    }
+    next_bit(members, n)
+}
+
+// The least member at or after from, or 4096. A zero byte costs one step.
+pub fn next_member(members: &[u8], from: usize) -> usize
+    requires { ⌜ (from ≤ stateCount) × (setLength ≤ length (now members)) ⌝ }
+    ensures { λ r. ⌜ r ≡ nextMember (now (members .entry)) from ⌝ }
+{
+    let mut n = from;
+    while n < 4096 {
+        let m = next_in_byte(members, n);
+        let end = byte_end(n);
+        if m < end {
+            return m;
+        }
+        n = end;
+    }
+    n
+}

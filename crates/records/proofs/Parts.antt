@@ -1,0 +1,37 @@
+-- Parts of a lent slice: written from end to end, and handed back.
+use mathlib.Core.Path.{_≡_, refl, ap, sym, _∙_}
+use mathlib.Core.List.{List, [], _++_, append-nil, append-assoc}
+use Prim.Native.Nat.{ℕ, _+_, _-_, _≤_}
+use native.Mathlib.Omega.{arith}
+use lib.ListN.{length, take, drop, length-append, length-drop, drop-of-length-le}
+use lib.Seq.{sets, sets-eq, take-at, drop-at, drop-drop, take-all}
+
+-- stores at 0, 1, .. to the end of a list are the list of what is stored
+pub all-set : (vs l : List ℕ) → length l ≡ length vs → sets l 0 vs ≡ vs
+all-set vs l e =
+    let h : 0 + length vs ≤ length l = omega arith in
+    sets-eq vs l 0 h ∙ ap (λ (d : List ℕ). vs ++ d) (drop-of-length-le l {i = 0 + length vs} (omega arith)) ∙ append-nil vs
+
+-- q has the a bytes pre, and then what l has from there on
+pub record Front (pre l : List ℕ) (a : ℕ) (q : List ℕ) : Type 0 where
+  pub same : q ≡ pre ++ drop a l
+  pub size : length pre ≡ a
+
+pub front-none : (l : List ℕ) → Front [] l 0 l
+front-none l = record { same = refl; size = refl }
+
+-- the next k bytes, lent to a writer of bs, come back as ys
+pub front-more : {pre l q ys bs : List ℕ} {a : ℕ} (k : ℕ) → Front pre l a q → ys ≡ bs → length bs ≡ k
+    → Front (pre ++ bs) l (a + k) (take a q ++ (ys ++ drop k (drop a q)))
+front-more {pre} {l} {q} {ys} {bs} {a} k w e n = record {
+  same = rw (w .same, e, take-at pre (drop a l) a (w .size), drop-at pre (drop a l) a (w .size), drop-drop k a l) (sym (append-assoc pre bs (drop (a + k) l)));
+  size = length-append pre bs ∙ omega (arith, w .size);
+}
+
+-- a slice after a part from a to its end came back: the part takes the place of the rest
+pub part-back : (l ys : List ℕ) (a : ℕ) → take a l ++ (ys ++ drop (length l - a) (drop a l)) ≡ take a l ++ ys
+part-back l ys a = rw (drop-of-length-le (drop a l) {i = length l - a} (omega (arith, length-drop a l)), append-nil ys)
+
+-- the part from a to the end, as a call is handed it
+pub part-rest : (l : List ℕ) (a : ℕ) → take (length l - a) (drop a l) ≡ drop a l
+part-rest l a = take-all (length l - a) (drop a l) (omega (arith, length-drop a l))

@@ -1,0 +1,49 @@
+use mathlib.Core.Path.{_≡_, ap}
+use Prim.Native.Nat.{ℕ, suc, _+_}
+use lib.ListN.{getD}
+use native.Mathlib.Omega.{arith}
+use borrow.Author.Needs.{needs}
+use Rattle.records.proofs.two_at.Statement.{statement}
+use Rattle.records.proofs.two_at.Tie as tie
+
+shared-slice-read-as-u16 : tie.Need-shared-slice-read-as-u16
+shared-slice-read-as-u16 c = search needs
+
+as-u16-requires : tie.Need-as-u16-requires
+as-u16-requires c κs = search needs
+
+add-as-u16 : tie.Need-add-as-u16
+add-as-u16 c = search needs
+
+shared-slice-read-as-u16-2 : tie.Need-shared-slice-read-as-u16-2
+shared-slice-read-as-u16-2 c = search needs
+
+as-u16-requires-2 : tie.Need-as-u16-requires-2
+as-u16-requires-2 c κs = search needs
+
+mul-result : tie.Need-mul-result
+mul-result c = search needs
+
+add-result : tie.Need-add-result
+add-result c = search needs
+
+returns : tie.Need-returns
+returns c =
+    let a = c .before .before .before .before .before .args in
+    let l = a .s .now in
+    let next : a .i + 1 ≡ suc (a .i) = omega arith in
+    let second : getD l (a .i + 1) 0 ≡ getD l (suc (a .i)) 0 = ap (λ (i : ℕ). getD l i 0) next in
+    omega arith
+
+pub two-at-spec : {M : Type 1} → statement M
+two-at-spec =
+    tie.close
+    (tie.spec
+    shared-slice-read-as-u16
+    as-u16-requires
+    add-as-u16
+    shared-slice-read-as-u16-2
+    as-u16-requires-2
+    mul-result
+    add-result
+    returns)

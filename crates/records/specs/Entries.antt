@@ -1,0 +1,114 @@
+-- Records of the log as the code holds them, and where their fields stand in the log's bytes.
+use mathlib.Core.Path.{_≡_}
+use mathlib.Core.List.{List, [], _∷_, _++_}
+use Prim.Native.Nat.{ℕ, zero, suc, _+_, _*_, _^_, _<_, _≤_}
+use lib.ListN.{length, getD, take, drop}
+use Rattle.model.specs.declared.Group.{Group}
+use Rattle.model.specs.Groups.{Process, at}
+use Rattle.model.specs.Lists.{Each}
+use Rattle.model.specs.Tables.{writtenPlaces}
+use Rattle.model.specs.Log.{Record, noNumber}
+use Rattle.model.specs.Records.{recordLength, littleEndian, groupBytes, pathBytes}
+use Rattle.records.specs.declared.Entry.{Entry}
+
+-- ---- writing
+-- a number of a path, or FFFF past its end
+abbrev pub pathPlace : List ℕ → ℕ → ℕ
+pathPlace path j = getD path j noNumber
+
+unfoldable pub recordEntry : Record → Entry
+recordEntry r = record {
+  letter = r .key .letter;
+  before = r .key .before;
+  after = r .key .after;
+  round = r .round;
+  rule = r .rule;
+  p0 = pathPlace (r .path) 0;
+  p1 = pathPlace (r .path) 1;
+  p2 = pathPlace (r .path) 2;
+  p3 = pathPlace (r .path) 3;
+  steps = r .steps;
+}
+
+abbrev pub entryPlaces : Entry → List ℕ
+entryPlaces e = e .p0 ∷ e .p1 ∷ e .p2 ∷ e .p3 ∷ []
+
+unfoldable pub entryBytes : Entry → List ℕ
+entryBytes e =
+    e .letter ∷ groupBytes (e .before) ++ groupBytes (e .after)
+    ++ littleEndian 2 (e .round) ++ littleEndian 2 (e .rule) ++ pathBytes writtenPlaces (entryPlaces e) ++ littleEndian 3 (e .steps)
+
+-- the log has room for a record n
+abbrev pub HasRecord : List ℕ → ℕ → Type 0
+HasRecord log n = n * recordLength + recordLength ≤ length log
+
+-- the log with a record n
+unfoldable pub withEntry : List ℕ → ℕ → Entry → List ℕ
+withEntry log n e = take (n * recordLength) log ++ (entryBytes e ++ drop recordLength (drop (n * recordLength) log))
+
+-- ---- reading
+-- the number that so many bytes from an offset on stand for, the low one first
+abbrev pub numberAt : ℕ → List ℕ → ℕ → ℕ
+numberAt zero l i = 0
+numberAt (suc k) l i = getD l i 0 + 256 * numberAt k l (suc i)
+
+unfoldable pub groupAt : List ℕ → ℕ → Group
+groupAt l i = record { s0 = getD l i 0; s1 = getD l (i + 1) 0; s2 = getD l (i + 2) 0; s3 = getD l (i + 3) 0 }
+
+unfoldable pub letterAt : List ℕ → ℕ → ℕ
+letterAt log n = getD log (n * recordLength) 0
+
+unfoldable pub beforeAt : List ℕ → ℕ → Group
+beforeAt log n = groupAt log (n * recordLength + 1)
+
+unfoldable pub afterAt : List ℕ → ℕ → Group
+afterAt log n = groupAt log (n * recordLength + 5)
+
+unfoldable pub roundAt : List ℕ → ℕ → ℕ
+roundAt log n = numberAt 2 log (n * recordLength + 9)
+
+unfoldable pub ruleAt : List ℕ → ℕ → ℕ
+ruleAt log n = numberAt 2 log (n * recordLength + 11)
+
+-- path place j
+unfoldable pub placeAt : List ℕ → ℕ → ℕ → ℕ
+placeAt log n j = numberAt 2 log (n * recordLength + (13 + 2 * j))
+
+unfoldable pub stepsAt : List ℕ → ℕ → ℕ
+stepsAt log n = numberAt 3 log (n * recordLength + (13 + 2 * writtenPlaces))
+
+unfoldable pub entryAt : List ℕ → ℕ → Entry
+entryAt log n = record {
+  letter = letterAt log n;
+  before = beforeAt log n;
+  after = afterAt log n;
+  round = roundAt log n;
+  rule = ruleAt log n;
+  p0 = placeAt log n 0;
+  p1 = placeAt log n 1;
+  p2 = placeAt log n 2;
+  p3 = placeAt log n 3;
+  steps = stepsAt log n;
+}
+
+-- ---- the numbers of a record fit the bytes that they are written in
+pub record Fits (r : Record) : Type 0 where
+  pub letter : r .key .letter < 256
+  pub before : (i : Process) → at (r .key .before) i < 256
+  pub after : (i : Process) → at (r .key .after) i < 256
+  pub round : r .round < 65536
+  pub rule : r .rule < 65536
+  pub short : length (r .path) ≤ writtenPlaces
+  pub path : Each (λ (m : ℕ). m < 65536) (r .path)
+  pub steps : r .steps < 2 ^ 24
+
+-- what the readers of record n give are the fields of r
+pub record Reads (log : List ℕ) (n : ℕ) (r : Record) : Type 0 where
+  pub letter : letterAt log n ≡ r .key .letter
+  pub before : beforeAt log n ≡ r .key .before
+  pub after : afterAt log n ≡ r .key .after
+  pub round : roundAt log n ≡ r .round
+  pub rule : ruleAt log n ≡ r .rule
+  pub place : (j : ℕ) → j < writtenPlaces → placeAt log n j ≡ pathPlace (r .path) j
+  pub steps : stepsAt log n ≡ r .steps
+  pub entry : entryAt log n ≡ recordEntry r
