@@ -50,13 +50,13 @@ candidatesOf loc log ok [] n = []
 candidatesOf loc log ok (r ∷ rs) n = cond (ok r) (map (candidate loc r n) (paths loc log (r .written) (r .after))) [] ++ candidatesOf loc log ok rs (suc n)
 
 -- rules without a candidate for a key do not matter for it
-pub first-of : (loc : ℕ → Processes) (log : List Record) (ok : Rule → Bool) (k : Transition) (rs : List Rule) (n : ℕ)
+pub first-chosen : (loc : ℕ → Processes) (log : List Record) (ok : Rule → Bool) (k : Transition) (rs : List Rule) (n : ℕ)
     → Each (λ (r : Rule). ok r ≡ false → (m : ℕ) → firstOf k (map (candidate loc r m) (paths loc log (r .written) (r .after))) ≡ none) rs
     → firstOf k (candidatesOf loc log ok rs n) ≡ firstOf k (candidates loc log rs n)
-first-of loc log ok k [] n e = refl
-first-of loc log ok k (r ∷ rs) n e =
+first-chosen loc log ok k [] n e = refl
+first-chosen loc log ok k (r ∷ rs) n e =
     first-both k (cond (ok r) (map (candidate loc r n) (paths loc log (r .written) (r .after))) []) (candidatesOf loc log ok rs (suc n))
-    ∙ ap₂ orElse front (first-of loc log ok k rs (suc n) (e .1))
+    ∙ ap₂ orElse front (first-chosen loc log ok k rs (suc n) (e .1))
     ∙ sym (first-both k (map (candidate loc r n) (paths loc log (r .written) (r .after))) (candidates loc log rs (suc n)))
   where
     front : firstOf k (cond (ok r) (map (candidate loc r n) (paths loc log (r .written) (r .after))) []) ≡ firstOf k (map (candidate loc r n) (paths loc log (r .written) (r .after)))
@@ -199,7 +199,7 @@ module _ (sys : System) (log : List Record) (ok : Rule → Bool)
   group-same a b k same = by-test (inLog k log)
       (λ y. collect-chosen log (candidatesOf (sys .loc) log (λ r. ok r && isHead a b r) (sys .rules) 0) .lacks k y ∙ sym (collect-chosen log (candidates (sys .loc) log (sys .rules) 0) .lacks k y))
       (λ n. collect-chosen log (candidatesOf (sys .loc) log (λ r. ok r && isHead a b r) (sys .rules) 0) .firsts k n
-      ∙ first-of (sys .loc) log (λ r. ok r && isHead a b r) k (sys .rules) 0
+      ∙ first-chosen (sys .loc) log (λ r. ok r && isHead a b r) k (sys .rules) 0
       (each-map (λ (r : Rule). ok r ≡ false → (p : Path) → List·Memᴰ p (paths (sys .loc) log (r .written) (r .after)) → inLog (added (sys .loc) r (p .end)) log ≡ true)
       (λ (r : Rule). (ok r && isHead a b r) ≡ false → (m : ℕ) → firstOf k (map (candidate (sys .loc) r m) (paths (sys .loc) log (r .written) (r .after))) ≡ none)
       (λ r held e m. by-test (ok r)

@@ -1,0 +1,89 @@
+-- Laws of the bodies at computed places.
+use mathlib.Core.Path.{_≡_, refl, sym, ap, _∙_}
+use mathlib.Core.Bool.{Bool, true, false, _||_}
+use mathlib.Core.List.{List, [], _∷_, _++_}
+use Prim.Native.Nat.{ℕ, zero, suc, _+_, _-_, _*_, _<_, _≤_, min}
+use native.Mathlib.Nat.{not-suc-le-zero, le-of-suc-le-suc, suc-mul, zero-mul}
+use native.Mathlib.Numerals.{add-one}
+use native.Mathlib.Omega.{arith}
+use lib.ListN.{length, getD, take, drop, length-take, length-drop, List·getD-eq-default}
+use lib.Seq.{getD-take, getD-drop}
+use Rattle.model.specs.Lists.{anyOf}
+use Rattle.model.specs.Tables.{byteOf, absent, sameBytes}
+use Rattle.table.specs.Places.{bodyAt, bodiesAt}
+
+pub body-length : (bytes : List ℕ) (size place : ℕ) → place + 1 + size ≤ length bytes → length (bodyAt bytes size place) ≡ size
+body-length bytes size place h = simp (length-take, length-drop) (omega arith)
+
+pub body-byte : (bytes : List ℕ) (size place i : ℕ) → i < size → byteOf (bodyAt bytes size place) i ≡ getD bytes (place + 1 + i) 0
+body-byte bytes size place i h = rw (getD-take size (drop (place + 1) bytes) i 0 h, getD-drop (place + 1) bytes i 0)
+
+pub bodies-length : (bytes : List ℕ) (size place n : ℕ) → length (bodiesAt bytes size place n) ≡ n
+unfolding bodiesAt
+bodies-length bytes size place zero = refl
+bodies-length bytes size place (suc n) = ap suc (bodies-length bytes size (place + 1 + size) n)
+
+first-place : (place size : ℕ) → place ≡ place + 0 * (1 + size)
+first-place place size = rw (zero-mul (1 + size)) (omega arith)
+
+next-place : (place size j : ℕ) → place + 1 + size + j * (1 + size) ≡ place + suc j * (1 + size)
+next-place place size j = rw (suc-mul j (1 + size)) (omega arith)
+
+-- body j
+pub bodies-at : (bytes : List ℕ) (size place n j : ℕ) (d : List ℕ) → j < n → getD (bodiesAt bytes size place n) j d ≡ bodyAt bytes size (place + j * (1 + size))
+unfolding bodiesAt
+bodies-at bytes size place zero j d h = absurd (not-suc-le-zero h)
+bodies-at bytes size place (suc n) zero d h = ap (bodyAt bytes size) (first-place place size)
+bodies-at bytes size place (suc n) (suc j) d h = bodies-at bytes size (place + 1 + size) n j d (le-of-suc-le-suc h) ∙ ap (bodyAt bytes size) (next-place place size j)
+
+-- byte i of body j
+pub bodies-byte : (bytes : List ℕ) (size place n j i : ℕ) (d : List ℕ) → j < n → i < size → byteOf (getD (bodiesAt bytes size place n) j d) i ≡ getD bytes (place + j * (1 + size) + 1 + i) 0
+bodies-byte bytes size place n j i d h k = rw (bodies-at bytes size place n j d h) (body-byte bytes size (place + j * (1 + size)) i k)
+
+-- no body j
+pub bodies-past : (bytes : List ℕ) (size place n j : ℕ) (d : List ℕ) → n ≤ j → getD (bodiesAt bytes size place n) j d ≡ d
+bodies-past bytes size place n j d h = List·getD-eq-default (bodiesAt bytes size place n) d {n = j} (rw (bodies-length bytes size place n) h)
+
+-- one more item
+pub bodies-snoc : (bytes : List ℕ) (size place n : ℕ) → bodiesAt bytes size place (n + 1) ≡ bodiesAt bytes size place n ++ (bodyAt bytes size (place + n * (1 + size)) ∷ [])
+unfolding bodiesAt
+bodies-snoc bytes size place zero = ap (λ (p : ℕ). bodyAt bytes size p ∷ []) (first-place place size)
+bodies-snoc bytes size place (suc n) =
+    ap (bodiesAt bytes size place) (add-one (suc n)) ∙
+    ap (λ (l : List (List ℕ)). bodyAt bytes size place ∷ l)
+    (ap (bodiesAt bytes size (place + 1 + size)) (sym (add-one n)) ∙ bodies-snoc bytes size (place + 1 + size) n ∙ ap (λ (p : ℕ). bodiesAt bytes size (place + 1 + size) n ++ (bodyAt bytes size p ∷ [])) (next-place place size n))
+
+-- a process that the table lacks
+pub absent-bound : (field : ℕ) → field < 2 → byteOf absent field ≡ 256
+absent-bound zero h = refl
+absent-bound (suc zero) h = refl
+absent-bound (suc (suc field)) h = absurd (omega arith)
+
+-- ---- a loop over bodies: `left` of them, from `place` on, are to be compared with the body at `at`
+pub record Left (bytes : List ℕ) (size first count at place left : ℕ) : Type 0 where
+  pub room : place + left * (1 + size) ≤ at
+  pub same : anyOf (sameBytes (bodyAt bytes size at)) (bodiesAt bytes size first count) ≡ anyOf (sameBytes (bodyAt bytes size at)) (bodiesAt bytes size place left)
+
+module _ {bytes : List ℕ} {size first count at place left : ℕ} (g : Left bytes size first count at place left) where
+  abbrev seen : Bool
+  seen = anyOf (sameBytes (bodyAt bytes size at)) (bodiesAt bytes size first count)
+
+  split : 0 < left → left ≡ suc (left - 1)
+  split h = omega arith
+
+  pub left-room : 0 < left → place + (left - 1) * (1 + size) + 1 + size ≤ at
+  left-room h = let e : place + left * (1 + size) ≡ place + suc (left - 1) * (1 + size) = ap (λ (n : ℕ). place + n * (1 + size)) (split h) in omega (arith, g .room, e, suc-mul (left - 1) (1 + size))
+
+  first-of : 0 < left → seen ≡ (sameBytes (bodyAt bytes size at) (bodyAt bytes size place) || anyOf (sameBytes (bodyAt bytes size at)) (bodiesAt bytes size (place + 1 + size) (left - 1)))
+  unfolding bodiesAt
+  first-of h = g .same ∙ ap (λ (n : ℕ). anyOf (sameBytes (bodyAt bytes size at)) (bodiesAt bytes size place n)) (split h)
+
+  pub left-found : 0 < left → sameBytes (bodyAt bytes size at) (bodyAt bytes size place) ≡ true → seen ≡ true
+  left-found h e = first-of h ∙ rw e
+
+  pub left-turn : 0 < left → sameBytes (bodyAt bytes size at) (bodyAt bytes size place) ≡ false → Left bytes size first count at (place + 1 + size) (left - 1)
+  left-turn h e = record { room = omega (arith, left-room h); same = first-of h ∙ rw e }
+
+  pub left-end : left ≤ 0 → seen ≡ false
+  unfolding bodiesAt
+  left-end h = let e : left ≡ 0 = omega arith in g .same ∙ rw e

@@ -1,0 +1,156 @@
+-- Laws of a cursor: what its counts say of the items before it, and the cursor behind one item more.
+use mathlib.Core.Path.{_≡_, refl, sym, ap, ap₂, _∙_, subst}
+use mathlib.Core.Bool.{Bool, true, false, cond, _&&_, _||_}
+use mathlib.Core.List.{List, [], _∷_, _++_}
+use Prim.Native.Nat.{ℕ, zero, suc, _+_, _-_, _*_, _<_, _≤_}
+use native.Mathlib.Decide.{ℕ-discrete}
+use native.Mathlib.Nat.{le-of-suc-le-suc}
+use native.Mathlib.Omega.{arith}
+use lib.Dec.{eqb, ltb, leb}
+use lib.ListN.{length, getD}
+use borrow.Author.Tests.{ne-eqb, lt-leb}
+use Rattle.model.specs.Lists.{anyOf}
+use Rattle.model.specs.Tables.{Item, bodyLength, ceiling, bodies, count, lastKind, isOutOfTurn, sameBytes}
+use Rattle.table.specs.declared.Table.{Table}
+use Rattle.table.specs.declared.Cursor.{Cursor}
+use Rattle.table.specs.Places.{bodyAt, bodiesAt, offset, itemsBelow, counts, countsAt, itemsBefore, processesIn, lettersIn, Modest, advanced, Heads, Passed}
+use Rattle.table.specs.Reading.{countsOf, outOfTurn}
+use Rattle.table.proofs.Scans.{and-false}
+use Rattle.table.proofs.Bodies.{bodies-length}
+use Rattle.table.proofs.Places.{bodies-above, bodies-below, offset-snoc, items-snoc, offset-still, lastKind-snoc}
+
+-- ---- places by counts
+module _ (bytes : List ℕ) (c : Cursor) where
+  processes-place : offset (countsAt c) 1 ≡ 0
+  unfolding offset
+  processes-place = omega arith
+
+  pub letters-place : offset (countsAt c) 2 ≡ 3 * c .table .processes
+  unfolding offset
+  letters-place = omega arith
+
+  pub heads-place : 3 * c .table .processes + 2 * c .table .letters ≤ offset (countsAt c) 8
+  unfolding offset
+  heads-place = omega arith
+
+  -- ---- bodies
+  pub processes-before : bodies 1 (itemsBefore bytes c) ≡ processesIn bytes (c .table)
+  processes-before = bodies-below bytes (countsAt c) 1 8 (omega arith) ∙ ap (λ (p : ℕ). bodiesAt bytes 2 p (c .table .processes)) processes-place
+
+  pub letters-before : bodies 2 (itemsBefore bytes c) ≡ lettersIn bytes (c .table)
+  letters-before = bodies-below bytes (countsAt c) 2 8 (omega arith) ∙ ap (λ (p : ℕ). bodiesAt bytes 1 p (c .table .letters)) letters-place
+
+  pub count-before : (k : ℕ) → k < 8 → count k (itemsBefore bytes c) ≡ countsAt c k
+  count-before k h = ap length (bodies-below bytes (countsAt c) k 8 h) ∙ bodies-length bytes (bodyLength k) (offset (countsAt c) k) (countsAt c k)
+
+  -- no end before the end
+  pub count-known : (k : ℕ) → k < 9 → count k (itemsBefore bytes c) ≡ countsAt c k
+  count-known k h = elim (ℕ-discrete k 8) [
+    | yes e ↦ rw (e, bodies-above bytes (countsAt c) 8 8 (omega arith)) refl
+    | no n ↦ count-before k (omega arith)
+  ]
+
+  pub counts-before : countsOf (itemsBefore bytes c) ≡ c .table
+  counts-before = λ i. record {
+    processes = count-before 1 (omega arith) i;
+    letters = count-before 2 (omega arith) i;
+    rules = count-before 3 (omega arith) i;
+    transitions = count-before 4 (omega arith) i;
+    accepting = count-before 5 (omega arith) i;
+    pile = count-before 7 (omega arith) i;
+  }
+
+  pub modest-of : Passed bytes c → Modest (c .table)
+  modest-of p = record { processes = p .ceilings 1; letters = p .ceilings 2; rules = p .ceilings 3; transitions = p .ceilings 4; accepting = p .ceilings 5; pile = p .ceilings 7 }
+
+  pub heads-of : Passed bytes c → Heads bytes (c .table)
+  heads-of p = record { processes = p .ceilings 1; letters = p .ceilings 2; inside = omega (arith, heads-place, p .place, p .within) }
+
+  -- check 3
+  pub turn-before : Passed bytes c → (k : ℕ) → isOutOfTurn (itemsBefore bytes c) k ≡ outOfTurn c k
+  unfolding isOutOfTurn outOfTurn
+  turn-before p k = rw (p .last, count-before 1 (omega arith), count-before 6 (omega arith))
+
+  -- the items of the cursor's kind stand right before it
+  pub kind-place : Passed bytes c → (k : ℕ) → k < 8 → c .last ≤ k → offset (countsAt c) k + countsAt c k * (1 + bodyLength k) ≡ c .at
+  kind-place p k h l = sym (p .place ∙ offset-still (countsAt c) k 8 h (λ j m. p .above j (omega arith)))
+
+  -- check 8
+  pub seen-before : Passed bytes c → (k first : ℕ) (body : List ℕ) → k < 8 → c .last ≤ k → first + countsAt c k * (1 + bodyLength k) ≡ c .at
+      → anyOf (sameBytes body) (bodiesAt bytes (bodyLength k) first (countsAt c k)) ≡ anyOf (sameBytes body) (bodies k (itemsBefore bytes c))
+  seen-before p k first body h l e =
+      let same : first ≡ offset (countsAt c) k = omega (arith, kind-place p k h l) in
+      rw (bodies-below bytes (countsAt c) k 8 h, same)
+
+-- ---- the cursor behind one item more
+module _ (c : Cursor) (k next : ℕ) where
+  none-added : (x : ℕ) → (k ≡ x → ⊥) → (m : ℕ) → m + cond (eqb k x) 1 0 ≡ m
+  none-added x h m = rw (ne-eqb k x h) (omega arith)
+
+  pub count-other : (j : ℕ) → (j ≡ k → ⊥) → countsAt (advanced c k next) j ≡ countsAt c j
+  unfolding advanced
+  count-other zero h = refl
+  count-other (suc zero) h = none-added 1 (λ e. h (sym e)) (c .table .processes)
+  count-other (suc (suc zero)) h = none-added 2 (λ e. h (sym e)) (c .table .letters)
+  count-other (suc (suc (suc zero))) h = none-added 3 (λ e. h (sym e)) (c .table .rules)
+  count-other (suc (suc (suc (suc zero)))) h = none-added 4 (λ e. h (sym e)) (c .table .transitions)
+  count-other (suc (suc (suc (suc (suc zero))))) h = none-added 5 (λ e. h (sym e)) (c .table .accepting)
+  count-other (suc (suc (suc (suc (suc (suc zero)))))) h = none-added 6 (λ e. h (sym e)) (c .starts)
+  count-other (suc (suc (suc (suc (suc (suc (suc zero))))))) h = none-added 7 (λ e. h (sym e)) (c .table .pile)
+  count-other (suc (suc (suc (suc (suc (suc (suc (suc zero)))))))) h = refl
+  count-other (suc (suc (suc (suc (suc (suc (suc (suc (suc j))))))))) h = refl
+
+pub count-same : (c : Cursor) (k next : ℕ) → 0 < k → k < 8 → countsAt (advanced c k next) k ≡ countsAt c k + 1
+unfolding advanced
+count-same c zero next h l = absurd (omega arith)
+count-same c (suc zero) next h l = refl
+count-same c (suc (suc zero)) next h l = refl
+count-same c (suc (suc (suc zero))) next h l = refl
+count-same c (suc (suc (suc (suc zero)))) next h l = refl
+count-same c (suc (suc (suc (suc (suc zero))))) next h l = refl
+count-same c (suc (suc (suc (suc (suc (suc zero)))))) next h l = refl
+count-same c (suc (suc (suc (suc (suc (suc (suc zero))))))) next h l = refl
+count-same c (suc (suc (suc (suc (suc (suc (suc (suc k)))))))) next h l = absurd (omega (arith, l))
+
+-- an item that is in turn, below its ceiling and whole
+pub record Admitted (bytes : List ℕ) (c : Cursor) (k : ℕ) : Type 0 where
+  pub some : 0 < k
+  pub known : k < 8
+  pub turn : c .last ≤ k
+  pub room : countsAt c k < ceiling k
+  pub whole : c .at + 1 + bodyLength k ≤ length bytes
+
+module _ (bytes : List ℕ) (c : Cursor) (k : ℕ) (p : Passed bytes c) (a : Admitted bytes c k) where
+  abbrev pub beyond : Cursor
+  beyond = advanced c k (c .at + 1 + bodyLength k)
+
+  above-kind : (j : ℕ) → k < j → countsAt c j ≡ 0
+  above-kind j h = p .above j (omega (arith, a .turn))
+
+  pub items-beyond : itemsBefore bytes c ++ (record { kind = k; body = bodyAt bytes (bodyLength k) (c .at) } ∷ []) ≡ itemsBefore bytes beyond
+  items-beyond =
+      ap (λ (q : ℕ). itemsBefore bytes c ++ (record { kind = k; body = bodyAt bytes (bodyLength k) q } ∷ [])) (p .place)
+      ∙ items-snoc bytes (countsAt c) (countsAt beyond) k (count-same c k (c .at + 1 + bodyLength k) (a .some) (a .known)) (λ j h. count-other c k (c .at + 1 + bodyLength k) j h) 8 (omega (arith, a .known)) above-kind
+
+  pub passed-beyond : Passed bytes beyond
+  unfolding advanced
+  passed-beyond = record {
+    place = ap (λ (q : ℕ). q + 1 + bodyLength k) (p .place) ∙ sym (offset-snoc bytes (countsAt c) (countsAt beyond) k (count-same c k (c .at + 1 + bodyLength k) (a .some) (a .known)) (λ j h. count-other c k (c .at + 1 + bodyLength k) j h) 8 (omega (arith, a .known)) above-kind);
+    within = a .whole;
+    last = rw (← items-beyond) (lastKind-snoc (itemsBefore bytes c) (record { kind = k; body = bodyAt bytes (bodyLength k) (c .at) }));
+    above = λ j h. count-other c k (c .at + 1 + bodyLength k) j (λ e. omega arith) ∙ above-kind j h;
+    ceilings = λ j. elim (ℕ-discrete j k) [
+      | yes e ↦ subst (λ (i : ℕ). countsAt beyond i ≤ ceiling i) (sym e) (rw (count-same c k (c .at + 1 + bodyLength k) (a .some) (a .known)) (omega (arith, a .room)))
+      | no n ↦ rw (count-other c k (c .at + 1 + bodyLength k) j n) (p .ceilings j)
+    ];
+  }
+
+-- kinds without check 8
+pub no-twin : (k : ℕ) (b : Bool) → (k ≡ 3 → ⊥) → (k ≡ 4 → ⊥) → (k ≡ 5 → ⊥) → (leb 3 k && leb k 5 && b) ≡ false
+no-twin zero b n3 n4 n5 = refl
+no-twin (suc zero) b n3 n4 n5 = refl
+no-twin (suc (suc zero)) b n3 n4 n5 = refl
+no-twin (suc (suc (suc zero))) b n3 n4 n5 = absurd (n3 refl)
+no-twin (suc (suc (suc (suc zero)))) b n3 n4 n5 = absurd (n4 refl)
+no-twin (suc (suc (suc (suc (suc zero))))) b n3 n4 n5 = absurd (n5 refl)
+no-twin (suc (suc (suc (suc (suc (suc k)))))) b n3 n4 n5 = rw (lt-leb (suc (suc (suc (suc (suc (suc k)))))) 5 (omega arith), and-false (leb 3 (suc (suc (suc (suc (suc (suc k))))))))

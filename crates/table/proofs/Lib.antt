@@ -1,0 +1,9 @@
+pub mod Tests
+pub mod Scans
+pub mod Bodies
+pub mod Values
+pub mod Places
+pub mod Cursors
+pub mod Steps
+pub mod Accepted
+pub mod Layouts

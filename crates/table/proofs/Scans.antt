@@ -1,0 +1,77 @@
+-- Laws for the loops that test a part of the bytes one after the other.
+use mathlib.Core.Path.{_≡_, refl, sym, ap, _∙_}
+use mathlib.Core.Bool.{Bool, true, false, cond, _&&_, _||_, false≢true}
+use mathlib.Core.List.{List, [], _∷_, _++_}
+use Prim.Native.Nat.{ℕ, zero, suc, _+_, _-_, _<_, _≤_}
+use native.Mathlib.Nat.{not-suc-le-zero, le-of-suc-le-suc, add-sub-cancel-left}
+use native.Mathlib.Numerals.{add-one}
+use native.Mathlib.Omega.{arith}
+use lib.Dec.{eqb}
+use lib.ListN.{length, getD, take, drop, length-drop}
+use lib.Seq.{take-all, take-suc, drop-drop}
+use borrow.Author.Tests.{eq-eqb, ne-eqb}
+use Rattle.model.specs.Lists.{allOf, anyOf}
+use Rattle.model.specs.Tables.{sameBytes}
+use Rattle.model.proofs.Tests.{and-both, and-left, and-right}
+
+pub and-false : (b : Bool) → (b && false) ≡ false
+and-false true = refl
+and-false false = refl
+
+pub or-true : (b : Bool) → (b || true) ≡ true
+or-true true = refl
+or-true false = refl
+
+pub or-false : (b : Bool) → (b || false) ≡ b
+or-false true = refl
+or-false false = refl
+
+-- ---- all of a list
+pub all-append : {A : Type 0} (f : A → Bool) (xs ys : List A) → allOf f (xs ++ ys) ≡ (allOf f xs && allOf f ys)
+all-append f [] ys = refl
+all-append f (x ∷ xs) ys = simp (all-append f xs ys) (regroup (f x) (allOf f xs) (allOf f ys))
+  where
+    regroup : (a b c : Bool) → (a && (b && c)) ≡ (a && b && c)
+    regroup true b c = refl
+    regroup false b c = refl
+
+pub all-more : (f : ℕ → Bool) (l : List ℕ) (j : ℕ) → j < length l → allOf f (take j l) ≡ true → f (getD l j 0) ≡ true → allOf f (take (j + 1) l) ≡ true
+all-more f l j h p q = simp (add-one, take-suc l j 0 h, all-append, p, q)
+
+pub all-fails : (f : ℕ → Bool) (l : List ℕ) (j : ℕ) → j < length l → f (getD l j 0) ≡ false → allOf f l ≡ false
+all-fails f [] j h q = absurd (not-suc-le-zero h)
+all-fails f (x ∷ l) zero h q = rw q
+all-fails f (x ∷ l) (suc j) h q = rw (all-fails f l j (le-of-suc-le-suc h) q) (and-false (f x))
+
+pub all-end : (f : ℕ → Bool) (l : List ℕ) (j : ℕ) → length l ≤ j → allOf f (take j l) ≡ true → allOf f l ≡ true
+all-end f l j h p = rw (take-all j l h) at p
+
+pub all-at : (f : ℕ → Bool) (l : List ℕ) (j : ℕ) → j < length l → allOf f l ≡ true → f (getD l j 0) ≡ true
+all-at f [] j h p = absurd (not-suc-le-zero h)
+all-at f (x ∷ l) zero h p = and-left (f x) (allOf f l) p
+all-at f (x ∷ l) (suc j) h p = all-at f l j (le-of-suc-le-suc h) (and-right (f x) (allOf f l) p)
+
+-- ---- parts of a list as the code lends them
+pub part-front : (l : List ℕ) (a n : ℕ) → take (a + n - a) (drop a l) ≡ take n (drop a l)
+part-front l a n = rw (add-sub-cancel-left a n)
+
+pub part-rest : (l : List ℕ) (a n : ℕ) → take (length l - (a + n)) (drop (a + n) l) ≡ drop n (drop a l)
+part-rest l a n = take-all (length l - (a + n)) (drop (a + n) l) (simp (length-drop) (omega arith)) ∙ sym (drop-drop n a l)
+
+-- ---- two parts byte by byte
+pub same-more : (x y : List ℕ) (j : ℕ) → j < length x → j < length y → sameBytes (take j x) (take j y) ≡ true → getD x j 0 ≡ getD y j 0 → sameBytes (take (j + 1) x) (take (j + 1) y) ≡ true
+same-more [] y j h k p e = absurd (not-suc-le-zero h)
+same-more (a ∷ x) [] j h k p e = absurd (not-suc-le-zero k)
+same-more (a ∷ x) (b ∷ y) zero h k p e = rw (eq-eqb a b e)
+same-more (a ∷ x) (b ∷ y) (suc j) h k p e =
+    rw (add-one (suc j))
+    (and-both (eqb a b) (sameBytes (take (suc j) x) (take (suc j) y)) (and-left (eqb a b) (sameBytes (take j x) (take j y)) p)
+    (rw (add-one j) at (same-more x y j (le-of-suc-le-suc h) (le-of-suc-le-suc k) (and-right (eqb a b) (sameBytes (take j x) (take j y)) p) e)))
+
+pub same-fails : (x y : List ℕ) (j n : ℕ) → j < n → j < length x → j < length y → (getD x j 0 ≡ getD y j 0 → ⊥) → sameBytes (take n x) (take n y) ≡ false
+same-fails x y j zero l h k e = absurd (not-suc-le-zero l)
+same-fails [] y j (suc n) l h k e = absurd (not-suc-le-zero h)
+same-fails (a ∷ x) [] j (suc n) l h k e = absurd (not-suc-le-zero k)
+same-fails (a ∷ x) (b ∷ y) zero (suc n) l h k e = rw (ne-eqb a b e)
+same-fails (a ∷ x) (b ∷ y) (suc j) (suc n) l h k e =
+    rw (same-fails x y j n (le-of-suc-le-suc l) (le-of-suc-le-suc h) (le-of-suc-le-suc k) e) (and-false (eqb a b))

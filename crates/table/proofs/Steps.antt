@@ -1,0 +1,229 @@
+-- One item: what the checks that it passed say, and how the reading goes on.
+use mathlib.Core.Path.{_≡_, refl, sym, ap, ap₂, _∙_, subst}
+use mathlib.Core.Bool.{Bool, true, false, cond, not, _&&_, _||_, true≢false, false≢true}
+use mathlib.Core.List.{List, [], _∷_, _++_}
+use Prim.Native.Nat.{ℕ, zero, suc, _+_, _-_, _*_, _<_, _≤_, min}
+use native.Mathlib.Numerals.{add-one}
+use native.Mathlib.Omega.{arith}
+use lib.Dec.{eqb, ltb, leb}
+use lib.ListN.{length, getD, take, drop, length-take, length-drop, drop-of-length-le}
+use lib.Seq.{drop-cons, drop-drop}
+use borrow.Author.Tests.{eq-eqb, ne-eqb, eqb-false, ltb-true, ltb-false, leb-false}
+use Rattle.model.specs.Tables.{Item, bodyLength, ceiling, bodies, count, controlsOf, locOf, ruleOf, transitionOf, isStranger, isOutOfTurn, valueFits, cooperates, leavesControl, isTwin, refusal, Reading, accepted, refused, ending, unlessRefused, readFrom, read}
+use Rattle.model.proofs.Tests.{by-test}
+use Rattle.table.specs.declared.Table.{Table}
+use Rattle.table.specs.declared.Cursor.{Cursor}
+use Rattle.table.specs.declared.Parsed.{Parsed}
+use Rattle.table.specs.declared.Parsed.the-variants.{Accepted, Refused}
+use Rattle.table.specs.declared.Step.{Step}
+use Rattle.table.specs.declared.Step.the-variants.{Next, Done}
+use Rattle.table.specs.Places.{bodyAt, bodiesAt, offset, itemsBelow, counts, countsAt, itemsBefore, advanced, Passed}
+use Rattle.table.specs.Reading.{countsOf, parsed, outOfTurn, bodyRefusal, readOn, Onward, Stepped}
+use Rattle.table.proofs.Cursors.{count-before, counts-before, turn-before, Admitted, items-beyond, passed-beyond}
+
+-- ---- the checks that an item passed
+pub record Clear (items : List Item) (k : ℕ) (body : List ℕ) : Type 0 where
+  pub stranger : isStranger k ≡ false
+  pub turn : isOutOfTurn items k ≡ false
+  pub room : leb (ceiling k) (count k items) ≡ false
+  pub whole : ltb (length body) (bodyLength k) ≡ false
+  pub values : valueFits (bodies 1 items) (bodies 2 items) k body ≡ true
+  pub stray : (eqb k 3 && not (cooperates (locOf (bodies 2 items)) (ruleOf body))) ≡ false
+  pub reentry : (eqb k 4 && not (leavesControl (locOf (bodies 2 items)) (controlsOf (bodies 1 items)) (transitionOf body))) ≡ false
+  pub twin : isTwin items k body ≡ false
+
+-- a check that did not pass gives a number above 0
+no-refusal : (a : Bool) (n m : ℕ) → cond a (suc n) m ≡ 0 → (a ≡ false) × (m ≡ 0)
+no-refusal true n m e = absurd (omega arith)
+no-refusal false n m e = (refl, e)
+
+not-false : (b : Bool) → not b ≡ false → b ≡ true
+not-false true e = refl
+not-false false e = absurd (true≢false e)
+
+pub clear-of : (items : List Item) (k : ℕ) (body : List ℕ) → refusal items k body ≡ 0 → Clear items k body
+unfolding refusal
+clear-of items k body e =
+    let a = no-refusal (isStranger k) 1 _ e in
+    let b = no-refusal (isOutOfTurn items k) 2 _ (a .1) in
+    let c = no-refusal (leb (ceiling k) (count k items)) 3 _ (b .1) in
+    let d = no-refusal (ltb (length body) (bodyLength k)) 0 _ (c .1) in
+    let f = no-refusal (not (valueFits (bodies 1 items) (bodies 2 items) k body)) 4 _ (d .1) in
+    let g = no-refusal (eqb k 3 && not (cooperates (locOf (bodies 2 items)) (ruleOf body))) 5 _ (f .1) in
+    let h = no-refusal (eqb k 4 && not (leavesControl (locOf (bodies 2 items)) (controlsOf (bodies 1 items)) (transitionOf body))) 6 _ (g .1) in
+    let i = no-refusal (isTwin items k body) 7 _ (h .1) in
+    record { stranger = a .0; turn = b .0; room = c .0; whole = d .0; values = not-false _ (f .0); stray = g .0; reentry = h .0; twin = i .0 }
+
+-- the checks 5 to 8 come behind the others
+pub refusal-late : (items : List Item) (k : ℕ) (body : List ℕ) → isStranger k ≡ false → isOutOfTurn items k ≡ false → leb (ceiling k) (count k items) ≡ false → ltb (length body) (bodyLength k) ≡ false → refusal items k body ≡ bodyRefusal items k body
+unfolding refusal bodyRefusal
+refusal-late items k body a b c d = rw (a, b, c, d)
+
+pub or-left : (a b : Bool) → (a || b) ≡ false → a ≡ false
+or-left true b e = e
+or-left false b e = refl
+
+pub or-right : (a b : Bool) → (a || b) ≡ false → b ≡ false
+or-right true b e = absurd (true≢false e)
+or-right false b e = e
+
+-- a kind of item
+pub kind-of : (k : ℕ) → isStranger k ≡ false → (0 < k) × (k < 9)
+kind-of k e =
+    let n : k ≡ 0 → ⊥ = eqb-false k 0 (or-left (eqb k 0) (ltb 8 k) e) in
+    let l : k ≤ 8 = ltb-false 8 k (or-right (eqb k 0) (ltb 8 k) e) in
+    (omega arith, omega arith)
+
+-- the kind does not fall
+pub turn-of : (c : Cursor) (k : ℕ) → outOfTurn c k ≡ false → c .last ≤ k
+unfolding outOfTurn
+turn-of c k e =
+    ltb-false k (c .last)
+    (or-left (ltb k (c .last)) (eqb k 6 && ltb 0 (c .starts))
+    (or-left (ltb k (c .last) || (eqb k 6 && ltb 0 (c .starts))) (eqb (c .table .processes) 0 && ltb 1 k)
+    (or-left (ltb k (c .last) || (eqb k 6 && ltb 0 (c .starts)) || (eqb (c .table .processes) 0 && ltb 1 k)) (ltb 6 k && eqb (c .starts) 0) e)))
+
+-- the length of a body that may be cut
+pub cut-length : (bytes : List ℕ) (size place : ℕ) → length (bodyAt bytes size place) ≡ min size (length bytes - (place + 1))
+cut-length bytes size place = simp (length-take, length-drop)
+
+module _ (bytes : List ℕ) (c : Cursor) (p : Passed bytes c) (inside : c .at < length bytes) where
+  abbrev items : List Item
+  items = itemsBefore bytes c
+
+  abbrev body : ℕ → List ℕ
+  body k = bodyAt bytes (bodyLength k) (c .at)
+
+  pub admitted-of : (k : ℕ) → k < 8 → Clear items k (body k) → Admitted bytes c k
+  admitted-of k h q =
+      let whole : bodyLength k ≤ length (body k) = ltb-false _ _ (q .whole) in
+      let room : count k items < ceiling k = leb-false _ _ (q .room) in
+      record {
+        some = kind-of k (q .stranger) .0;
+        known = h;
+        turn = turn-of c k (sym (turn-before bytes c p k) ∙ q .turn);
+        room = omega (arith, count-before bytes c k h);
+        whole = omega (arith, cut-length bytes (bodyLength k) (c .at));
+      }
+
+  -- the reading at an item
+  pub read-item : (fuel : ℕ) → readOn bytes c (suc fuel) ≡
+      unlessRefused (refusal items (getD bytes (c .at) 0) (body (getD bytes (c .at) 0))) (c .at)
+      (cond (eqb (getD bytes (c .at) 0) 8) (ending items (drop (c .at + 1) bytes) (c .at + 1))
+      (readFrom fuel (items ++ (record { kind = getD bytes (c .at) 0; body = body (getD bytes (c .at) 0) } ∷ [])) (drop (bodyLength (getD bytes (c .at) 0)) (drop (c .at + 1) bytes)) (c .at + 1 + bodyLength (getD bytes (c .at) 0))))
+  unfolding readFrom
+  read-item fuel = ap (λ (l : List ℕ). readFrom (suc fuel) items l (c .at)) (drop-cons bytes (c .at) 0 inside ∙ ap (λ (i : ℕ). getD bytes (c .at) 0 ∷ drop i bytes) (sym (add-one (c .at))))
+
+-- ---- how an item ends the reading
+done-with : (bytes : List ℕ) (c : Cursor) (p : Parsed) → ((fuel : ℕ) → parsed (readOn bytes c (suc fuel)) ≡ p) → Stepped bytes c (Done p)
+done-with bytes c p f = record {
+  next = λ d e. let z : _≡_ {A = ℕ} 0 1 = cc in absurd (omega arith);
+  done = λ q e fuel. f fuel ∙ (let s : p ≡ q = cc in s);
+}
+
+next-with : (bytes : List ℕ) (c d : Cursor) → Onward bytes c d → Stepped bytes c (Next d)
+next-with bytes c d o = record {
+  next = λ d′ e. subst (Onward bytes c) (let s : d ≡ d′ = cc in s) o;
+  done = λ q e fuel. let z : _≡_ {A = ℕ} 0 1 = cc in absurd (omega arith);
+}
+
+-- the file ends before kind 8
+pub step-end : (bytes : List ℕ) (c : Cursor) → length bytes ≤ c .at → Stepped bytes c (Done (Refused 1 (c .at)))
+unfolding readFrom
+step-end bytes c h = done-with bytes c (Refused 1 (c .at)) (λ fuel. ap (λ (l : List ℕ). parsed (readFrom (suc fuel) (itemsBefore bytes c) l (c .at))) (drop-of-length-le bytes {i = c .at} h))
+
+module _ (bytes : List ℕ) (c : Cursor) (p : Passed bytes c) (inside : c .at < length bytes) where
+  abbrev kind : ℕ
+  kind = getD bytes (c .at) 0
+
+  abbrev number : ℕ
+  number = refusal (itemsBefore bytes c) (getD bytes (c .at) 0) (bodyAt bytes (bodyLength (getD bytes (c .at) 0)) (c .at))
+
+  -- a check that the item does not pass
+  unless-parsed : (n place : ℕ) (r : Reading) → (n ≡ 0 → ⊥) → parsed (unlessRefused n place r) ≡ Refused n place
+  unless-parsed zero place r h = absurd (h refl)
+  unless-parsed (suc n) place r h = refl
+
+  unless-zero : (n place : ℕ) (r : Reading) → n ≡ 0 → unlessRefused n place r ≡ r
+  unless-zero zero place r e = refl
+  unless-zero (suc n) place r e = absurd (omega arith)
+
+  pub step-refused : (r : ℕ) → r ≡ number → (r ≡ 0 → ⊥) → Stepped bytes c (Done (Refused r (c .at)))
+  step-refused r e h = done-with bytes c (Refused r (c .at)) (λ fuel. ap parsed (read-item bytes c p inside fuel) ∙ unless-parsed number (c .at) _ (λ z. h (e ∙ z)) ∙ ap (λ (i : ℕ). Refused i (c .at)) (sym e))
+
+  passing : number ≡ 0 → (fuel : ℕ) → readOn bytes c (suc fuel) ≡
+      cond (eqb kind 8) (ending (itemsBefore bytes c) (drop (c .at + 1) bytes) (c .at + 1))
+      (readFrom fuel (itemsBefore bytes c ++ (record { kind = kind; body = bodyAt bytes (bodyLength kind) (c .at) } ∷ [])) (drop (bodyLength kind) (drop (c .at + 1) bytes)) (c .at + 1 + bodyLength kind))
+  passing z fuel = read-item bytes c p inside fuel ∙ unless-zero number (c .at) _ z
+
+  -- one item more
+  pub next-admitted : number ≡ 0 → (kind ≡ 8 → ⊥) → Admitted bytes c kind
+  next-admitted z h =
+      let q = clear-of (itemsBefore bytes c) kind (bodyAt bytes (bodyLength kind) (c .at)) z in
+      let l : kind < 9 = kind-of kind (q .stranger) .1 in
+      admitted-of bytes c p inside kind (omega arith) q
+
+  pub step-next : number ≡ 0 → (kind ≡ 8 → ⊥) → Stepped bytes c (Next (advanced c kind (c .at + 1 + bodyLength kind)))
+  unfolding advanced
+  step-next z h =
+      let a = next-admitted z h in
+      next-with bytes c (advanced c kind (c .at + 1 + bodyLength kind)) (record {
+        passed = passed-beyond bytes c kind p a;
+        ahead = omega arith;
+        same = λ fuel. passing z fuel ∙ rw (ne-eqb kind 8 h, items-beyond bytes c kind p a, drop-drop (bodyLength kind) (c .at + 1) bytes);
+      })
+
+  -- bytes behind kind 8
+  pub step-leftover : number ≡ 0 → kind ≡ 8 → c .at + 1 < length bytes → Stepped bytes c (Done (Refused 9 (c .at + 1)))
+  step-leftover z e h = done-with bytes c (Refused 9 (c .at + 1)) (λ fuel. ap parsed (passing z fuel) ∙ rw (eq-eqb kind 8 e, drop-cons bytes (c .at + 1) 0 h))
+
+  -- nothing behind kind 8
+  pub end-accepted : number ≡ 0 → kind ≡ 8 → length bytes ≤ c .at + 1 → (fuel : ℕ) → readOn bytes c (suc fuel) ≡ accepted (itemsBefore bytes c)
+  end-accepted z e h fuel = passing z fuel ∙ rw (eq-eqb kind 8 e, drop-of-length-le bytes {i = c .at + 1} h)
+
+  pub step-accepted : number ≡ 0 → kind ≡ 8 → length bytes ≤ c .at + 1 → Stepped bytes c (Done (Accepted (c .table)))
+  step-accepted z e h = done-with bytes c (Accepted (c .table)) (λ fuel. ap parsed (end-accepted z e h fuel) ∙ ap Accepted (counts-before bytes c))
+
+-- ---- the loop over the items: any fuel above the number of bytes left serves
+pub record Going (bytes : List ℕ) (c : Cursor) : Type 0 where
+  pub passed : Passed bytes c
+  pub fuel : ℕ
+  pub enough : length bytes - c .at < fuel
+  pub same : read bytes ≡ readOn bytes c fuel
+
+pub going-start : (bytes : List ℕ) (c : Cursor) → c ≡ record { at = 0; last = 0; starts = 0; table = countsOf [] } → Going bytes c
+unfolding read itemsBelow bodiesAt offset
+going-start bytes c e = rw e (record {
+  passed = record { place = refl; within = omega arith; last = refl; above = none; ceilings = λ k. rw (none′ k) (omega arith) };
+  fuel = length bytes + 1;
+  enough = omega arith;
+  same = refl;
+})
+  where
+    none′ : (k : ℕ) → counts (countsOf []) 0 k ≡ 0
+    none′ zero = refl
+    none′ (suc zero) = refl
+    none′ (suc (suc zero)) = refl
+    none′ (suc (suc (suc zero))) = refl
+    none′ (suc (suc (suc (suc zero)))) = refl
+    none′ (suc (suc (suc (suc (suc zero))))) = refl
+    none′ (suc (suc (suc (suc (suc (suc zero)))))) = refl
+    none′ (suc (suc (suc (suc (suc (suc (suc zero))))))) = refl
+    none′ (suc (suc (suc (suc (suc (suc (suc (suc zero)))))))) = refl
+    none′ (suc (suc (suc (suc (suc (suc (suc (suc (suc k))))))))) = refl
+
+    none : (k : ℕ) → 0 < k → counts (countsOf []) 0 k ≡ 0
+    none k h = none′ k
+
+module _ (bytes : List ℕ) (c : Cursor) (g : Going bytes c) where
+  spent : g .fuel ≡ suc (g .fuel - 1)
+  spent = omega (arith, g .enough)
+
+  same-spent : read bytes ≡ readOn bytes c (suc (g .fuel - 1))
+  same-spent = g .same ∙ ap (readOn bytes c) spent
+
+  pub going-turn : (d : Cursor) → Onward bytes c d → Going bytes d
+  going-turn d o = record { passed = o .passed; fuel = g .fuel - 1; enough = omega (arith, g .enough, o .ahead, o .passed .within); same = same-spent ∙ o .same (g .fuel - 1) }
+
+  pub going-end : (p : Parsed) → ((fuel : ℕ) → parsed (readOn bytes c (suc fuel)) ≡ p) → p ≡ parsed (read bytes)
+  going-end p f = sym (ap parsed same-spent ∙ f (g .fuel - 1))

@@ -1,0 +1,42 @@
+use mathlib.Core.Path.{_≡_, refl, sym, _∙_, ap, subst}
+use mathlib.Core.List.{List}
+use Prim.Native.Nat.{ℕ, _+_, _-_, _*_, _<_, _≤_}
+use lib.ListN.{getD}
+use Rattle.model.specs.Groups.{processesOf}
+use Rattle.model.specs.Automata.{Transition}
+use Rattle.model.specs.Systems.{Rule}
+use Rattle.model.specs.Tables.{byteOf, groupOf}
+use Rattle.table.specs.Places.{bodyAt, bodyOf, offset, placeOf, counts}
+use Rattle.table.proofs.Bodies.{body-byte}
+use Rattle.table.proofs.Layouts.{body-size, transition-in}
+use native.Mathlib.Omega.{arith}
+use lib.ListN.{length, length-set}
+use borrow.Author.Needs.{needs}
+use Rattle.table.proofs.transition_before.Statement.{statement}
+use Rattle.table.proofs.transition_before.Tie as tie
+use Rattle.table.proofs.transition_before.Reads as reads
+use Rattle.table.proofs.transition_before.Lts as lts
+use Rattle.table.proofs.group_at.Reads as group-at-reads
+use Rattle.table.proofs.transition_body.Reads as transition-body-reads
+
+-- src/lib.rt:765:14
+transition-body-requires : tie.Need-transition-body-requires
+transition-body-requires c κs = search needs
+
+-- src/lib.rt:765:5
+group-at-requires : tie.Need-group-at-requires
+group-at-requires c κs =
+    let b = c .before .before .args .bytes .now in
+    let t = c .before .before .args .t in
+    let s : length (c .transition-body .result .now) ≡ 9 = ap length (c .transition-body .ensures) ∙ body-size b t (c .before .before .pre .0) 4 (c .before .before .args .k) (omega arith) (c .before .before .pre .1) in
+    omega arith
+
+-- src/lib.rt:761:1
+returns : tie.Need-returns
+returns c =
+    let b = c .before .before .before .args .bytes .now in
+    let t = c .before .before .before .args .t in
+    c .group-at .ensures ∙ ap (λ (l : List ℕ). groupOf l 1) (c .before .transition-body .ensures) ∙ sym (ap (λ (r : Transition). r .before) (transition-in b t (c .before .before .before .pre .0) (c .before .before .before .args .k) (c .before .before .before .pre .1)))
+
+pub transition-before-spec : {M : Type 1} → statement M
+transition-before-spec = tie.close (tie.spec transition-body-requires group-at-requires returns)

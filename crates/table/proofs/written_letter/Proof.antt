@@ -1,0 +1,49 @@
+use mathlib.Core.Path.{_≡_, refl, sym, _∙_, ap, subst}
+use mathlib.Core.List.{List}
+use Prim.Native.Nat.{ℕ, _+_, _-_, _*_, _<_, _≤_}
+use lib.ListN.{getD}
+use Rattle.model.specs.Groups.{processesOf}
+use Rattle.model.specs.Automata.{Transition}
+use Rattle.model.specs.Systems.{Rule}
+use Rattle.model.specs.Tables.{byteOf, groupOf}
+use Rattle.table.specs.Places.{bodyAt, bodyOf, offset, placeOf, counts}
+use Rattle.table.proofs.Bodies.{body-byte}
+use Rattle.table.proofs.Layouts.{body-size, written-in, written-few}
+use native.Mathlib.Omega.{arith}
+use lib.ListN.{length, length-set}
+use borrow.Author.Needs.{needs}
+use Rattle.table.proofs.written_letter.Statement.{statement}
+use Rattle.table.proofs.written_letter.Tie as tie
+use Rattle.table.proofs.written_letter.Reads as reads
+use Rattle.table.proofs.written_letter.Lts as lts
+use Rattle.table.proofs.rule_body.Reads as rule-body-reads
+
+-- src/lib.rt:741:9
+rule-body-requires : tie.Need-rule-body-requires
+rule-body-requires c κs = search needs
+
+-- src/lib.rt:742:10
+add-result : tie.Need-add-result
+add-result c =
+    let b = c .before .before .args .bytes .now in
+    let t = c .before .before .args .t in
+    omega (arith, c .before .before .pre .2, written-few b t (c .before .before .pre .0) (c .before .before .args .k) (c .before .before .pre .1))
+
+-- src/lib.rt:742:5
+shared-slice-read-result : tie.Need-shared-slice-read-result
+shared-slice-read-result c =
+    let b = c .before .before .before .args .bytes .now in
+    let t = c .before .before .before .args .t in
+    let s : length (c .before .rule-body .result .now) ≡ 14 = ap length (c .before .rule-body .ensures) ∙ body-size b t (c .before .before .before .pre .0) 3 (c .before .before .before .args .k) (omega arith) (c .before .before .before .pre .1) in
+    omega (arith, c .before .before .before .pre .2, written-few b t (c .before .before .before .pre .0) (c .before .before .before .args .k) (c .before .before .before .pre .1))
+
+-- src/lib.rt:737:1
+returns : tie.Need-returns
+returns c =
+    let b = c .before .before .before .args .bytes .now in
+    let t = c .before .before .before .args .t in
+    ap (λ (l : List ℕ). byteOf l (10 + c .before .before .before .args .j)) (c .before .rule-body .ensures) ∙ sym (written-in b t (c .before .before .before .pre .0) (c .before .before .before .args .k) (c .before .before .before .args .j) (c .before .before .before .pre .1) (c .before .before .before .pre .2))
+
+pub written-letter-spec : {M : Type 1} → statement M
+written-letter-spec =
+    tie.close (tie.spec rule-body-requires add-result shared-slice-read-result returns)
