@@ -3,12 +3,13 @@ use mathlib.Core.Path.{_≡_, refl, ap, sym, subst, _∙_}
 use mathlib.Core.Bool.{Bool, true, false, true≢false}
 use mathlib.Core.Logic.{inl, inr}
 use mathlib.Core.List.{List, _++_}
-use Prim.Native.Nat.{ℕ, zero, suc, _+_, _-_, _*_, _%_, _<_, _≤_, min}
+use Prim.Native.Nat.{ℕ, zero, suc, _+_, _-_, _*_, _<_, _≤_, min}
 use native.Mathlib.Decide.{ℕ-discrete, decLt}
 use native.Mathlib.Nat.{mod-lt}
 use native.Mathlib.Omega.{arith}
-use lib.Dec.{eqb, ltb}
-use lib.ListN.{length, getD}
+use lib.Dec.{eqb}
+use lib.ListN.{length, getD, take, drop, length-take, length-drop}
+use lib.Seq.{getD-take, getD-drop, ext-getD}
 use borrow.Author.Tests.{eq-eqb, eqb-true, ne-eqb, lt-ltb, le-ltb}
 use Rattle.model.specs.declared.Group.{Group}
 use Rattle.model.specs.Groups.{Processes, sameGroup, restrict}
@@ -18,10 +19,10 @@ use Rattle.model.proofs.Groups.{sameGroup-true}
 use Rattle.model.proofs.Tests.{by-test, and-left, and-right}
 use Rattle.automaton.specs.StateNumbers.{stateNumber}
 use Rattle.automaton.specs.StateSets.{firstFrom}
-use Rattle.automaton.proofs.StateSets.{Fails, First, fails-none, fails-join, fails-one, first-of, first-is, first-at}
+use Rattle.automaton.proofs.StateSets.{Fails, fails-none, fails-join, fails-one, first-of, first-is, first-at}
 use Rattle.records.specs.Entries.{letterAt, beforeAt, Fits}
 use Rattle.records.proofs.Entries.{log-reads}
-use Rattle.chains.specs.WordBytes.{wordAt, withWord}
+use Rattle.chains.specs.WordBytes.{withWord}
 use Rattle.chains.specs.Buckets.{bucketOf, recordBucket, inBucket, recordReads, noLink, linkTo, linkPlace, linkAt, withRecord, ChainRoom, ChainedFrom, Chained, SameOutside, Emptied}
 use Rattle.chains.proofs.WordBytes.{length-word, byte-other, word-back, word-same, word-other}
 
@@ -51,8 +52,8 @@ link-min base r h q = elim (decLt r base) [ yes l ↦ rw (link-below base r l) (
 pub outside-none : (n at : ℕ) (s : List ℕ) → SameOutside n at s s
 outside-none n at s = record { size = refl; before = λ i h. refl; behind = λ i h. refl }
 
-pub outside-join : (n at : ℕ) (s t u : List ℕ) → SameOutside n at s t → SameOutside n at t u → SameOutside n at s u
-outside-join n at s t u p q = record {
+pub outside-join : {n at : ℕ} {s t u : List ℕ} → SameOutside n at s t → SameOutside n at t u → SameOutside n at s u
+outside-join p q = record {
   size = q .size ∙ p .size;
   before = λ i h. q .before i h ∙ p .before i h;
   behind = λ i h. q .behind i h ∙ p .behind i h;
@@ -65,6 +66,17 @@ outside-link n at s k x l = record {
   behind = λ i h. byte-other s (linkPlace at k) x i (λ e. omega arith) (λ e. omega arith);
 }
 
+-- the bytes before the chains, and those behind them
+pub outside-take : {n at : ℕ} {s t : List ℕ} → SameOutside n at s t → take at t ≡ take at s
+outside-take {n} {at} {s} {t} w = ext-getD 0 (take at t) (take at s) (length-take at t ∙ ap (λ (k : ℕ). min at k) (w .size) ∙ sym (length-take at s))
+    (λ i h. let l : i < at = omega (arith, length-take at t) in getD-take at t i 0 l ∙ w .before i l ∙ sym (getD-take at s i 0 l))
+
+pub outside-drop : {n at : ℕ} {s t : List ℕ} → SameOutside n at s t → drop (at + 4 * n) t ≡ drop (at + 4 * n) s
+outside-drop {n} {at} {s} {t} w =
+    let e = at + 4 * n in
+    ext-getD 0 (drop e t) (drop e s) (length-drop e t ∙ ap (λ (k : ℕ). k - e) (w .size) ∙ sym (length-drop e s))
+    (λ i h. getD-drop e t i 0 ∙ w .behind (e + i) (omega arith) ∙ sym (getD-drop e s i 0))
+
 -- ---- empty buckets
 -- the heads of the first h buckets are set, and nothing outside the chains is changed
 pub record Emptying (n at h : ℕ) (s t : List ℕ) : Type 0 where
@@ -74,9 +86,9 @@ pub record Emptying (n at h : ℕ) (s t : List ℕ) : Type 0 where
 pub emptying-start : (n at : ℕ) (s : List ℕ) → Emptying n at 0 s s
 emptying-start n at s = record { same = outside-none n at s; empty = λ k l. absurd (omega arith) }
 
-pub emptying-turn : (n at h : ℕ) (s t : List ℕ) → h < n → at + 4 * n ≤ length s → Emptying n at h s t → Emptying n at (h + 1) s (withWord t (linkPlace at h) noLink)
-emptying-turn n at h s t l room w = record {
-  same = outside-join n at s t (withWord t (linkPlace at h) noLink) (w .same) (outside-link n at t h noLink (omega arith));
+pub emptying-turn : {n at h : ℕ} {s t : List ℕ} → h < n → at + 4 * n ≤ length s → Emptying n at h s t → Emptying n at (h + 1) s (withWord t (linkPlace at h) noLink)
+emptying-turn {n} {at} {h} {s} {t} l room w = record {
+  same = outside-join (w .same) (outside-link n at t h noLink (omega arith));
   empty = λ k q. elim (ℕ-discrete k h) [
     | yes e ↦ ap (λ (j : ℕ). linkAt (withWord t (linkPlace at h) noLink) at j) e ∙ link-same t at h noLink (omega (arith, w .same .size)) (omega arith)
     | no ne ↦ link-other t at h noLink k ne ∙ w .empty k (omega arith)
@@ -128,7 +140,7 @@ module _ (log : List ℕ) (base n at : ℕ) (s : List ℕ) (fits : base ≤ n) (
   front-outside =
       let h = recordBucket log n r in
       let t = withWord s (linkPlace at (n + r)) (linkAt s at h) in
-      outside-join n at s t (withWord t (linkPlace at h) r) (outside-link n at s (n + r) (linkAt s at h) (omega arith)) (outside-link n at t h r (omega (arith, own-below)))
+      outside-join (outside-link n at s (n + r) (linkAt s at h) (omega arith)) (outside-link n at t h r (omega (arith, own-below)))
 
   -- the head of its bucket
   head-own : linkAt (withRecord log n at s r) at (recordBucket log n r) ≡ r
@@ -181,9 +193,9 @@ pub record Chaining (log : List ℕ) (base n at r : ℕ) (s t : List ℕ) : Type
 pub chaining-start : (log : List ℕ) (base n at : ℕ) (s : List ℕ) → Emptied n at s → Chaining log base n at base s s
 chaining-start log base n at s w = record { fits = omega arith; same = outside-none n at s; chained = chained-none log base n at s w }
 
-pub chaining-turn : (log : List ℕ) (base n at r : ℕ) (s t : List ℕ) → ChainRoom log base n at s → 0 < r → Chaining log base n at r s t
+pub chaining-turn : {log : List ℕ} {base n at r : ℕ} {s t : List ℕ} → ChainRoom log base n at s → 0 < r → Chaining log base n at r s t
     → Chaining log base n at (r - 1) s (withRecord log n at t (r - 1))
-chaining-turn log base n at r s t room h w =
+chaining-turn {log} {base} {n} {at} {r} {s} {t} room h w =
     let q = r - 1 in
     let e : r ≡ suc q = omega arith in
     let a : base ≤ n = room .fits in
@@ -193,7 +205,7 @@ chaining-turn log base n at r s t room h w =
     let c : ChainedFrom (suc q) log base n at t = subst (λ (k : ℕ). ChainedFrom k log base n at t) e (w .chained) in
     record {
       fits = omega arith;
-      same = outside-join n at s t (withRecord log n at t q) (w .same) (front-outside log base n at t a b l q less c);
+      same = outside-join (w .same) (front-outside log base n at t a b l q less c);
       chained = chained-front log base n at t a b l q less c;
     }
 
@@ -238,23 +250,23 @@ leads-link log base n letter g from w h small l p e =
     }
 
 -- the head of their bucket, and the next link of a record in it
-pub leads-head : (log : List ℕ) (base n at : ℕ) (s : List ℕ) (letter : ℕ) (g : Group) (h w : ℕ) → ChainRoom log base n at s → Chained log base n at s → h < n
+pub leads-head : {log : List ℕ} {base n at : ℕ} {s : List ℕ} {h w : ℕ} (letter : ℕ) (g : Group) → ChainRoom log base n at s → Chained log base n at s → h < n
     → h ≡ bucketOf n letter g → w ≡ linkAt s at h → Leads log base n letter g 0 w
-leads-head log base n at s letter g h w room chains l b e =
+leads-head {log} {base} {n} {at} {s} {h} {w} letter g room chains l b e =
     leads-link log base n letter g 0 w h (omega (arith, room .fits, room .short)) (omega arith) b (e ∙ chains .head h l)
 
-pub leads-next : (log : List ℕ) (base n at : ℕ) (s : List ℕ) (letter : ℕ) (g : Group) (r w : ℕ) → ChainRoom log base n at s → Chained log base n at s → r < base
+pub leads-next : {log : List ℕ} {base n at : ℕ} {s : List ℕ} {r w : ℕ} (letter : ℕ) (g : Group) → ChainRoom log base n at s → Chained log base n at s → r < base
     → recordBucket log n r ≡ bucketOf n letter g → w ≡ linkAt s at (n + r) → Leads log base n letter g (suc r) w
-leads-next log base n at s letter g r w room chains l b e =
+leads-next {log} {base} {n} {at} {s} {r} {w} letter g room chains l b e =
     leads-link log base n letter g (suc r) w (recordBucket log n r) (omega (arith, room .fits, room .short)) l b (e ∙ chains .next r (omega arith) l)
 
 pub leads-start : (log : List ℕ) (base n letter : ℕ) (g : Group) (w : ℕ) → (w < base → recordBucket log n w ≡ bucketOf n letter g) → Leads log base n letter g (min w base) w
 leads-start log base n letter g w b = record { ahead = omega arith; skips = fails-none (recordReads log letter g) (min w base); bucket = b }
 
 -- past a record that does not read them
-pub leads-turn : (log : List ℕ) (base n letter : ℕ) (g : Group) (from r w : ℕ) → r < base → recordReads log letter g r ≡ false
+pub leads-turn : {log : List ℕ} {base n letter : ℕ} {g : Group} {from r w : ℕ} → r < base → recordReads log letter g r ≡ false
     → Leads log base n letter g from r → Leads log base n letter g (suc r) w → Leads log base n letter g from w
-leads-turn log base n letter g from r w l f p q =
+leads-turn {log} {base} {n} {letter} {g} {from} {r} {w} l f p q =
     let test = recordReads log letter g in
     let e : min r base ≡ r = omega arith in
     let s : suc r ≡ r + 1 = omega arith in
@@ -267,9 +279,9 @@ leads-turn log base n letter g from r w l f p q =
     }
 
 -- at a record that reads them, or at no record
-pub leads-end : (log : List ℕ) (base n letter : ℕ) (g : Group) (from w k : ℕ) → k ≡ min w base → (k < base → recordReads log letter g k ≡ true)
+pub leads-end : {log : List ℕ} {base n letter : ℕ} {g : Group} {from w k : ℕ} → k ≡ min w base → (k < base → recordReads log letter g k ≡ true)
     → Leads log base n letter g from w → k ≡ firstFrom (recordReads log letter g) from (base - from)
-leads-end log base n letter g from w k e t p = first-is (recordReads log letter g) from (base - from) k (record {
+leads-end {log} {base} {n} {letter} {g} {from} {w} {k} e t p = first-is (recordReads log letter g) from (base - from) k (record {
   low = omega (arith, p .ahead);
   high = omega (arith, p .ahead);
   passes = λ h. t (omega (arith, p .ahead));
@@ -277,9 +289,9 @@ leads-end log base n letter g from w k e t p = first-is (recordReads log letter 
 })
 
 -- the first match from a link on is the first from `from` on
-pub leads-first : (log : List ℕ) (base n letter : ℕ) (g : Group) (from w k : ℕ) → Leads log base n letter g from w
+pub leads-first : {log : List ℕ} {base n letter : ℕ} {g : Group} {from w k : ℕ} → Leads log base n letter g from w
     → k ≡ firstFrom (recordReads log letter g) (min w base) (base - min w base) → k ≡ firstFrom (recordReads log letter g) from (base - from)
-leads-first log base n letter g from w k p e =
+leads-first {log} {base} {n} {letter} {g} {from} {w} {k} p e =
     let test = recordReads log letter g in
     let f = first-at test (min w base) (base - min w base) k e in
     first-is test from (base - from) k (record {

@@ -36,6 +36,7 @@ word-same s t i p q = rw (p, q)
 
 -- a number at another place, two bytes away or more, stays
 pub word-other : (s : List ℕ) (i x j : ℕ) → (i + 2 ≤ j) ⊎ (j + 2 ≤ i) → wordAt (withWord s i x) j ≡ wordAt s j
-word-other s i x j = ⊎-elim
-    (λ h. word-same s (withWord s i x) j (byte-other s i x j (λ e. omega arith) (λ e. omega arith)) (byte-other s i x (suc j) (λ e. omega arith) (λ e. omega arith)))
-    (λ h. word-same s (withWord s i x) j (byte-other s i x j (λ e. omega arith) (λ e. omega arith)) (byte-other s i x (suc j) (λ e. omega arith) (λ e. omega arith)))
+word-other s i x j d = word-same s (withWord s i x) j (kept j (omega arith) (omega arith)) (kept (suc j) (omega arith) (omega arith))
+  where
+    kept : (k : ℕ) → j ≤ k → k ≤ suc j → getD (withWord s i x) k 0 ≡ getD s k 0
+    kept k p q = byte-other s i x k (λ e. ⊎-elim (λ h. omega arith) (λ h. omega arith) d) (λ e. ⊎-elim (λ h. omega arith) (λ h. omega arith) d)

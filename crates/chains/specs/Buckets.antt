@@ -35,7 +35,7 @@ recordReads log letter g i = eqb (letterAt log i) letter && sameGroup g (beforeA
 abbrev pub noLink : ℕ
 noLink = 65535
 
--- the link to a record, or to none where there is no record r below base
+-- the link to record r, or none where r is not below base
 unfoldable pub linkTo : ℕ → ℕ → ℕ
 linkTo base r = cond (ltb r base) r noLink
 

@@ -1,13 +1,8 @@
 use Prim.Native.Nat.{_≤_, _-_}
 use Rattle.chains.proofs.Buckets.{Emptying, emptying-start, emptying-turn}
 use native.Mathlib.Omega.{arith}
-use lib.ListN.{length, length-set}
-use borrow.Author.Needs.{needs}
 use Rattle.chains.proofs.empty_heads.Statement.{statement}
 use Rattle.chains.proofs.empty_heads.Tie as tie
-use Rattle.chains.proofs.empty_heads.Reads as reads
-use Rattle.chains.proofs.empty_heads.Lts as lts
-use Rattle.chains.proofs.words.put_word.Reads as put-word-reads
 
 abbrev Inv-loop : tie.InvT-loop
 Inv-loop scratch₀ at n h₀ scratch h = (h ≤ n) × Emptying n at h scratch₀ scratch
@@ -15,45 +10,34 @@ Inv-loop scratch₀ at n h₀ scratch h = (h ≤ n) × Emptying n at h scratch�
 abbrev μ-loop : tie.MeasureT-loop
 μ-loop scratch₀ at n h₀ scratch h = n - h
 
--- src/lib.rt:50:5
 loop-holds : tie.Need-loop-holds Inv-loop μ-loop
 loop-holds c = let a = c .before .args in (omega arith, emptying-start (a .n) (a .at) (a .scratch .now))
 
--- src/lib.rt:51:32
 mul-put-word : tie.Need-mul-put-word Inv-loop μ-loop
 mul-put-word c = omega arith
 
--- src/lib.rt:51:27
 add-put-word : tie.Need-add-put-word Inv-loop μ-loop
 add-put-word c = omega arith
 
--- src/lib.rt:51:9
 put-word-requires : tie.Need-put-word-requires Inv-loop μ-loop
 put-word-requires c κs = omega (arith, c .before .before .loop .inv .1 .same .size)
 
--- src/lib.rt:52:9
 add-h : tie.Need-add-h Inv-loop μ-loop
 add-h c = omega arith
 
--- src/lib.rt:50:5
 loop-less : tie.Need-loop-less Inv-loop μ-loop
 loop-less c = omega arith
 
--- src/lib.rt:50:5
 loop-again : tie.Need-loop-again Inv-loop μ-loop
 loop-again c =
-    let a = c .before .before .before .before .before .before .before .args in
     let t = c .before .before .before .before .before .loop in
-    (omega arith, rw (c .before .before .put-word .ensures) (emptying-turn (a .n) (a .at) (t .h) (a .scratch .now) (t .scratch) (omega arith) (c .before .before .before .before .before .before .before .pre) (t .inv .1)))
+    (omega arith, rw (c .before .before .put-word .ensures) (emptying-turn (omega arith) (c .before .before .before .before .before .before .before .pre) (t .inv .1)))
 
--- src/lib.rt:45:1
 same-length : tie.Need-same-length Inv-loop μ-loop
 same-length c = c .before .loop .inv .1 .same .size
 
--- src/lib.rt:45:1
 returns : tie.Need-returns Inv-loop μ-loop
 returns c =
-    let a = c .before .before .before .args in
     let t = c .before .loop in
     (t .inv .1 .same, λ h l. t .inv .1 .empty h (omega arith))
 

@@ -4,46 +4,35 @@ use Rattle.automaton.specs.StateSets.{firstFrom}
 use Rattle.chains.specs.Buckets.{recordReads}
 use Rattle.chains.proofs.Buckets.{leads-head, leads-first}
 use native.Mathlib.Omega.{arith}
-use lib.ListN.{length, length-set}
 use borrow.Author.Needs.{needs}
 use Rattle.chains.proofs.first_match.Statement.{statement}
 use Rattle.chains.proofs.first_match.Tie as tie
-use Rattle.chains.proofs.first_match.Reads as reads
-use Rattle.chains.proofs.first_match.Lts as lts
-use Rattle.chains.proofs.bucket.Reads as bucket-reads
-use Rattle.chains.proofs.follow.Reads as follow-reads
-use Rattle.chains.proofs.link_at.Reads as link-at-reads
 
--- src/lib.rt:145:9
 returns : tie.Need-returns
 unfolding firstFrom
 returns c = rw (c .if1 .taken)
 
--- src/lib.rt:147:38
 bucket-requires : tie.Need-bucket-requires
 bucket-requires c κs = search needs
 
--- src/lib.rt:147:9
 link-at-requires : tie.Need-link-at-requires
 link-at-requires c κs = search needs
 
--- src/lib.rt:148:5
 follow-requires : tie.Need-follow-requires
 follow-requires c κs =
     let a = c .before .before .before .before .before .args in
     let p = c .before .before .before .before .before .pre in
     let b = c .before .bucket in
-    let found = leads-head (a .log .now) (a .base) (a .n) (a .at) (a .scratch .now) (a .letter) (a .g) (b .result) (c .link-at .result) (p .0) (p .1) (b .ensures .1) (b .ensures .0) (c .link-at .ensures) in
+    let found = leads-head (a .letter) (a .g) (p .0) (p .1) (b .ensures .1) (b .ensures .0) (c .link-at .ensures) in
     (p .0, p .1, found .bucket)
 
--- src/lib.rt:132:1
 returns-2 : tie.Need-returns-2
 returns-2 c =
     let a = c .before .before .before .before .before .before .args in
     let p = c .before .before .before .before .before .before .pre in
     let b = c .before .before .bucket in
-    let found = leads-head (a .log .now) (a .base) (a .n) (a .at) (a .scratch .now) (a .letter) (a .g) (b .result) (c .before .link-at .result) (p .0) (p .1) (b .ensures .1) (b .ensures .0) (c .before .link-at .ensures) in
-    leads-first (a .log .now) (a .base) (a .n) (a .letter) (a .g) 0 (c .before .link-at .result) (c .follow .result) found (c .follow .ensures)
+    let found = leads-head (a .letter) (a .g) (p .0) (p .1) (b .ensures .1) (b .ensures .0) (c .before .link-at .ensures) in
+    leads-first found (c .follow .ensures)
     ∙ ap (λ (k : ℕ). firstFrom (recordReads (a .log .now) (a .letter) (a .g)) 0 k) (omega arith)
 
 pub first-match-spec : {M : Type 1} → statement M

@@ -3,13 +3,8 @@ use Prim.Native.Nat.{ℕ}
 use Rattle.chains.specs.Buckets.{ChainedFrom}
 use Rattle.chains.proofs.Buckets.{Chaining, chaining-start, chaining-turn}
 use native.Mathlib.Omega.{arith}
-use lib.ListN.{length, length-set}
-use borrow.Author.Needs.{needs}
 use Rattle.chains.proofs.link_records.Statement.{statement}
 use Rattle.chains.proofs.link_records.Tie as tie
-use Rattle.chains.proofs.link_records.Reads as reads
-use Rattle.chains.proofs.link_records.Lts as lts
-use Rattle.chains.proofs.link_record.Reads as link-record-reads
 
 abbrev Inv-loop : tie.InvT-loop
 Inv-loop log scratch₀ at n base r₀ scratch r = Chaining log base n at r scratch₀ scratch
@@ -17,37 +12,29 @@ Inv-loop log scratch₀ at n base r₀ scratch r = Chaining log base n at r scra
 abbrev μ-loop : tie.MeasureT-loop
 μ-loop log scratch₀ at n base r₀ scratch r = r
 
--- src/lib.rt:73:5
 loop-holds : tie.Need-loop-holds Inv-loop μ-loop
 loop-holds c = let a = c .before .before .args in chaining-start (a .log .now) (a .base) (a .n) (a .at) (a .scratch .now) (c .before .before .pre .1)
 
--- src/lib.rt:74:9
 sub-r : tie.Need-sub-r Inv-loop μ-loop
 sub-r c = omega arith
 
--- src/lib.rt:75:9
 link-record-requires : tie.Need-link-record-requires Inv-loop μ-loop
 link-record-requires c κs =
     let room = c .before .before .before .before .before .pre .0 in
     let t = c .before .before .loop in
     (omega arith, room .short, omega (arith, room .records, t .inv .fits), omega (arith, room .room, t .inv .same .size))
 
--- src/lib.rt:73:5
 loop-less : tie.Need-loop-less Inv-loop μ-loop
 loop-less c = omega arith
 
--- src/lib.rt:73:5
 loop-again : tie.Need-loop-again Inv-loop μ-loop
 loop-again c =
-    let a = c .before .before .before .before .before .before .before .before .args in
     let t = c .before .before .before .before .before .loop in
-    rw (c .before .before .link-record .ensures) (chaining-turn (a .log .now) (a .base) (a .n) (a .at) (t .r) (a .scratch .now) (t .scratch) (c .before .before .before .before .before .before .before .before .pre .0) (omega arith) (t .inv))
+    rw (c .before .before .link-record .ensures) (chaining-turn (c .before .before .before .before .before .before .before .before .pre .0) (omega arith) (t .inv))
 
--- src/lib.rt:68:1
 same-length : tie.Need-same-length Inv-loop μ-loop
 same-length c = c .before .loop .inv .same .size
 
--- src/lib.rt:68:1
 returns : tie.Need-returns Inv-loop μ-loop
 returns c =
     let a = c .before .before .before .before .args in

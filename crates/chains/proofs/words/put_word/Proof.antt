@@ -1,38 +1,29 @@
 use native.Mathlib.Numerals.{add-one}
 use Rattle.chains.specs.WordBytes.{withWord}
 use native.Mathlib.Omega.{arith}
-use lib.ListN.{length, length-set}
+use lib.ListN.{length-set}
 use borrow.Author.Needs.{needs}
 use Rattle.chains.proofs.words.put_word.Statement.{statement}
 use Rattle.chains.proofs.words.put_word.Tie as tie
-use Rattle.chains.proofs.words.put_word.Reads as reads
-use Rattle.chains.proofs.words.put_word.Lts as lts
 
--- src/words.rt:24:12
 cast-s : tie.Need-cast-s
 cast-s c = search needs
 
--- src/words.rt:24:5
 slice-write-s : tie.Need-slice-write-s
 slice-write-s c = search needs
 
--- src/words.rt:25:16
 cast-s-2 : tie.Need-cast-s-2
 cast-s-2 c = search needs
 
--- src/words.rt:25:7
 add-s : tie.Need-add-s
 add-s c = search needs
 
--- src/words.rt:25:5
 slice-write-s-2 : tie.Need-slice-write-s-2
 slice-write-s-2 c = simp length-set (omega arith)
 
--- src/words.rt:20:1
 same-length : tie.Need-same-length
 same-length c = search needs
 
--- src/words.rt:20:1
 returns : tie.Need-returns
 unfolding withWord
 returns c = rw (add-one (c .args .i))

@@ -4,43 +4,31 @@ use lib.ListN.{getD}
 use native.Mathlib.Numerals.{add-one}
 use Rattle.chains.specs.WordBytes.{wordAt}
 use native.Mathlib.Omega.{arith}
-use lib.ListN.{length, length-set}
 use borrow.Author.Needs.{needs}
 use Rattle.chains.proofs.words.word_at.Statement.{statement}
 use Rattle.chains.proofs.words.word_at.Tie as tie
-use Rattle.chains.proofs.words.word_at.Reads as reads
-use Rattle.chains.proofs.words.word_at.Lts as lts
-use Rattle.chains.proofs.words.as_u16.Reads as as-u16-reads
 
--- src/words.rt:17:12
 shared-slice-read-as-u16 : tie.Need-shared-slice-read-as-u16
 shared-slice-read-as-u16 c = search needs
 
--- src/words.rt:17:5
 as-u16-requires : tie.Need-as-u16-requires
 as-u16-requires c κs = search needs
 
--- src/words.rt:17:35
 add-as-u16 : tie.Need-add-as-u16
 add-as-u16 c = search needs
 
--- src/words.rt:17:33
 shared-slice-read-as-u16-2 : tie.Need-shared-slice-read-as-u16-2
 shared-slice-read-as-u16-2 c = search needs
 
--- src/words.rt:17:26
 as-u16-requires-2 : tie.Need-as-u16-requires-2
 as-u16-requires-2 c κs = search needs
 
--- src/words.rt:17:20
 mul-result : tie.Need-mul-result
 mul-result c = search needs
 
--- src/words.rt:17:5
 add-result : tie.Need-add-result
 add-result c = search needs
 
--- src/words.rt:13:1
 returns : tie.Need-returns
 unfolding wordAt
 returns c =
