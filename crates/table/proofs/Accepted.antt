@@ -1,27 +1,24 @@
 -- What an accepted table is: its items stand at the places that its counts give, and each passed every check against all its processes and letters.
+use mathlib.Core.Bool.{true, false, not, _&&_, _||_}
+use mathlib.Core.List.{List, []}
 use mathlib.Core.Path.{_≡_, refl, sym, ap, ap₂, _∙_, subst}
-use mathlib.Core.Bool.{Bool, true, false, cond, not, _&&_, _||_, true≢false, false≢true}
-use mathlib.Core.List.{List, [], _∷_, _++_}
-use mathlib.Core.Logic.{⊎-elim}
-use Prim.Native.Nat.{ℕ, zero, suc, _+_, _-_, _*_, _<_, _≤_}
+use Prim.Native.Nat.{ℕ, zero, suc, _+_, _*_, _<_, _≤_}
 use native.Mathlib.Decide.{ℕ-discrete}
-use native.Mathlib.Nat.{eq-or-lt-of-le}
 use native.Mathlib.Omega.{arith}
 use lib.Dec.{eqb, ltb, leb}
-use lib.ListN.{length, getD, take, drop}
-use borrow.Author.Tests.{eq-eqb, ne-eqb, eqb-false, ltb-true, ltb-false, leb-true, leb-false}
-use Rattle.model.specs.Tables.{Item, bodyLength, ceiling, bodies, count, controlsOf, locOf, ruleOf, transitionOf, valueFits, cooperates, leavesControl, sameBytes, isTwin, refusal, Reading, accepted, refused, readFrom, read}
-use Rattle.model.proofs.Tests.{by-test, by-zero, and-left, and-right}
-use Rattle.table.specs.declared.Table.{Table}
+use lib.ListN.{length, getD}
+use borrow.Author.Tests.{eqb-false, leb-true, leb-false}
+use Rattle.model.proofs.Tests.{by-test, by-zero}
+use Rattle.model.specs.Tables.{Item, bodyLength, bodies, controlsOf, locOf, ruleOf, transitionOf, valueFits, cooperates, leavesControl, refusal, Reading, accepted, refused, readFrom, read}
+use Rattle.table.specs.Places.{bodyAt, bodiesAt, offset, bodyOf, itemsBelow, counts, countsAt, itemsBefore, processesIn, lettersIn, Modest, Passed}
+use Rattle.table.specs.Reading.{countsOf, parsed, Holds, itemsOf, itemsIn, outOfTurn, readOn, Stepped}
 use Rattle.table.specs.declared.Cursor.{Cursor}
-use Rattle.table.specs.declared.Parsed.{Parsed}
 use Rattle.table.specs.declared.Parsed.the-variants.{Accepted, Refused}
-use Rattle.table.specs.declared.Step.the-variants.{Next, Done}
-use Rattle.table.specs.Places.{bodyAt, bodiesAt, offset, bodyOf, itemsBelow, counts, countsAt, itemsBefore, processesIn, lettersIn, Modest, advanced, Passed}
-use Rattle.table.specs.Reading.{countsOf, parsed, Holds, itemsOf, itemsIn, outOfTurn, readOn, Onward, Stepped}
+use Rattle.table.specs.declared.Step.the-variants.{Done}
+use Rattle.table.specs.declared.Table.{Table}
+use Rattle.table.proofs.Cursors.{modest-of, counts-before, turn-before, processes-before, letters-before, kind-place, count-other, count-same, Admitted, beyond}
 use Rattle.table.proofs.Places.{offset-agrees}
-use Rattle.table.proofs.Cursors.{modest-of, count-before, counts-before, turn-before, processes-before, letters-before, kind-place, count-other, count-same, Admitted, beyond, passed-beyond}
-use Rattle.table.proofs.Steps.{Clear, clear-of, or-right, step-end, step-refused, step-next, step-leftover, next-admitted, end-accepted, Going, going-start}
+use Rattle.table.proofs.Steps.{Clear, clear-of, or-right, step-end, step-refused, step-next, step-leftover, next-admitted, end-accepted, going-start}
 
 -- ---- the checks 5, 6 and 7 of one item
 pub record Fit (ps ls : List (List ℕ)) (k : ℕ) (body : List ℕ) : Type 0 where

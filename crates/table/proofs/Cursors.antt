@@ -1,23 +1,21 @@
 -- Laws of a cursor: what its counts say of the items before it, and the cursor behind one item more.
-use mathlib.Core.Path.{_≡_, refl, sym, ap, ap₂, _∙_, subst}
-use mathlib.Core.Bool.{Bool, true, false, cond, _&&_, _||_}
+use mathlib.Core.Bool.{Bool, false, cond, _&&_}
 use mathlib.Core.List.{List, [], _∷_, _++_}
-use Prim.Native.Nat.{ℕ, zero, suc, _+_, _-_, _*_, _<_, _≤_}
+use mathlib.Core.Path.{_≡_, refl, sym, ap, _∙_, subst}
+use Prim.Native.Nat.{ℕ, zero, suc, _+_, _*_, _<_, _≤_}
 use native.Mathlib.Decide.{ℕ-discrete}
-use native.Mathlib.Nat.{le-of-suc-le-suc}
 use native.Mathlib.Omega.{arith}
-use lib.Dec.{eqb, ltb, leb}
-use lib.ListN.{length, getD}
+use lib.Dec.{eqb, leb}
+use lib.ListN.{length}
 use borrow.Author.Tests.{ne-eqb, lt-leb}
 use Rattle.model.specs.Lists.{anyOf}
-use Rattle.model.specs.Tables.{Item, bodyLength, ceiling, bodies, count, lastKind, isOutOfTurn, sameBytes}
-use Rattle.table.specs.declared.Table.{Table}
-use Rattle.table.specs.declared.Cursor.{Cursor}
-use Rattle.table.specs.Places.{bodyAt, bodiesAt, offset, itemsBelow, counts, countsAt, itemsBefore, processesIn, lettersIn, Modest, advanced, Heads, Passed}
+use Rattle.model.specs.Tables.{bodyLength, ceiling, bodies, count, isOutOfTurn, sameBytes}
+use Rattle.table.specs.Places.{bodyAt, bodiesAt, offset, countsAt, itemsBefore, processesIn, lettersIn, Modest, advanced, Heads, Passed}
 use Rattle.table.specs.Reading.{countsOf, outOfTurn}
-use Rattle.table.proofs.Scans.{and-false}
+use Rattle.table.specs.declared.Cursor.{Cursor}
 use Rattle.table.proofs.Bodies.{bodies-length}
 use Rattle.table.proofs.Places.{bodies-above, bodies-below, offset-snoc, items-snoc, offset-still, lastKind-snoc}
+use Rattle.table.proofs.Scans.{and-false}
 
 -- ---- places by counts
 module _ (bytes : List ℕ) (c : Cursor) where
@@ -144,6 +142,22 @@ module _ (bytes : List ℕ) (c : Cursor) (k : ℕ) (p : Passed bytes c) (a : Adm
       | no n ↦ rw (count-other c k (c .at + 1 + bodyLength k) j n) (p .ceilings j)
     ];
   }
+
+-- what check 8 needs of an item of kind 3, 4 or 5 at the cursor
+pub record Seen (bytes : List ℕ) (c : Cursor) (k : ℕ) : Type 0 where
+  pub place : offset (countsAt c) k + countsAt c k * (1 + bodyLength k) ≡ c .at
+  pub inside : c .at + 1 + bodyLength k ≤ length bytes
+  pub same : (first : ℕ) → first + countsAt c k * (1 + bodyLength k) ≡ c .at
+      → anyOf (sameBytes (bodyAt bytes (bodyLength k) (c .at))) (bodiesAt bytes (bodyLength k) first (countsAt c k)) ≡ anyOf (sameBytes (bodyAt bytes (bodyLength k) (c .at))) (bodies k (itemsBefore bytes c))
+
+pub seen-of : (bytes : List ℕ) (c : Cursor) (kind k : ℕ) → kind ≡ k → k < 8 → Passed bytes c → c .last ≤ kind → c .at + 1 + bodyLength kind ≤ length bytes → Seen bytes c k
+seen-of bytes c kind k e h p l w =
+    let m : c .last ≤ k = subst (λ (i : ℕ). c .last ≤ i) e l in
+    record {
+      place = kind-place bytes c p k h m;
+      inside = subst (λ (i : ℕ). c .at + 1 + bodyLength i ≤ length bytes) e w;
+      same = λ first q. seen-before bytes c p k first (bodyAt bytes (bodyLength k) (c .at)) h m q;
+    }
 
 -- kinds without check 8
 pub no-twin : (k : ℕ) (b : Bool) → (k ≡ 3 → ⊥) → (k ≡ 4 → ⊥) → (k ≡ 5 → ⊥) → (leb 3 k && leb k 5 && b) ≡ false

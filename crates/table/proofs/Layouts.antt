@@ -1,29 +1,28 @@
 -- Laws of an accepted table, for those who read it: where its parts stand and what holds of them.
-use mathlib.Core.Path.{_≡_, refl, sym, ap, ap₂, _∙_, subst}
-use mathlib.Core.Bool.{Bool, true, false, cond, _&&_}
-use mathlib.Core.List.{List, [], _∷_, _++_, map}
+use mathlib.Core.Bool.{true, _&&_}
+use mathlib.Core.List.{List, [], _∷_}
 use mathlib.Core.Logic.{⊎-elim}
+use mathlib.Core.Path.{_≡_, refl, sym, ap, _∙_, subst}
 use Prim.Native.Nat.{ℕ, zero, suc, _+_, _-_, _*_, _^_, _<_, _≤_}
 use native.Mathlib.Nat.{not-suc-le-zero, le-of-suc-le-suc, eq-or-lt-of-le, mul-le-mul-right, suc-mul}
 use native.Mathlib.Omega.{arith}
-use lib.Dec.{eqb, ltb, leb}
+use lib.Dec.{ltb, leb}
 use lib.ListN.{length, getD, take, drop, length-map, length-take, length-drop, List·getD-map}
 use lib.Seq.{getD-take, getD-drop}
 use borrow.Author.Tests.{ltb-true, leb-true}
 use Rattle.model.proofs.Tests.{and-left, and-right}
-use Rattle.model.specs.declared.Group.{Group}
-use Rattle.model.specs.Groups.{Process, p0, p1, p2, p3, Processes, processesOf}
 use Rattle.model.specs.Automata.{Transition}
-use Rattle.model.specs.Systems.{Rule, System}
-use Rattle.model.specs.Tables.{Item, bodyLength, bodies, count, byteOf, groupOf, numberOf, absent, controlsOf, statesOf, locOf, ruleOf, transitionOf, valueFits, systemOf}
-use Rattle.table.specs.declared.Table.{Table}
-use Rattle.table.specs.Places.{bodyAt, bodiesAt, offset, placeOf, bodyOf, itemsBelow, counts, processesIn, lettersIn, Modest}
+use Rattle.model.specs.Groups.{Process, Processes, processesOf}
+use Rattle.model.specs.Systems.{Rule}
+use Rattle.model.specs.Tables.{locOf, controlsOf, statesOf, writtenPlaces, bodyLength, bodies, byteOf, groupOf, numberOf, absent, ruleOf, transitionOf, valueFits, systemOf}
+use Rattle.table.specs.Places.{bodiesAt, offset, placeOf, bodyOf, counts, processesIn, lettersIn, Modest, Heads}
 use Rattle.table.specs.Reading.{Holds, itemsIn, systemIn, ruleIn, transitionIn, acceptingIn, pileIn, statesIn, processAt}
-use Rattle.table.proofs.Bodies.{body-length, body-byte, bodies-length, bodies-at}
-use Rattle.table.proofs.Places.{bodies-below}
+use Rattle.table.specs.declared.Table.{Table}
+use Rattle.table.proofs.Accepted.{Fit, layout}
+use Rattle.table.proofs.Bodies.{body-length, bodies-length, bodies-at}
+use Rattle.table.proofs.Places.{bodies-below, first-item, second-item}
 use Rattle.table.proofs.Scans.{all-at}
 use Rattle.table.proofs.Values.{power-bound, rule-letter, rule-count, rule-written, transition-letter}
-use Rattle.table.proofs.Accepted.{Fit, Layout, layout}
 
 -- ---- places
 -- the items of kind k end before those of a later kind
@@ -49,12 +48,13 @@ number-at (suc (suc (suc zero))) h = refl
 number-at (suc (suc (suc (suc i)))) h = absurd (omega arith)
 
 module _ (bytes : List ℕ) (t : Table) (h : Holds bytes t) where
-  abbrev n : ℕ → ℕ
-  n = counts t 1
-
   -- the counts are at most the ceilings
   pub table-modest : Modest t
   table-modest = layout bytes t h .modest
+
+  pub table-heads : Heads bytes t
+  unfolding offset
+  table-heads = record { processes = table-modest .processes; letters = table-modest .letters; inside = omega (arith, layout bytes t h .size) }
 
   -- the longest accepted table
   pub table-length : length bytes ≤ 5530
@@ -84,21 +84,37 @@ module _ (bytes : List ℕ) (t : Table) (h : Holds bytes t) where
   body-in k j d m l = ap (λ (bs : List (List ℕ)). getD bs j d) (bodies-in k m) ∙ bodies-at bytes (bodyLength k) (offset (counts t 1) k) (counts t 1 k) j d l
 
   -- ---- processes and letters
-  bound-in : (field i : ℕ) → i < t .processes → byteOf (getD (bodies 1 (itemsIn bytes)) (numberOf (processAt i)) absent) field ≡ byteOf (bodyOf bytes (counts t 1) 1 i) field
-  bound-in field i l =
-      let m : t .processes ≤ 4 = table-modest .processes in
-      ap (λ (j : ℕ). byteOf (getD (bodies 1 (itemsIn bytes)) j absent) field) (number-at i (omega arith)) ∙ ap (λ (b : List ℕ). byteOf b field) (body-in 1 i absent (omega arith) l)
+  pub processes-are : bodies 1 (itemsIn bytes) ≡ processesIn bytes t
+  processes-are = bodies-in 1 (omega arith) ∙ ap (λ (p : ℕ). bodiesAt bytes 2 p (t .processes)) (first-item t)
 
-  pub controls-in : (i : ℕ) → i < t .processes → systemIn bytes .controls (processAt i) ≡ byteOf (bodyOf bytes (counts t 1) 1 i) 0
+  pub letters-are : bodies 2 (itemsIn bytes) ≡ lettersIn bytes t
+  letters-are = bodies-in 2 (omega arith) ∙ ap (λ (p : ℕ). bodiesAt bytes 1 p (t .letters)) (second-item t)
+
+  pub loc-is : systemIn bytes .loc ≡ locOf (lettersIn bytes t)
   unfolding systemIn systemOf
-  controls-in i l = bound-in 0 i l
+  loc-is = ap (λ (ls : List (List ℕ)). locOf ls) letters-are
 
-  pub states-in : (i : ℕ) → i < t .processes → statesIn bytes (processAt i) ≡ byteOf (bodyOf bytes (counts t 1) 1 i) 1
-  states-in i l = bound-in 1 i l
+  pub controls-are : systemIn bytes .controls ≡ controlsOf (processesIn bytes t)
+  unfolding systemIn systemOf
+  controls-are = ap (λ (ps : List (List ℕ)). controlsOf ps) processes-are
+
+  pub states-are : statesIn bytes ≡ statesOf (processesIn bytes t)
+  states-are = ap (λ (ps : List (List ℕ)). statesOf ps) processes-are
+
+  pub controls-at : (i : ℕ) → i < 4 → systemIn bytes .controls (processAt i) ≡ byteOf (getD (processesIn bytes t) i absent) 0
+  controls-at i l = ap (λ (f : Process → ℕ). f (processAt i)) controls-are ∙ ap (λ (j : ℕ). byteOf (getD (processesIn bytes t) j absent) 0) (number-at i l)
+
+  pub states-at : (i : ℕ) → i < 4 → statesIn bytes (processAt i) ≡ byteOf (getD (processesIn bytes t) i absent) 1
+  states-at i l = ap (λ (f : Process → ℕ). f (processAt i)) states-are ∙ ap (λ (j : ℕ). byteOf (getD (processesIn bytes t) j absent) 1) (number-at i l)
+
+  pub process-body : (j : ℕ) → j < t .processes → getD (processesIn bytes t) j absent ≡ bodyOf bytes (counts t 1) 1 j
+  process-body j l = ap (λ (ps : List (List ℕ)). getD ps j absent) (sym processes-are) ∙ body-in 1 j absent (omega arith) l
+
+  pub letter-body : (a : ℕ) → a < t .letters → getD (lettersIn bytes t) a (15 ∷ []) ≡ bodyOf bytes (counts t 1) 2 a
+  letter-body a l = ap (λ (ls : List (List ℕ)). getD ls a (15 ∷ [])) (sym letters-are) ∙ body-in 2 a (15 ∷ []) (omega arith) l
 
   pub loc-in : (a : ℕ) → a < t .letters → systemIn bytes .loc a ≡ processesOf (byteOf (bodyOf bytes (counts t 1) 2 a) 0)
-  unfolding systemIn systemOf
-  loc-in a l = ap (λ (b : List ℕ). processesOf (byteOf b 0)) (body-in 2 a (15 ∷ []) (omega arith) l)
+  loc-in a l = ap (λ (f : ℕ → Processes). f a) loc-is ∙ ap (λ (b : List ℕ). processesOf (byteOf b 0)) (letter-body a l)
 
   pub letters-count : length (lettersIn bytes t) ≡ t .letters
   letters-count = bodies-length bytes 1 (3 * t .processes) (t .letters)
@@ -171,18 +187,18 @@ module _ (bytes : List ℕ) (t : Table) (h : Holds bytes t) where
   pile-letter-in k l = omega (arith, pile-in k l, letters-count, ltb-true (byteOf (bodyOf bytes (counts t 1) 7 k) 0) (length (lettersIn bytes t)) (body-fits 7 k (omega arith) l .values))
 
   -- ---- the letters that rule k writes
-  written-few′ : (k : ℕ) → k < t .rules → byteOf (bodyOf bytes (counts t 1) 3 k) 9 ≤ 4
+  written-few′ : (k : ℕ) → k < t .rules → byteOf (bodyOf bytes (counts t 1) 3 k) 9 ≤ writtenPlaces
   written-few′ k l = rule-count (processesIn bytes t) (lettersIn bytes t) (bodyOf bytes (counts t 1) 3 k) (body-fits 3 k (omega arith) l .values)
 
   pub written-count-in : (k : ℕ) → k < t .rules → length (ruleIn bytes k .written) ≡ byteOf (bodyOf bytes (counts t 1) 3 k) 9
   written-count-in k l =
-      let s : length (bodyOf bytes (counts t 1) 3 k) ≡ 14 = body-size 3 k (omega arith) l in
-      let f : byteOf (bodyOf bytes (counts t 1) 3 k) 9 ≤ 4 = written-few′ k l in
+      let s : length (bodyOf bytes (counts t 1) 3 k) ≡ bodyLength 3 = body-size 3 k (omega arith) l in
+      let f : byteOf (bodyOf bytes (counts t 1) 3 k) 9 ≤ writtenPlaces = written-few′ k l in
       ap (λ (r : Rule). length (r .written)) (rule-in k l) ∙ length-take (byteOf (bodyOf bytes (counts t 1) 3 k) 9) (drop 10 (bodyOf bytes (counts t 1) 3 k)) ∙ (
       let d : length (drop 10 (bodyOf bytes (counts t 1) 3 k)) ≡ length (bodyOf bytes (counts t 1) 3 k) - 10 = length-drop 10 (bodyOf bytes (counts t 1) 3 k) in omega arith)
 
-  -- at most 4
-  pub written-few : (k : ℕ) → k < t .rules → length (ruleIn bytes k .written) ≤ 4
+  -- at most 4, the number of places
+  pub written-few : (k : ℕ) → k < t .rules → length (ruleIn bytes k .written) ≤ writtenPlaces
   written-few k l = omega (arith, written-count-in k l, written-few′ k l)
 
   pub written-in : (k j : ℕ) → k < t .rules → j < length (ruleIn bytes k .written) → getD (ruleIn bytes k .written) j 0 ≡ byteOf (bodyOf bytes (counts t 1) 3 k) (10 + j)
@@ -200,8 +216,3 @@ module _ (bytes : List ℕ) (t : Table) (h : Holds bytes t) where
       let a = rule-written (processesIn bytes t) (lettersIn bytes t) (bodyOf bytes (counts t 1) 3 k) (body-fits 3 k (omega arith) l .values) in
       let x : getD w j 0 < length (lettersIn bytes t) = ltb-true (getD w j 0) (length (lettersIn bytes t)) (all-at (λ x. ltb x (length (lettersIn bytes t))) w j (subst (λ (u : List ℕ). j < length u) e m) a) in
       subst (λ (u : List ℕ). getD u j 0 < t .letters) (sym e) (omega (arith, letters-count))
-
--- the first process stands first
-pub first-item : (t : Table) → offset (counts t 1) 1 ≡ 0
-unfolding offset
-first-item t = omega arith

@@ -1,17 +1,16 @@
 -- Laws of the items at computed places: what the counts say of bodies, and one item more.
-use mathlib.Core.Path.{_≡_, refl, sym, ap, ap₂, _∙_, subst}
 use mathlib.Core.Bool.{Bool, true, false, cond}
 use mathlib.Core.List.{List, [], _∷_, _++_, map, append-nil, append-assoc}
 use mathlib.Core.Logic.{⊎-elim}
-use Prim.Native.Nat.{ℕ, zero, suc, _+_, _-_, _*_, _<_, _≤_}
+use mathlib.Core.Path.{_≡_, refl, sym, ap, _∙_, subst}
+use Prim.Native.Nat.{ℕ, zero, suc, _+_, _*_, _<_, _≤_}
 use native.Mathlib.Nat.{not-suc-le-zero, le-of-suc-le-suc, zero-mul, one-mul, add-mul, eq-or-lt-of-le}
-use native.Mathlib.Numerals.{add-one}
 use native.Mathlib.Omega.{arith}
 use lib.Dec.{eqb}
-use lib.ListN.{length, getD, take, drop}
 use borrow.Author.Tests.{eq-eqb, ne-eqb}
 use Rattle.model.specs.Tables.{Item, bodyLength, bodies, lastKind}
-use Rattle.table.specs.Places.{bodyAt, bodiesAt, offset, itemsBelow}
+use Rattle.table.specs.Places.{counts, bodyAt, bodiesAt, offset, itemsBelow}
+use Rattle.table.specs.declared.Table.{Table}
 use Rattle.table.proofs.Bodies.{bodies-snoc}
 
 abbrev item : ℕ → List ℕ → Item
@@ -126,3 +125,12 @@ pub lastKind-snoc : (xs : List Item) (x : Item) → lastKind (xs ++ (x ∷ [])) 
 lastKind-snoc [] x = refl
 lastKind-snoc (y ∷ []) x = refl
 lastKind-snoc (y ∷ z ∷ xs) x = lastKind-snoc (z ∷ xs) x
+
+-- processes stand first, then letters
+pub first-item : (t : Table) → offset (counts t 1) 1 ≡ 0
+unfolding offset
+first-item t = omega arith
+
+pub second-item : (t : Table) → offset (counts t 1) 2 ≡ 3 * t .processes
+unfolding offset
+second-item t = omega arith

@@ -1,7 +1,7 @@
 -- Laws for the loops that test a part of the bytes one after the other.
-use mathlib.Core.Path.{_≡_, refl, sym, ap, _∙_}
-use mathlib.Core.Bool.{Bool, true, false, cond, _&&_, _||_, false≢true}
+use mathlib.Core.Bool.{Bool, true, false, _&&_, _||_}
 use mathlib.Core.List.{List, [], _∷_, _++_}
+use mathlib.Core.Path.{_≡_, refl, sym, _∙_}
 use Prim.Native.Nat.{ℕ, zero, suc, _+_, _-_, _<_, _≤_}
 use native.Mathlib.Nat.{not-suc-le-zero, le-of-suc-le-suc, add-sub-cancel-left}
 use native.Mathlib.Numerals.{add-one}
@@ -10,9 +10,9 @@ use lib.Dec.{eqb}
 use lib.ListN.{length, getD, take, drop, length-drop}
 use lib.Seq.{take-all, take-suc, drop-drop}
 use borrow.Author.Tests.{eq-eqb, ne-eqb}
-use Rattle.model.specs.Lists.{allOf, anyOf}
-use Rattle.model.specs.Tables.{sameBytes}
 use Rattle.model.proofs.Tests.{and-both, and-left, and-right}
+use Rattle.model.specs.Lists.{allOf}
+use Rattle.model.specs.Tables.{sameBytes}
 
 pub and-false : (b : Bool) → (b && false) ≡ false
 and-false true = refl

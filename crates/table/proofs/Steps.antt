@@ -1,24 +1,22 @@
 -- One item: what the checks that it passed say, and how the reading goes on.
-use mathlib.Core.Path.{_≡_, refl, sym, ap, ap₂, _∙_, subst}
-use mathlib.Core.Bool.{Bool, true, false, cond, not, _&&_, _||_, true≢false, false≢true}
+use mathlib.Core.Bool.{Bool, true, false, cond, not, _&&_, _||_, true≢false}
 use mathlib.Core.List.{List, [], _∷_, _++_}
-use Prim.Native.Nat.{ℕ, zero, suc, _+_, _-_, _*_, _<_, _≤_, min}
+use mathlib.Core.Path.{_≡_, refl, sym, ap, _∙_, subst}
+use Prim.Native.Nat.{ℕ, zero, suc, _+_, _-_, _<_, _≤_, min}
 use native.Mathlib.Numerals.{add-one}
 use native.Mathlib.Omega.{arith}
 use lib.Dec.{eqb, ltb, leb}
-use lib.ListN.{length, getD, take, drop, length-take, length-drop, drop-of-length-le}
+use lib.ListN.{length, getD, drop, length-take, length-drop, drop-of-length-le}
 use lib.Seq.{drop-cons, drop-drop}
-use borrow.Author.Tests.{eq-eqb, ne-eqb, eqb-false, ltb-true, ltb-false, leb-false}
-use Rattle.model.specs.Tables.{Item, bodyLength, ceiling, bodies, count, controlsOf, locOf, ruleOf, transitionOf, isStranger, isOutOfTurn, valueFits, cooperates, leavesControl, isTwin, refusal, Reading, accepted, refused, ending, unlessRefused, readFrom, read}
+use borrow.Author.Tests.{not-false, eq-eqb, ne-eqb, eqb-false, ltb-false, lt-ltb, le-ltb, leb-true, leb-false}
 use Rattle.model.proofs.Tests.{by-test}
-use Rattle.table.specs.declared.Table.{Table}
+use Rattle.model.specs.Tables.{Item, bodyLength, ceiling, bodies, count, controlsOf, locOf, ruleOf, transitionOf, isStranger, isOutOfTurn, valueFits, cooperates, leavesControl, isTwin, refusal, Reading, accepted, ending, unlessRefused, readFrom, read}
+use Rattle.table.specs.Places.{bodyAt, bodiesAt, offset, itemsBelow, counts, itemsBefore, advanced, Passed}
+use Rattle.table.specs.Reading.{countsOf, parsed, outOfTurn, bodyRefusal, readOn, Onward, Stepped}
 use Rattle.table.specs.declared.Cursor.{Cursor}
 use Rattle.table.specs.declared.Parsed.{Parsed}
 use Rattle.table.specs.declared.Parsed.the-variants.{Accepted, Refused}
-use Rattle.table.specs.declared.Step.{Step}
 use Rattle.table.specs.declared.Step.the-variants.{Next, Done}
-use Rattle.table.specs.Places.{bodyAt, bodiesAt, offset, itemsBelow, counts, countsAt, itemsBefore, advanced, Passed}
-use Rattle.table.specs.Reading.{countsOf, parsed, outOfTurn, bodyRefusal, readOn, Onward, Stepped}
 use Rattle.table.proofs.Cursors.{count-before, counts-before, turn-before, Admitted, items-beyond, passed-beyond}
 
 -- ---- the checks that an item passed
@@ -37,10 +35,6 @@ no-refusal : (a : Bool) (n m : ℕ) → cond a (suc n) m ≡ 0 → (a ≡ false)
 no-refusal true n m e = absurd (omega arith)
 no-refusal false n m e = (refl, e)
 
-not-false : (b : Bool) → not b ≡ false → b ≡ true
-not-false true e = refl
-not-false false e = absurd (true≢false e)
-
 pub clear-of : (items : List Item) (k : ℕ) (body : List ℕ) → refusal items k body ≡ 0 → Clear items k body
 unfolding refusal
 clear-of items k body e =
@@ -54,10 +48,30 @@ clear-of items k body e =
     let i = no-refusal (isTwin items k body) 7 _ (h .1) in
     record { stranger = a .0; turn = b .0; room = c .0; whole = d .0; values = not-false _ (f .0); stray = g .0; reentry = h .0; twin = i .0 }
 
--- the checks 5 to 8 come behind the others
-pub refusal-late : (items : List Item) (k : ℕ) (body : List ℕ) → isStranger k ≡ false → isOutOfTurn items k ≡ false → leb (ceiling k) (count k items) ≡ false → ltb (length body) (bodyLength k) ≡ false → refusal items k body ≡ bodyRefusal items k body
+-- the checks 3, 4 and 1 in a row, with the number m behind them
+abbrev pub early : Bool → Bool → Bool → ℕ → ℕ
+early a b c m = cond a 3 (cond b 4 (cond c 1 m))
+
+pub early-found : (a b c : Bool) (m : ℕ) → (early a b c 0 ≡ 0 → ⊥) → early a b c 0 ≡ early a b c m
+early-found true b c m h = refl
+early-found false true c m h = refl
+early-found false false true m h = refl
+early-found false false false m h = absurd (h refl)
+
+pub early-passed : (a b c : Bool) → early a b c 0 ≡ 0 → (a ≡ false) × (b ≡ false) × (c ≡ false)
+early-passed true b c e = absurd (omega arith)
+early-passed false true c e = absurd (omega arith)
+early-passed false false true e = absurd (omega arith)
+early-passed false false false e = (refl, refl, refl)
+
+pub late-found : (a b c : Bool) (m : ℕ) → early a b c 0 ≡ 0 → m ≡ early a b c m
+late-found a b c m e = let q = early-passed a b c e in rw (q .0, q .1, q .2)
+
+-- all checks behind the first
+pub refusal-known : (items : List Item) (k : ℕ) (body : List ℕ) → isStranger k ≡ false
+    → refusal items k body ≡ early (isOutOfTurn items k) (leb (ceiling k) (count k items)) (ltb (length body) (bodyLength k)) (bodyRefusal items k body)
 unfolding refusal bodyRefusal
-refusal-late items k body a b c d = rw (a, b, c, d)
+refusal-known items k body a = rw a
 
 pub or-left : (a b : Bool) → (a || b) ≡ false → a ≡ false
 or-left true b e = e
@@ -86,6 +100,12 @@ turn-of c k e =
 -- the length of a body that may be cut
 pub cut-length : (bytes : List ℕ) (size place : ℕ) → length (bodyAt bytes size place) ≡ min size (length bytes - (place + 1))
 cut-length bytes size place = simp (length-take, length-drop)
+
+-- check 1 by the bytes that are left
+pub cut-test : (bytes : List ℕ) (size place : ℕ) → place < length bytes → leb (length bytes - place) size ≡ ltb (length (bodyAt bytes size place)) size
+cut-test bytes size place h = by-test (leb (length bytes - place) size)
+    (λ y. let l : length bytes - place ≤ size = leb-true (length bytes - place) size y in y ∙ sym (lt-ltb (length (bodyAt bytes size place)) size (omega (arith, cut-length bytes size place))))
+    (λ y. let l : size < length bytes - place = leb-false (length bytes - place) size y in y ∙ sym (le-ltb (length (bodyAt bytes size place)) size (omega (arith, cut-length bytes size place))))
 
 module _ (bytes : List ℕ) (c : Cursor) (p : Passed bytes c) (inside : c .at < length bytes) where
   abbrev items : List Item

@@ -1,6 +1,6 @@
 -- Tests in a row, as the code makes them: the first that fails decides.
-use mathlib.Core.Path.{_≡_, refl}
 use mathlib.Core.Bool.{Bool, true, false, _&&_}
+use mathlib.Core.Path.{_≡_}
 
 pub two-0 : (a b : Bool) → a ≡ false → (a && b) ≡ false
 two-0 a b e = rw e

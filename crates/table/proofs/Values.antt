@@ -1,20 +1,20 @@
 -- What check 5 says of a body.
-use mathlib.Core.Path.{_≡_, refl, sym, ap, ap₂, _∙_}
 use mathlib.Core.Bool.{Bool, true, false, not, _&&_, _||_}
 use mathlib.Core.List.{List, [], _∷_}
+use mathlib.Core.Path.{_≡_, refl, sym, ap, ap₂, _∙_}
 use Prim.Native.Nat.{ℕ, zero, suc, _-_, _^_, _<_, _≤_}
 use native.Mathlib.Omega.{arith}
 use lib.Dec.{eqb, ltb, leb}
 use lib.ListN.{length, getD, take, drop}
 use borrow.Author.Tests.{ltb-true, leb-true, lt-ltb, le-ltb, lt-leb, le-leb}
-use Rattle.model.specs.Lists.{allOf}
-use Rattle.model.specs.Groups.{Process, Processes, every, at, has, processesOf}
-use Rattle.model.specs.declared.Group.{Group}
-use Rattle.model.specs.Automata.{Transition}
-use Rattle.model.specs.Tables.{byteOf, groupOf, controlsOf, statesOf, locOf, present, ruleOf, transitionOf, groupFits, cooperates, leavesControl, transitionFits, writtenFit, valueFits}
 use Rattle.model.proofs.Tests.{and-left, and-right}
-use Rattle.table.specs.declared.Table.{Table}
+use Rattle.model.specs.Automata.{Transition}
+use Rattle.model.specs.Groups.{Process, Processes, every, at, has, processesOf}
+use Rattle.model.specs.Lists.{allOf}
+use Rattle.model.specs.Tables.{writtenPlaces, byteOf, groupOf, controlsOf, statesOf, locOf, present, ruleOf, transitionOf, groupFits, cooperates, leavesControl, transitionFits, writtenFit, valueFits}
+use Rattle.model.specs.declared.Group.{Group}
 use Rattle.table.specs.Places.{lettersIn}
+use Rattle.table.specs.declared.Table.{Table}
 use Rattle.table.proofs.Tests.{three-0, three-1, three-2}
 
 -- the processes as bits, where all of n are in
@@ -71,14 +71,14 @@ module _ (letters n : ℕ) (places : List ℕ) where
   abbrev pub are-spare : Bool
   are-spare = allOf (λ a. eqb a 255) (drop n places)
 
-  pub written-0 : 4 < n → (leb n 4 && are-letters && are-spare) ≡ false
-  written-0 h = three-0 (leb n 4) are-letters are-spare (lt-leb _ _ h)
+  pub written-0 : writtenPlaces < n → (leb n writtenPlaces && are-letters && are-spare) ≡ false
+  written-0 h = three-0 (leb n writtenPlaces) are-letters are-spare (lt-leb _ _ h)
 
-  pub written-1 : n ≤ 4 → are-letters ≡ false → (leb n 4 && are-letters && are-spare) ≡ false
-  written-1 h e = three-1 (leb n 4) are-letters are-spare (le-leb _ _ h) e
+  pub written-1 : n ≤ writtenPlaces → are-letters ≡ false → (leb n writtenPlaces && are-letters && are-spare) ≡ false
+  written-1 h e = three-1 (leb n writtenPlaces) are-letters are-spare (le-leb _ _ h) e
 
-  pub written-2 : n ≤ 4 → are-letters ≡ true → (leb n 4 && are-letters && are-spare) ≡ are-spare
-  written-2 h e = three-2 (leb n 4) are-letters are-spare (le-leb _ _ h) e
+  pub written-2 : n ≤ writtenPlaces → are-letters ≡ true → (leb n writtenPlaces && are-letters && are-spare) ≡ are-spare
+  written-2 h e = three-2 (leb n writtenPlaces) are-letters are-spare (le-leb _ _ h) e
 
 -- each process of the letter is one of the set
 abbrev pub within : List ℕ → Table → ℕ → ℕ → Bool
@@ -104,17 +104,17 @@ module _ (ps ls : List (List ℕ)) (body : List ℕ) where
   unfolding valueFits
   written-part e = and-right (transitionFits ls (controlsOf ps) (transitionOf body)) (writtenFit ls (byteOf body 9) (drop 10 body)) e
 
-  count-and-letters : valueFits ps ls 3 body ≡ true → (leb (byteOf body 9) 4 && allOf (λ a. ltb a (length ls)) (take (byteOf body 9) (drop 10 body))) ≡ true
+  count-and-letters : valueFits ps ls 3 body ≡ true → (leb (byteOf body 9) writtenPlaces && allOf (λ a. ltb a (length ls)) (take (byteOf body 9) (drop 10 body))) ≡ true
   unfolding writtenFit
-  count-and-letters e = and-left (leb (byteOf body 9) 4 && allOf (λ a. ltb a (length ls)) (take (byteOf body 9) (drop 10 body))) (allOf (λ a. eqb a 255) (drop (byteOf body 9) (drop 10 body))) (written-part e)
+  count-and-letters e = and-left (leb (byteOf body 9) writtenPlaces && allOf (λ a. ltb a (length ls)) (take (byteOf body 9) (drop 10 body))) (allOf (λ a. eqb a 255) (drop (byteOf body 9) (drop 10 body))) (written-part e)
 
-  -- at most 4 letters are written
-  pub rule-count : valueFits ps ls 3 body ≡ true → byteOf body 9 ≤ 4
-  rule-count e = leb-true (byteOf body 9) 4 (and-left (leb (byteOf body 9) 4) (allOf (λ a. ltb a (length ls)) (take (byteOf body 9) (drop 10 body))) (count-and-letters e))
+  -- no more letters are written than there are places
+  pub rule-count : valueFits ps ls 3 body ≡ true → byteOf body 9 ≤ writtenPlaces
+  rule-count e = leb-true (byteOf body 9) writtenPlaces (and-left (leb (byteOf body 9) writtenPlaces) (allOf (λ a. ltb a (length ls)) (take (byteOf body 9) (drop 10 body))) (count-and-letters e))
 
   -- they are letters of the table
   pub rule-written : valueFits ps ls 3 body ≡ true → allOf (λ a. ltb a (length ls)) (take (byteOf body 9) (drop 10 body)) ≡ true
-  rule-written e = and-right (leb (byteOf body 9) 4) (allOf (λ a. ltb a (length ls)) (take (byteOf body 9) (drop 10 body))) (count-and-letters e)
+  rule-written e = and-right (leb (byteOf body 9) writtenPlaces) (allOf (λ a. ltb a (length ls)) (take (byteOf body 9) (drop 10 body))) (count-and-letters e)
 
   -- checks 6 and 7, by the letter's bits and the parts of the body
   pub cooperates-by : (outer : ℕ) (part : List ℕ) → outer ≡ byteOf (getD ls (byteOf body 0) (15 ∷ [])) 0 → part ≡ take (byteOf body 9) (drop 10 body) → allOf (λ a. every (λ i. not (has (locOf ls a) i) || has (processesOf outer) i)) part ≡ cooperates (locOf ls) (ruleOf body)

@@ -1,24 +1,25 @@
 -- What reading a table gives, and the system that an accepted table describes.
-use mathlib.Core.Path.{_≡_}
-use mathlib.Core.Bool.{Bool, true, false, cond, not, _&&_, _||_}
+use mathlib.Core.Bool.{Bool, cond, not, _&&_, _||_}
 use mathlib.Core.List.{List, []}
+use mathlib.Core.Path.{_≡_}
 use Prim.Native.Nat.{ℕ, zero, suc, _<_, _≤_}
 use lib.Dec.{eqb, ltb}
 use lib.ListN.{getD, drop}
-use Rattle.model.specs.declared.Group.{Group}
-use Rattle.model.specs.Groups.{Process, p0, p1, p2, p3, Processes, processesOf}
 use Rattle.model.specs.Automata.{Transition}
+use Rattle.model.specs.Groups.{Process, p0, p1, p2, p3, Processes, processesOf}
 use Rattle.model.specs.Systems.{Rule, System}
 use Rattle.model.specs.Tables.{Item, bodies, count, groupOf, controlsOf, statesOf, locOf, ruleOf, transitionOf, valueFits, cooperates, leavesControl, isTwin, Reading, accepted, refused, readFrom, read, systemOf}
-use Rattle.table.specs.declared.Table.{Table}
+use Rattle.model.specs.declared.Group.{Group}
+use Rattle.table.specs.Places.{itemsBefore, Passed}
 use Rattle.table.specs.declared.Cursor.{Cursor}
 use Rattle.table.specs.declared.Parsed.{Parsed}
 use Rattle.table.specs.declared.Parsed.the-variants.{Accepted, Refused}
 use Rattle.table.specs.declared.Step.{Step}
 use Rattle.table.specs.declared.Step.the-variants.{Next, Done}
-use Rattle.table.specs.Places.{itemsBefore, Passed}
+use Rattle.table.specs.declared.Table.{Table}
 
 -- ---- what `read` gives
+-- the number of items of each kind, besides the start
 abbrev pub countsOf : List Item → Table
 countsOf items = record { processes = count 1 items; letters = count 2 items; rules = count 3 items; transitions = count 4 items; accepting = count 5 items; pile = count 7 items }
 
@@ -58,6 +59,7 @@ pileIn bytes k = getD (systemIn bytes .start .word) k 0
 abbrev pub statesIn : List ℕ → Process → ℕ
 statesIn bytes i = statesOf (bodies 1 (itemsIn bytes)) i
 
+-- process i, for i below 4
 abbrev pub processAt : ℕ → Process
 processAt zero = p0
 processAt (suc zero) = p1
@@ -82,10 +84,11 @@ bodyRefusal items k body =
     (cond (eqb k 4 && not (leavesControl (locOf (bodies 2 items)) (controlsOf (bodies 1 items)) (transitionOf body))) 7
     (cond (isTwin items k body) 8 0)))
 
--- reading goes on at a cursor
+-- the reading from a cursor on
 abbrev pub readOn : List ℕ → Cursor → ℕ → Reading
 readOn bytes c fuel = readFrom fuel (itemsBefore bytes c) (drop (c .at) bytes) (c .at)
 
+-- the reading from c on is the one from d on, further in the bytes
 pub record Onward (bytes : List ℕ) (c d : Cursor) : Type 0 where
   pub passed : Passed bytes d
   pub ahead : c .at < d .at

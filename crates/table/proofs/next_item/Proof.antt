@@ -1,38 +1,26 @@
-use lib.ListN.{getD}
-use mathlib.Core.Path.{_≡_, refl, sym, _∙_, ap, ap₂, subst}
-use mathlib.Core.Bool.{Bool, true, false, cond, not, _&&_}
-use Prim.Native.Nat.{ℕ, _+_, _-_, _*_, _<_, _≤_}
-use Rattle.model.specs.Tables.{bodyLength, refusal}
-use Rattle.table.specs.Places.{bodyAt, itemsBefore, advanced}
+use mathlib.Core.Path.{sym, _∙_, ap, subst}
+use Prim.Native.Nat.{ℕ, _+_, _<_}
+use native.Mathlib.Omega.{arith}
+use lib.ListN.{getD, length}
+use borrow.Author.Needs.{needs}
+use Rattle.table.specs.Places.{advanced}
 use Rattle.table.specs.Reading.{Stepped}
 use Rattle.table.specs.declared.Cursor.{Cursor}
 use Rattle.table.specs.declared.Step.the-variants.{Next}
 use Rattle.table.proofs.Cursors.{modest-of}
 use Rattle.table.proofs.Steps.{step-end, step-refused, step-next, step-leftover, step-accepted, next-admitted}
-use native.Mathlib.Omega.{arith}
-use lib.ListN.{length, length-set}
-use borrow.Author.Needs.{needs}
 use Rattle.table.proofs.next_item.Statement.{statement}
 use Rattle.table.proofs.next_item.Tie as tie
-use Rattle.table.proofs.next_item.Reads as reads
-use Rattle.table.proofs.next_item.Lts as lts
-use Rattle.table.proofs.advance.Reads as advance-reads
-use Rattle.table.proofs.body_length.Reads as body-length-reads
-use Rattle.table.proofs.check_item.Reads as check-item-reads
 
--- src/lib.rt:584:9
 returns : tie.Need-returns
 returns c = step-end (c .before .before .args .bytes .now) (c .before .before .args .c) (c .if1 .taken)
 
--- src/lib.rt:589:16
 shared-slice-read-kind : tie.Need-shared-slice-read-kind
 shared-slice-read-kind c = search needs
 
--- src/lib.rt:590:9
 check-item-requires : tie.Need-check-item-requires
 check-item-requires c κs = search needs
 
--- src/lib.rt:592:9
 returns-2 : tie.Need-returns-2
 returns-2 c =
     let b = c .before .before .before .before .before .args .bytes .now in
@@ -40,11 +28,9 @@ returns-2 c =
     let r : c′ .at < length b = c .before .before .before .if1 .left in
     step-refused b c′ (c .before .before .before .before .before .pre) r (c .before .check-item .result) (c .before .check-item .ensures) (c .if2 .taken)
 
--- src/lib.rt:595:20
 add-next : tie.Need-add-next
 add-next c = search needs
 
--- src/lib.rt:595:29
 body-length-requires : tie.Need-body-length-requires
 body-length-requires c κs =
     let b = c .before .before .before .before .before .before .args .bytes .now in
@@ -54,7 +40,6 @@ body-length-requires c κs =
     let a = next-admitted b c′ (c .before .before .before .before .before .before .pre) r z (c .if3 .taken) in
     omega (arith, a .known)
 
--- src/lib.rt:595:20
 add-next-2 : tie.Need-add-next-2
 add-next-2 c =
     let b = c .before .before .before .before .before .before .before .args .bytes .now in
@@ -64,11 +49,9 @@ add-next-2 c =
     let a = next-admitted b c′ (c .before .before .before .before .before .before .before .pre) r z (c .before .if3 .taken) in
     omega (arith, a .whole, c .body-length .ensures)
 
--- src/lib.rt:596:27
 advance-requires : tie.Need-advance-requires
 advance-requires c κs = (modest-of (c .before .before .before .before .before .before .before .args .bytes .now) (c .before .before .before .before .before .before .before .args .c) (c .before .before .before .before .before .before .before .pre), c .before .before .before .before .before .before .before .pre .ceilings 6)
 
--- src/lib.rt:596:9
 returns-3 : tie.Need-returns-3
 returns-3 c =
     let b = c .before .before .before .before .before .before .before .before .args .bytes .now in
@@ -77,15 +60,12 @@ returns-3 c =
     let z = sym (c .before .before .before .before .check-item .ensures) ∙ c .before .before .before .if2 .left in
     subst (λ (d : Cursor). Stepped b c′ (Next d)) (sym (c .advance .ensures ∙ ap (λ (m : ℕ). advanced c′ (getD b (c′ .at) 0) (c′ .at + 1 + m)) (c .before .body-length .ensures))) (step-next b c′ (c .before .before .before .before .before .before .before .before .pre) r z (c .before .before .if3 .taken))
 
--- src/lib.rt:598:8
 add-if4 : tie.Need-add-if4
 add-if4 c = search needs
 
--- src/lib.rt:601:20
 add-t18 : tie.Need-add-t18
 add-t18 c = search needs
 
--- src/lib.rt:599:9
 returns-4 : tie.Need-returns-4
 returns-4 c =
     let b = c .before .before .before .before .before .before .before .args .bytes .now in
@@ -94,7 +74,6 @@ returns-4 c =
     let z = sym (c .before .before .before .check-item .ensures) ∙ c .before .before .if2 .left in
     step-leftover b c′ (c .before .before .before .before .before .before .before .pre) r z (c .before .if3 .left) (c .if4 .taken)
 
--- src/lib.rt:578:1
 returns-5 : tie.Need-returns-5
 returns-5 c =
     let b = c .before .before .before .before .before .before .before .before .args .bytes .now in

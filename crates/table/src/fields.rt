@@ -1,0 +1,222 @@
+// The parts of an accepted table, read from the caller's bytes at computed places.
+ghost use mathlib.Core.Path.{_≡_};
+ghost use Prim.Native.Nat.{_+_, _≤_, _<_};
+ghost use lib.ListN.{length, getD};
+ghost use Rattle.model.specs.Tables.{groupOf};
+ghost use Rattle.table.specs.Places.{bodyAt, offset, bodyOf, counts, Modest};
+ghost use Rattle.table.specs.Reading.{Holds, systemIn, ruleIn, transitionIn, acceptingIn, pileIn, statesIn, processAt, BitsOf};
+use crate::Table;
+use crate::checks::bits_of;
+use crate::checks::bound_of;
+use model::Group;
+
+// The places for written letters in a rule, the bytes of a rule's body, and those of a whole rule.
+pub const WRITTEN_PLACES: usize = 4;
+
+pub const RULE_BODY: usize = 10 + WRITTEN_PLACES;
+
+pub const RULE_ITEM: usize = 1 + RULE_BODY;
+
+// A byte as an index or a count.
+pub fn wide(x: u8) -> usize
+    ensures { λ r. ⌜ (r ≡ x) × (r < 256) ⌝ }
+{
+    x as usize
+}
+
+// The group in the four bytes from `at` on.
+pub fn group_at(body: &[u8], at: usize) -> Group
+    requires { ⌜ at + 4 ≤ length (now body) ⌝ }
+    ensures { λ r. ⌜ r ≡ groupOf (now (body .entry)) at ⌝ }
+{
+    Group {
+        s0: body[at],
+        s1: body[at + 1],
+        s2: body[at + 2],
+        s3: body[at + 3],
+    }
+}
+
+// The body of the item at a place.
+pub fn body_at(bytes: &[u8], at: usize, size: usize) -> &[u8]
+    requires { ⌜ at + 1 + size ≤ length (now bytes) ⌝ }
+    ensures { λ r. ⌜ now r ≡ bodyAt (now (bytes .entry)) size at ⌝ }
+{
+    let from = at + 1;
+    let to = from + size;
+    &bytes[from..to]
+}
+
+// ---- places
+// The places of the first letter, rule, transition, accepting group, of the start and of the pile.
+pub fn letters_at(t: Table) -> usize
+    requires { ⌜ t .processes ≤ 4 ⌝ }
+    ensures { λ r. ⌜ r ≡ offset (counts t 1) 2 ⌝ }
+{
+    3 * t.processes
+}
+
+pub fn rules_at(t: Table) -> usize
+    requires { ⌜ Modest t ⌝ }
+    ensures { λ r. ⌜ r ≡ offset (counts t 1) 3 ⌝ }
+{
+    letters_at(t) + 2 * t.letters
+}
+
+pub fn transitions_at(t: Table) -> usize
+    requires { ⌜ Modest t ⌝ }
+    ensures { λ r. ⌜ r ≡ offset (counts t 1) 4 ⌝ }
+{
+    rules_at(t) + RULE_ITEM * t.rules
+}
+
+pub fn accepting_at(t: Table) -> usize
+    requires { ⌜ Modest t ⌝ }
+    ensures { λ r. ⌜ r ≡ offset (counts t 1) 5 ⌝ }
+{
+    transitions_at(t) + 10 * t.transitions
+}
+
+pub fn start_at(t: Table) -> usize
+    requires { ⌜ Modest t ⌝ }
+    ensures { λ r. ⌜ r ≡ offset (counts t 1) 6 ⌝ }
+{
+    accepting_at(t) + 5 * t.accepting
+}
+
+pub fn pile_at(t: Table) -> usize
+    requires { ⌜ Modest t ⌝ }
+    ensures { λ r. ⌜ r ≡ offset (counts t 1) 7 ⌝ }
+{
+    start_at(t) + 5
+}
+
+// ---- processes and letters
+// How many control states process i has, and how many states in all; 256 where the table lacks the process.
+pub fn control_states(bytes: &[u8], t: Table, i: usize) -> usize
+    requires { ⌜ Holds (now bytes) t × (i < 4) ⌝ }
+    ensures { λ r. ⌜ r ≡ systemIn (now (bytes .entry)) .controls (processAt i) ⌝ }
+{
+    bound_of(bytes, t, 0, i)
+}
+
+pub fn local_states(bytes: &[u8], t: Table, i: usize) -> usize
+    requires { ⌜ Holds (now bytes) t × (i < 4) ⌝ }
+    ensures { λ r. ⌜ r ≡ statesIn (now (bytes .entry)) (processAt i) ⌝ }
+{
+    bound_of(bytes, t, 1, i)
+}
+
+// The processes of letter a, as bits.
+pub fn letter_bits(bytes: &[u8], t: Table, a: usize) -> u8
+    requires { ⌜ Holds (now bytes) t × (a < t .letters) ⌝ }
+    ensures { λ r. ⌜ BitsOf (systemIn (now (bytes .entry)) .loc a) r ⌝ }
+{
+    bits_of(bytes, t, a)
+}
+
+// ---- rules
+// The body of rule k.
+pub fn rule_body(bytes: &[u8], t: Table, k: usize) -> &[u8]
+    requires { ⌜ Holds (now bytes) t × (k < t .rules) ⌝ }
+    ensures { λ r. ⌜ now r ≡ bodyOf (now (bytes .entry)) (counts t 1) 3 k ⌝ }
+{
+    body_at(bytes, rules_at(t) + RULE_ITEM * k, RULE_BODY)
+}
+
+// Its letter, and its groups before and after.
+pub fn rule_letter(bytes: &[u8], t: Table, k: usize) -> u8
+    requires { ⌜ Holds (now bytes) t × (k < t .rules) ⌝ }
+    ensures { λ r. ⌜ r ≡ ruleIn (now (bytes .entry)) k .letter ⌝ }
+{
+    let body = rule_body(bytes, t, k);
+    body[0]
+}
+
+pub fn rule_before(bytes: &[u8], t: Table, k: usize) -> Group
+    requires { ⌜ Holds (now bytes) t × (k < t .rules) ⌝ }
+    ensures { λ r. ⌜ r ≡ ruleIn (now (bytes .entry)) k .before ⌝ }
+{
+    group_at(rule_body(bytes, t, k), 1)
+}
+
+pub fn rule_after(bytes: &[u8], t: Table, k: usize) -> Group
+    requires { ⌜ Holds (now bytes) t × (k < t .rules) ⌝ }
+    ensures { λ r. ⌜ r ≡ ruleIn (now (bytes .entry)) k .after ⌝ }
+{
+    group_at(rule_body(bytes, t, k), 5)
+}
+
+// How many letters rule k writes.
+pub fn written_count(bytes: &[u8], t: Table, k: usize) -> usize
+    requires { ⌜ Holds (now bytes) t × (k < t .rules) ⌝ }
+    ensures { λ r. ⌜ r ≡ length (ruleIn (now (bytes .entry)) k .written) ⌝ }
+{
+    let body = rule_body(bytes, t, k);
+    wide(body[9])
+}
+
+// Letter j of those that rule k writes, top first.
+pub fn written_letter(bytes: &[u8], t: Table, k: usize, j: usize) -> u8
+    requires { ⌜ Holds (now bytes) t × (k < t .rules) × (j < length (ruleIn (now bytes) k .written)) ⌝ }
+    ensures { λ r. ⌜ r ≡ getD (ruleIn (now (bytes .entry)) k .written) j 0 ⌝ }
+{
+    let body = rule_body(bytes, t, k);
+    body[10 + j]
+}
+
+// ---- transitions, accepting groups, start
+// The body of transition k.
+pub fn transition_body(bytes: &[u8], t: Table, k: usize) -> &[u8]
+    requires { ⌜ Holds (now bytes) t × (k < t .transitions) ⌝ }
+    ensures { λ r. ⌜ now r ≡ bodyOf (now (bytes .entry)) (counts t 1) 4 k ⌝ }
+{
+    body_at(bytes, transitions_at(t) + 10 * k, 9)
+}
+
+// Its letter, and its groups before and after.
+pub fn transition_letter(bytes: &[u8], t: Table, k: usize) -> u8
+    requires { ⌜ Holds (now bytes) t × (k < t .transitions) ⌝ }
+    ensures { λ r. ⌜ r ≡ transitionIn (now (bytes .entry)) k .letter ⌝ }
+{
+    let body = transition_body(bytes, t, k);
+    body[0]
+}
+
+pub fn transition_before(bytes: &[u8], t: Table, k: usize) -> Group
+    requires { ⌜ Holds (now bytes) t × (k < t .transitions) ⌝ }
+    ensures { λ r. ⌜ r ≡ transitionIn (now (bytes .entry)) k .before ⌝ }
+{
+    group_at(transition_body(bytes, t, k), 1)
+}
+
+pub fn transition_after(bytes: &[u8], t: Table, k: usize) -> Group
+    requires { ⌜ Holds (now bytes) t × (k < t .transitions) ⌝ }
+    ensures { λ r. ⌜ r ≡ transitionIn (now (bytes .entry)) k .after ⌝ }
+{
+    group_at(transition_body(bytes, t, k), 5)
+}
+
+// Accepting group k.
+pub fn accepting_group(bytes: &[u8], t: Table, k: usize) -> Group
+    requires { ⌜ Holds (now bytes) t × (k < t .accepting) ⌝ }
+    ensures { λ r. ⌜ r ≡ acceptingIn (now (bytes .entry)) k ⌝ }
+{
+    group_at(body_at(bytes, accepting_at(t) + 5 * k, 4), 0)
+}
+
+// The states of the start.
+pub fn start_group(bytes: &[u8], t: Table) -> Group
+    requires { ⌜ Holds (now bytes) t ⌝ }
+    ensures { λ r. ⌜ r ≡ systemIn (now (bytes .entry)) .start .states ⌝ }
+{
+    group_at(body_at(bytes, start_at(t), 4), 0)
+}
+
+// Letter k of the start's word, top first.
+pub fn pile_letter(bytes: &[u8], t: Table, k: usize) -> u8
+    requires { ⌜ Holds (now bytes) t × (k < t .pile) ⌝ }
+    ensures { λ r. ⌜ r ≡ pileIn (now (bytes .entry)) k ⌝ }
+{
+    bytes[pile_at(t) + 2 * k + 1]
+}
