@@ -1,0 +1,62 @@
+use mathlib.Core.Path.{refl, _∙_, ap, sym}
+use mathlib.Core.List.{[]}
+use Prim.Native.Nat.{_-_}
+use Rattle.model.specs.Groups.{sameGroup}
+use Rattle.model.specs.Tables.{groupOf}
+use Rattle.table.specs.Reading.{systemIn}
+use Rattle.table.proofs.Layouts.{accepting-count}
+use Rattle.acceptance.proofs.Sets.{Unfound, unfound-turn, unfound-here, unfound-end}
+use native.Mathlib.Omega.{arith}
+use borrow.Author.Needs.{needs}
+use Rattle.acceptance.proofs.is_accepting.Statement.{statement}
+use Rattle.acceptance.proofs.is_accepting.Tie as tie
+
+abbrev Inv-loop : tie.InvT-loop
+Inv-loop table t g k₀ k = Unfound (sameGroup g) (systemIn table .accepting) (groupOf [] 0) k
+
+abbrev μ-loop : tie.MeasureT-loop
+μ-loop table t g k₀ k = t .accepting - k
+
+loop-holds : tie.Need-loop-holds Inv-loop μ-loop
+loop-holds c = record { same = refl }
+
+accepting-group-requires : tie.Need-accepting-group-requires Inv-loop μ-loop
+accepting-group-requires c κs = search needs
+
+same-requires : tie.Need-same-requires Inv-loop μ-loop
+same-requires c κs = search needs
+
+returns : tie.Need-returns Inv-loop μ-loop
+returns c =
+    unfound-here (sameGroup (c .before .before .before .before .before .before .before .args .g)) (systemIn (c .before .before .before .before .before .before .before .args .table .now) .accepting) (groupOf [] 0) (c .before .before .before .before .before .loop .k) (omega (arith, accepting-count (c .before .before .before .before .before .before .before .args .table .now) (c .before .before .before .before .before .before .before .args .t) (c .before .before .before .before .before .before .before .pre))) (c .before .before .before .before .before .loop .inv)
+    (ap (sameGroup (c .before .before .before .before .before .before .before .args .g)) (sym (c .before .before .accepting-group .ensures)) ∙ sym (c .before .same .ensures) ∙ c .if2 .taken)
+
+add-k : tie.Need-add-k Inv-loop μ-loop
+add-k c = omega arith
+
+loop-less : tie.Need-loop-less Inv-loop μ-loop
+loop-less c = omega arith
+
+loop-again : tie.Need-loop-again Inv-loop μ-loop
+loop-again c =
+    unfound-turn (sameGroup (c .before .before .before .before .before .before .before .args .g)) (systemIn (c .before .before .before .before .before .before .before .args .table .now) .accepting) (groupOf [] 0) (c .before .before .before .before .before .loop .k) (omega (arith, accepting-count (c .before .before .before .before .before .before .before .args .table .now) (c .before .before .before .before .before .before .before .args .t) (c .before .before .before .before .before .before .before .pre))) (c .before .before .before .before .before .loop .inv)
+    (ap (sameGroup (c .before .before .before .before .before .before .before .args .g)) (sym (c .before .before .accepting-group .ensures)) ∙ sym (c .before .same .ensures) ∙ c .if2 .left)
+
+returns-2 : tie.Need-returns-2 Inv-loop μ-loop
+returns-2 c =
+    unfound-end (sameGroup (c .before .before .before .before .args .g)) (systemIn (c .before .before .before .before .args .table .now) .accepting) (groupOf [] 0) (c .before .before .loop .k) (omega (arith, accepting-count (c .before .before .before .before .args .table .now) (c .before .before .before .before .args .t) (c .before .before .before .before .pre), c .if1 .left)) (c .before .before .loop .inv)
+
+pub is-accepting-spec : {M : Type 1} → statement M
+is-accepting-spec =
+    tie.close
+    (tie.spec
+    Inv-loop
+    μ-loop
+    loop-holds
+    accepting-group-requires
+    same-requires
+    returns
+    add-k
+    loop-less
+    loop-again
+    returns-2)

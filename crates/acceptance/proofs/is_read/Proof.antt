@@ -1,0 +1,48 @@
+use mathlib.Core.Path.{_≡_, refl, _∙_, ap, ap₂}
+use borrow.Author.Tests.{eq-eqb, ne-eqb}
+use Rattle.model.specs.declared.Group.{Group}
+use Rattle.model.specs.Groups.{Processes, processesOf, restrict, sameGroup}
+use Rattle.table.specs.Reading.{systemIn}
+use Rattle.table.proofs.Layouts.{transition-letter-in}
+use native.Mathlib.Omega.{arith}
+use borrow.Author.Needs.{needs}
+use Rattle.acceptance.proofs.is_read.Statement.{statement}
+use Rattle.acceptance.proofs.is_read.Tie as tie
+
+transition-letter-requires : tie.Need-transition-letter-requires
+transition-letter-requires c κs = search needs
+
+returns : tie.Need-returns
+returns c = rw (← c .before .transition-letter .ensures, ne-eqb _ _ (c .if1 .taken)) refl
+
+wide-requires : tie.Need-wide-requires
+wide-requires c κs = search needs
+
+letter-bits-requires : tie.Need-letter-bits-requires
+letter-bits-requires c κs = (c .before .before .before .before .pre .0, (let l = transition-letter-in (c .before .before .before .before .args .table .now) (c .before .before .before .before .args .t) (c .before .before .before .before .pre .0) (c .before .before .before .before .args .k) (c .before .before .before .before .pre .1) in omega (arith, c .wide .ensures, c .before .before .transition-letter .ensures)))
+
+transition-before-requires : tie.Need-transition-before-requires
+transition-before-requires c κs = search needs
+
+reads-requires : tie.Need-reads-requires
+reads-requires c κs = search needs
+
+returns-2 : tie.Need-returns-2
+returns-2 c =
+    let s = c .before .before .before .before .before .before .before .args in
+    let loc = systemIn (s .table .now) .loc in
+    let l : processesOf (c .before .before .letter-bits .result) ≡ loc (s .letter) = c .before .before .letter-bits .ensures .same ∙ ap loc (c .before .before .before .wide .ensures ∙ c .before .before .before .before .if1 .left) in
+    c .reads .ensures ∙ ap₂ (λ (L : Processes) (b : Group). sameGroup (restrict L (s .g)) b) l (c .before .transition-before .ensures)
+    ∙ rw (← c .before .before .before .before .before .transition-letter .ensures, eq-eqb _ _ (c .before .before .before .before .if1 .left)) refl
+
+pub is-read-spec : {M : Type 1} → statement M
+is-read-spec =
+    tie.close
+    (tie.spec
+    transition-letter-requires
+    returns
+    wide-requires
+    letter-bits-requires
+    transition-before-requires
+    reads-requires
+    returns-2)

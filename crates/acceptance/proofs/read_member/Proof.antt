@@ -1,0 +1,89 @@
+use mathlib.Core.Path.{_≡_, _∙_, ap, sym, subst}
+use mathlib.Core.List.{List}
+use Prim.Native.Nat.{ℕ, _+_}
+use Rattle.model.specs.Groups.{Processes, processesOf}
+use Rattle.automaton.specs.StateNumbers.{groupNumbered, Over}
+use Rattle.automaton.specs.StateSets.{setLength, nextMember}
+use Rattle.automaton.proofs.StateNumbers.{numbered-over}
+use Rattle.table.specs.Reading.{systemIn}
+use Rattle.table.proofs.Layouts.{table-modest}
+use Rattle.shapes.specs.Shapes.{presentIn}
+use Rattle.acceptance.specs.Sets.{there}
+use Rattle.acceptance.proofs.Sets.{read-known}
+use Rattle.acceptance.proofs.Regions.{withThere, there-here, there-there, length-there}
+use native.Mathlib.Omega.{arith}
+use lib.ListN.{length}
+use borrow.Author.Needs.{needs}
+use Rattle.acceptance.proofs.read_member.Statement.{statement}
+use Rattle.acceptance.proofs.read_member.Tie as tie
+
+present-requires : tie.Need-present-requires
+present-requires c κs = table-modest (c .before .before .args .table .now) (c .before .before .args .t) (c .before .before .pre .0) .processes
+
+numbered-requires : tie.Need-numbered-requires
+numbered-requires c κs = search needs
+
+sub-follow-all : tie.Need-sub-follow-all
+sub-follow-all c = search needs
+
+part-follow-all-start : tie.Need-part-follow-all-start
+part-follow-all-start c = search needs
+
+part-follow-all-end : tie.Need-part-follow-all-end
+part-follow-all-end c = search needs
+
+follow-all-requires : tie.Need-follow-all-requires
+follow-all-requires c κs =
+    let s = c .before .before .before .before .before in
+    let same : groupNumbered (presentIn (s .args .t)) (s .args .n) ≡ c .before .numbered .result = sym (c .before .numbered .ensures ∙ ap (λ (L : Processes). groupNumbered L (s .args .n)) (c .before .before .present .ensures)) in
+    (s .pre .0, subst (Over (presentIn (s .args .t))) same (numbered-over (presentIn (s .args .t)) (s .args .n)), length-there (s .args .scratch .now) (s .pre .2))
+
+sub-next-member : tie.Need-sub-next-member
+sub-next-member c = search needs
+
+part-next-member-start : tie.Need-part-next-member-start
+part-next-member-start c = search needs
+
+part-next-member-end : tie.Need-part-next-member-end
+part-next-member-end c = search needs
+
+add-next-member : tie.Need-add-next-member
+add-next-member c = search needs
+
+next-member-requires : tie.Need-next-member-requires
+next-member-requires c κs = search needs
+
+same-length : tie.Need-same-length
+same-length c = search needs
+
+returns : tie.Need-returns
+returns c =
+    let s = c .before .before .before .before .before .before .before .before .before .before .before in
+    let a = s .args in
+    let ys = c .before .before .before .before .before .follow-all .last .1 .1 .1 .1 .0 in
+    let size : length ys ≡ setLength = c .before .before .before .before .before .follow-all .kept .1 .1 .1 .1 .0 ∙ length-there (a .scratch .now) (s .pre .2) in
+    let first = there-here (a .scratch .now) ys (omega (arith, s .pre .2)) in
+    let second = there-there (a .scratch .now) ys (omega (arith, s .pre .2)) size in (
+      first,
+      c .next-member .ensures ∙ ap (λ (l : List ℕ). nextMember l (a .n + 1)) first,
+      read-known (systemIn (a .table .now)) (presentIn (a .t)) (a .letter) (there (a .scratch .now)) ys (there (withThere (a .scratch .now) ys)) (processesOf (c .before .before .before .before .before .before .before .before .present .result)) (a .n) (c .before .before .before .before .before .before .before .numbered .result)
+          (c .before .before .before .before .before .before .before .before .present .ensures) (c .before .before .before .before .before .before .before .numbered .ensures) second (c .before .before .before .before .before .follow-all .ensures),
+    )
+
+pub read-member-spec : {M : Type 1} → statement M
+read-member-spec =
+    tie.close
+    (tie.spec
+    present-requires
+    numbered-requires
+    sub-follow-all
+    part-follow-all-start
+    part-follow-all-end
+    follow-all-requires
+    sub-next-member
+    part-next-member-start
+    part-next-member-end
+    add-next-member
+    next-member-requires
+    same-length
+    returns)

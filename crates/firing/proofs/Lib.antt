@@ -1,0 +1,3 @@
+pub mod Piles
+pub mod Scans
+pub mod Firings

@@ -1,0 +1,2 @@
+pub mod Piles
+pub mod Places

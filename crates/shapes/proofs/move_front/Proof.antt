@@ -1,0 +1,58 @@
+use mathlib.Core.Path.{_≡_, _∙_, ap}
+use Prim.Native.Nat.{_≤_, _-_}
+use Rattle.shapes.specs.Shapes.{fronted}
+use Rattle.shapes.proofs.Buffers.{Fronting, fronting-start, fronting-turn}
+use native.Mathlib.Omega.{arith}
+use Rattle.shapes.proofs.move_front.Statement.{statement}
+use Rattle.shapes.proofs.move_front.Tie as tie
+
+abbrev Inv-loop : tie.InvT-loop
+Inv-loop buffer₀ from count i₀ buffer i = (i ≤ count) × Fronting buffer₀ from buffer i
+
+abbrev μ-loop : tie.MeasureT-loop
+μ-loop buffer₀ from count i₀ buffer i = count - i
+
+loop-holds : tie.Need-loop-holds Inv-loop μ-loop
+loop-holds c = (omega arith, fronting-start (c .args .buffer .now) (c .args .from))
+
+add-buffer : tie.Need-add-buffer Inv-loop μ-loop
+add-buffer c = omega arith
+
+slice-read-buffer : tie.Need-slice-read-buffer Inv-loop μ-loop
+slice-read-buffer c = omega arith
+
+slice-write-buffer : tie.Need-slice-write-buffer Inv-loop μ-loop
+slice-write-buffer c = omega arith
+
+add-i : tie.Need-add-i Inv-loop μ-loop
+add-i c = omega arith
+
+loop-less : tie.Need-loop-less Inv-loop μ-loop
+loop-less c = omega arith
+
+loop-again : tie.Need-loop-again Inv-loop μ-loop
+loop-again c = (omega arith, fronting-turn (c .before .before .before .args .buffer .now) (c .before .before .before .args .from) (c .before .before .loop .buffer) (c .before .before .loop .i) (omega arith) (c .before .before .loop .inv .1))
+
+same-length : tie.Need-same-length Inv-loop μ-loop
+same-length c = c .before .loop .inv .1 .size
+
+returns : tie.Need-returns Inv-loop μ-loop
+returns c =
+    let e : c .before .loop .i ≡ c .before .before .args .count = omega arith in
+    c .before .loop .inv .1 .is ∙ ap (fronted (c .before .before .args .buffer .now) (c .before .before .args .from)) e
+
+pub move-front-spec : {M : Type 1} → statement M
+move-front-spec =
+    tie.close
+    (tie.spec
+    Inv-loop
+    μ-loop
+    loop-holds
+    add-buffer
+    slice-read-buffer
+    slice-write-buffer
+    add-i
+    loop-less
+    loop-again
+    same-length
+    returns)

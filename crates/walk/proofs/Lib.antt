@@ -1,0 +1,4 @@
+pub mod Stepping
+pub mod Ends
+pub mod Outcomes
+pub mod Reaching

@@ -1,0 +1,131 @@
+-- The outcome of the walk call, by the way that it ended.
+use mathlib.Core.Path.{_≡_, refl, ap, ap₂, sym, subst, _∙_}
+use mathlib.Core.Bool.{Bool, true, false, cond}
+use mathlib.Core.List.{List, _++_}
+use Prim.Native.Nat.{ℕ, _-_, _<_, _≤_}
+use native.Mathlib.Omega.{arith}
+use lib.Dec.{eqb, ltb}
+use lib.ListN.{length, drop, drop-of-length-le, replicate}
+use borrow.Author.Tests.{lt-ltb, le-ltb, le-leb}
+use Rattle.model.specs.declared.Walked.{Walked}
+use Rattle.model.specs.Calls.{Halt, WalkOutcome, changesNothing, filled, haltBefore, scratchAfter, walkCall, walkFrom, walkGiven, walkRefusal, walkScratch, zeros}
+use Rattle.model.specs.Lists.{Each, valueOr}
+use Rattle.model.specs.Systems.{System, Configuration}
+use Rattle.model.specs.Tables.{Reading, accepted, refused, read}
+use Rattle.model.proofs.Tables.{Numbered9, read-numbered}
+use Rattle.model.proofs.Tests.{by-test}
+use Rattle.automaton.specs.StateNumbers.{Over}
+use Rattle.table.specs.declared.Table.{Table}
+use Rattle.table.specs.declared.Parsed.the-variants.{Refused}
+use Rattle.table.specs.Reading.{Holds, parsed, systemIn}
+use Rattle.table.proofs.Layouts.{pile-count}
+use Rattle.shapes.specs.Shapes.{presentIn}
+use Rattle.shapes.proofs.Shapes.{start-over, start-lettered, table-read}
+use Rattle.firing.specs.declared.Placed.{Placed}
+use Rattle.firing.specs.Piles.{configuration}
+use Rattle.walk.specs.declared.Stop.{Stop}
+use Rattle.walk.specs.declared.Halted.{Halted}
+use Rattle.walk.specs.Walking.{InShape, answerAt, Stopped, haltedBefore, outcomeOf, Halts}
+
+-- ---- scratch
+-- left as it was, or zero
+scratch-kept : (number : ℕ) (s : List ℕ) → changesNothing number ≡ true → s ≡ scratchAfter number s
+unfolding scratchAfter
+scratch-kept number s e = rw e refl
+
+scratch-zero : (number : ℕ) (s : List ℕ) → changesNothing number ≡ false → zeros s ≡ scratchAfter number s
+unfolding scratchAfter
+scratch-zero number s e = rw e refl
+
+table-number : (n : ℕ) → 1 ≤ n → n ≤ 9 → changesNothing n ≡ true
+table-number n h q = rw (le-leb 1 n h, le-leb n 9 q) refl
+
+answer-late : (sys : System) (s : Stop) (c : Configuration) → changesNothing (s .number) ≡ false → changesNothing (walkRefusal (answerAt sys s c)) ≡ false
+answer-late sys s c e = by-test (eqb (s .number) 0) (λ y. rw y refl) (λ n. rw n e)
+
+-- ---- a walk that began
+pub start-shape : (table : List ℕ) (t : Table) → Holds table t → (pile : List ℕ) (c : Placed) → configuration pile c ≡ systemIn table .start → c .top ≤ length pile → InShape t pile c
+start-shape table t h pile c e l = record {
+  stands = record { inside = l; letters = subst (λ (w : List ℕ). Each (λ (a : ℕ). a < t .letters) w) (sym (ap (λ (d : Configuration). d .word) e)) (start-lettered table t h) };
+  over = subst (Over (presentIn t)) (sym (ap (λ (d : Configuration). d .states) e)) (start-over table t h);
+}
+
+-- the start's word was put into p₁, the steps left p₂, and the word was moved to the front
+pub placed-halts : (table : List ℕ) (t : Table) (list pile scratch : List ℕ) (c : Placed) (p₁ p₂ p₃ s₁ : List ℕ) (stop : Stop) (answer : Walked)
+    → configuration p₁ c ≡ systemIn table .start → length p₁ ≡ length pile → length p₂ ≡ length p₁
+    → Stopped table t list (walkFrom (systemIn table) (length p₁) 0 list (configuration p₁ c)) p₂ stop
+    → answer ≡ answerAt (systemIn table) stop (configuration p₂ (stop .placed)) → s₁ ≡ zeros scratch → p₃ ≡ filled (drop (stop .placed .top) p₂) p₂
+    → Halts (outcomeOf (walkFrom (systemIn table) (length pile) 0 list (systemIn table .start)) pile scratch) list (record { answer = answer; from = stop .at }) p₃ s₁
+unfolding outcomeOf
+placed-halts table t list pile scratch c p₁ p₂ p₃ s₁ stop answer e n₁ n₂ s a z f =
+    let same : walkFrom (systemIn table) (length p₁) 0 list (configuration p₁ c) ≡ walkFrom (systemIn table) (length pile) 0 list (systemIn table .start) =
+    ap₂ (λ (n : ℕ) (d : Configuration). walkFrom (systemIn table) n 0 list d) n₁ e in
+    let given : answerAt (systemIn table) stop (configuration p₂ (stop .placed)) ≡ walkFrom (systemIn table) (length pile) 0 list (systemIn table .start) .answer = s .answer ∙ ap (λ (h : Halt). h .answer) same in
+    record {
+      answer = a ∙ given;
+      inside = s .inside;
+      rest = s .rest ∙ ap (λ (h : Halt). h .rest) same;
+      pile = f ∙ ap (λ (n : ℕ). filledTo (drop (stop .placed .top) p₂) n) (n₂ ∙ n₁) ∙ sym (s .word pile) ∙ ap (λ (h : Halt). valueOr pile (λ (w : List ℕ). filled w pile) (h .pile)) same;
+      scratch = z ∙ scratch-zero (walkRefusal (answerAt (systemIn table) stop (configuration p₂ (stop .placed)))) scratch (answer-late (systemIn table) stop (configuration p₂ (stop .placed)) (s .late))
+          ∙ ap (λ (w : Walked). scratchAfter (walkRefusal w) scratch) given;
+    }
+  where
+    filledTo : List ℕ → ℕ → List ℕ
+    filledTo w n = w ++ replicate (n - length w) 0
+
+-- ---- the whole call
+abbrev givenBy : System → List ℕ → ℕ → ℕ → ℕ → Halt
+givenBy sys list count pileLength scratchLength =
+    cond (ltb scratchLength walkScratch) (haltBefore 15 0) (cond (ltb pileLength count) (haltBefore 14 0) (walkFrom sys pileLength 0 list (sys .start)))
+
+module _ (table : List ℕ) (t : Table) (h : Holds table t) (list pile scratch : List ℕ) where
+  call-is : walkCall table list pile scratch ≡ outcomeOf (givenBy (systemIn table) list (t .pile) (length pile) (length scratch)) pile scratch
+  unfolding walkCall walkGiven outcomeOf systemIn
+  call-is =
+      ap (λ (r : Reading). outcomeOf (walkGiven r list (length pile) (length scratch)) pile scratch) (table-read table t h .reading)
+      ∙ ap (λ (n : ℕ). outcomeOf (givenBy (systemIn table) list n (length pile) (length scratch)) pile scratch) (pile-count table t h)
+
+  -- 15: the scratch is short
+  pub short-halts : length scratch < walkScratch → Halts (walkCall table list pile scratch) list (haltedBefore 15 0 (length list)) pile scratch
+  unfolding outcomeOf
+  short-halts l = subst (λ (o : WalkOutcome). Halts o list (haltedBefore 15 0 (length list)) pile scratch)
+      (sym (call-is ∙ ap (λ (b : Bool). outcomeOf (cond b (haltBefore 15 0) (cond (ltb (length pile) (t .pile)) (haltBefore 14 0) (walkFrom (systemIn table) (length pile) 0 list (systemIn table .start)))) pile scratch) (lt-ltb (length scratch) walkScratch l)))
+      (record { answer = refl; inside = omega arith; rest = drop-of-length-le list {i = length list} (omega arith); pile = refl; scratch = scratch-kept 15 scratch refl })
+
+  long : walkScratch ≤ length scratch → walkCall table list pile scratch
+      ≡ outcomeOf (cond (ltb (length pile) (t .pile)) (haltBefore 14 0) (walkFrom (systemIn table) (length pile) 0 list (systemIn table .start))) pile scratch
+  long l = call-is ∙ ap (λ (b : Bool). outcomeOf (cond b (haltBefore 15 0) (cond (ltb (length pile) (t .pile)) (haltBefore 14 0) (walkFrom (systemIn table) (length pile) 0 list (systemIn table .start)))) pile scratch) (le-ltb (length scratch) walkScratch l)
+
+  -- 14: the start pile does not fit
+  pub unfit-halts : (scratch′ : List ℕ) → walkScratch ≤ length scratch → length pile < t .pile → scratch′ ≡ zeros scratch
+      → Halts (walkCall table list pile scratch) list (haltedBefore 14 0 (length list)) pile scratch′
+  unfolding outcomeOf
+  unfit-halts scratch′ l q e = subst (λ (o : WalkOutcome). Halts o list (haltedBefore 14 0 (length list)) pile scratch′)
+      (sym (long l ∙ ap (λ (b : Bool). outcomeOf (cond b (haltBefore 14 0) (walkFrom (systemIn table) (length pile) 0 list (systemIn table .start))) pile scratch) (lt-ltb (length pile) (t .pile) q)))
+      (record { answer = refl; inside = omega arith; rest = drop-of-length-le list {i = length list} (omega arith); pile = refl; scratch = e ∙ scratch-zero 14 scratch refl })
+
+  -- the walk began
+  pub began-halts : (r : Halted) (pile′ scratch′ : List ℕ) → walkScratch ≤ length scratch → t .pile ≤ length pile
+      → Halts (outcomeOf (walkFrom (systemIn table) (length pile) 0 list (systemIn table .start)) pile scratch) list r pile′ scratch′
+      → Halts (walkCall table list pile scratch) list r pile′ scratch′
+  began-halts r pile′ scratch′ l q x = subst (λ (o : WalkOutcome). Halts o list r pile′ scratch′)
+      (sym (long l ∙ ap (λ (b : Bool). outcomeOf (cond b (haltBefore 14 0) (walkFrom (systemIn table) (length pile) 0 list (systemIn table .start))) pile scratch) (le-ltb (length pile) (t .pile) q))) x
+
+-- ---- a table that is refused
+refused-reading : (r : Reading) (number place : ℕ) → Refused number place ≡ parsed r → r ≡ refused number place
+refused-reading (accepted items) number place e = let z : _≡_ {A = ℕ} 0 1 = cc in absurd (omega arith)
+refused-reading (refused n p) number place e = let q : refused n p ≡ refused number place = cc in q
+
+pub table-halts : (table list pile scratch : List ℕ) (number place : ℕ) → Refused number place ≡ parsed (read table)
+    → Halts (walkCall table list pile scratch) list (haltedBefore number place (length list)) pile scratch
+unfolding walkCall walkGiven
+table-halts table list pile scratch number place e =
+    let is : read table ≡ refused number place = refused-reading (read table) number place e in
+    let small : Numbered9 (refused number place) = subst Numbered9 is (read-numbered table) in
+    rw is (record {
+      answer = refl;
+      inside = omega arith;
+      rest = drop-of-length-le list {i = length list} (omega arith);
+      pile = refl;
+      scratch = scratch-kept number scratch (table-number number (small .0) (small .1));
+    })

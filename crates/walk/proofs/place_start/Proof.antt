@@ -1,0 +1,28 @@
+use Rattle.table.specs.Reading.{systemIn}
+use Rattle.table.proofs.Layouts.{pile-count}
+use Rattle.walk.proofs.Ends.{placed-start}
+use borrow.Author.Needs.{needs}
+use Rattle.walk.proofs.place_start.Statement.{statement}
+use Rattle.walk.proofs.place_start.Tie as tie
+
+start-group-requires : tie.Need-start-group-requires
+start-group-requires c κs = search needs
+
+sub-top : tie.Need-sub-top
+sub-top c = search needs
+
+write-start-requires : tie.Need-write-start-requires
+write-start-requires c κs = search needs
+
+same-length : tie.Need-same-length
+same-length c = search needs
+
+returns : tie.Need-returns
+returns c =
+    let s = c .before .before .before .before .before .before .before in
+    let a = s .args in
+    placed-start (a .pile .now) (systemIn (a .table .now) .start) (a .t .pile) (c .before .before .before .before .start-group .result) (c .before .before .write-start .last .1 .1 .0) (pile-count (a .table .now) (a .t) (s .pre .0)) (s .pre .1) (c .before .before .before .before .start-group .ensures) (c .before .before .write-start .ensures)
+
+pub place-start-spec : {M : Type 1} → statement M
+place-start-spec =
+    tie.close (tie.spec start-group-requires sub-top write-start-requires same-length returns)

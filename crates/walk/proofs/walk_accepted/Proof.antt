@@ -1,0 +1,54 @@
+use Rattle.walk.proofs.Outcomes.{short-halts, unfit-halts, began-halts}
+use borrow.Author.Needs.{needs}
+use Rattle.walk.proofs.walk_accepted.Statement.{statement}
+use Rattle.walk.proofs.walk_accepted.Tie as tie
+
+halt-before-requires : tie.Need-halt-before-requires
+halt-before-requires c κs = search needs
+
+returns : tie.Need-returns
+returns c = let a = c .before .before .before .before .before .before .args in rw (c .halt-before .ensures) (short-halts (a .table .now) (a .t) (c .before .before .before .before .before .before .pre) (a .list .now) (a .pile .now) (a .scratch .now) (c .before .if1 .taken))
+
+clear-requires : tie.Need-clear-requires
+clear-requires c κs = search needs
+
+halt-before-requires-2 : tie.Need-halt-before-requires-2
+halt-before-requires-2 c κs = search needs
+
+same-length : tie.Need-same-length
+same-length c = search needs
+
+returns-2 : tie.Need-returns-2
+returns-2 c =
+    let a = c .before .before .before .before .before .before .before .before .before .before .before .args in
+    rw (c .halt-before2 .ensures) (unfit-halts (a .table .now) (a .t) (c .before .before .before .before .before .before .before .before .before .before .before .pre) (a .list .now) (a .pile .now) (a .scratch .now) (c .before .before .before .clear .last .0) (c .before .before .before .before .before .before .if1 .left) (c .before .before .before .before .before .if2 .taken) (c .before .before .before .clear .ensures))
+
+walk-placed-requires : tie.Need-walk-placed-requires
+walk-placed-requires c κs = search needs
+
+same-length-2 : tie.Need-same-length-2
+same-length-2 c = search needs
+
+same-length-3 : tie.Need-same-length-3
+same-length-3 c = search needs
+
+returns-3 : tie.Need-returns-3
+returns-3 c =
+    let a = c .before .before .before .before .before .before .before .before .before .before .before .before .before .args in
+    began-halts (a .table .now) (a .t) (c .before .before .before .before .before .before .before .before .before .before .before .before .before .pre) (a .list .now) (a .pile .now) (a .scratch .now) (c .before .before .before .before .walk-placed .result) (c .before .before .before .before .walk-placed .last .1 .1 .1 .0) (c .before .before .before .before .walk-placed .last .1 .1 .1 .1 .0)
+    (c .before .before .before .before .before .before .before .before .if1 .left) (c .before .before .before .before .before .before .before .if2 .left) (c .before .before .before .before .walk-placed .ensures)
+
+pub walk-accepted-spec : {M : Type 1} → statement M
+walk-accepted-spec =
+    tie.close
+    (tie.spec
+    halt-before-requires
+    returns
+    clear-requires
+    halt-before-requires-2
+    same-length
+    returns-2
+    walk-placed-requires
+    same-length-2
+    same-length-3
+    returns-3)

@@ -1,0 +1,41 @@
+use Rattle.walk.proofs.Outcomes.{start-shape, placed-halts}
+use borrow.Author.Needs.{needs}
+use Rattle.walk.proofs.walk_placed.Statement.{statement}
+use Rattle.walk.proofs.walk_placed.Tie as tie
+
+place-start-requires : tie.Need-place-start-requires
+place-start-requires c κs = search needs
+
+take-steps-requires : tie.Need-take-steps-requires
+take-steps-requires c κs = (c .before .before .before .before .before .before .before .before .before .pre .0, start-shape (c .before .before .before .before .before .before .before .before .before .args .table .now) (c .before .before .before .before .before .before .before .before .before .args .t) (c .before .before .before .before .before .before .before .before .before .pre .0) (c .before .before .before .place-start .last .1 .1 .0) (c .before .before .before .place-start .result) (c .before .before .before .place-start .ensures .0) (c .before .before .before .place-start .ensures .1))
+
+conclude-requires : tie.Need-conclude-requires
+conclude-requires c κs = search needs
+
+settle-requires : tie.Need-settle-requires
+settle-requires c κs = search needs
+
+same-length : tie.Need-same-length
+same-length c = search needs
+
+same-length-2 : tie.Need-same-length-2
+same-length-2 c = search needs
+
+returns : tie.Need-returns
+returns c =
+    let a = c .before .before .before .before .before .before .before .before .before .before .before .before .before .before .before .before .before .before .before .before .before .before .args in
+    placed-halts (a .table .now) (a .t) (a .list .now) (a .pile .now) (a .scratch .now) (c .before .before .before .before .before .before .before .before .before .before .before .before .before .before .before .before .place-start .result) (c .before .before .before .before .before .before .before .before .before .before .before .before .before .before .before .before .place-start .last .1 .1 .0) (c .before .before .before .before .before .before .before .before .before .before .before .before .take-steps .last .1 .1 .1 .0) (c .before .before .settle .last .0)
+    (c .before .before .before .before .before .before .before .conclude .last .1 .1 .1 .1 .0) (c .before .before .before .before .before .before .before .before .before .before .before .before .take-steps .result) (c .before .before .before .before .before .before .before .conclude .result) (c .before .before .before .before .before .before .before .before .before .before .before .before .before .before .before .before .place-start .ensures .0) (c .before .before .before .before .before .before .before .before .before .before .before .before .before .before .before .before .place-start .kept .1 .1 .0) (c .before .before .before .before .before .before .before .before .before .before .before .before .take-steps .kept .1 .1 .1 .0)
+    (c .before .before .before .before .before .before .before .before .before .before .before .before .take-steps .ensures) (c .before .before .before .before .before .before .before .conclude .ensures .0) (c .before .before .before .before .before .before .before .conclude .ensures .1) (c .before .before .settle .ensures)
+
+pub walk-placed-spec : {M : Type 1} → statement M
+walk-placed-spec =
+    tie.close
+    (tie.spec
+    place-start-requires
+    take-steps-requires
+    conclude-requires
+    settle-requires
+    same-length
+    same-length-2
+    returns)

@@ -1,0 +1,68 @@
+use mathlib.Core.Path.{_≡_, _∙_, ap}
+use Prim.Native.Nat.{_≤_, _-_}
+use lib.Seq.{paste}
+use Rattle.table.specs.Reading.{systemIn}
+use Rattle.table.proofs.Layouts.{pile-count}
+use Rattle.shapes.proofs.Buffers.{Pasting, pasting-start, pasting-turn}
+use native.Mathlib.Omega.{arith}
+use borrow.Author.Needs.{needs}
+use Rattle.walk.proofs.write_start.Statement.{statement}
+use Rattle.walk.proofs.write_start.Tie as tie
+
+abbrev Inv-loop : tie.InvT-loop
+Inv-loop table t pile₀ at count j₀ pile j = (j ≤ count) × Pasting pile₀ (systemIn table .start .word) at pile j
+
+abbrev μ-loop : tie.MeasureT-loop
+μ-loop table t pile₀ at count j₀ pile j = count - j
+
+loop-holds : tie.Need-loop-holds Inv-loop μ-loop
+loop-holds c = (omega arith, pasting-start (c .before .before .args .pile .now) (systemIn (c .before .before .args .table .now) .start .word) (c .before .before .args .at))
+
+pile-letter-requires : tie.Need-pile-letter-requires Inv-loop μ-loop
+pile-letter-requires c κs = search needs
+
+add-pile : tie.Need-add-pile Inv-loop μ-loop
+add-pile c = omega arith
+
+slice-write-pile : tie.Need-slice-write-pile Inv-loop μ-loop
+slice-write-pile c = omega arith
+
+add-j : tie.Need-add-j Inv-loop μ-loop
+add-j c = omega arith
+
+loop-less : tie.Need-loop-less Inv-loop μ-loop
+loop-less c = omega arith
+
+loop-again : tie.Need-loop-again Inv-loop μ-loop
+loop-again c =
+    let s = c .before .before .before .before .before in
+    let m = c .before .before .loop in (
+      omega arith,
+      pasting-turn (s .args .pile .now) (systemIn (s .args .table .now) .start .word) (s .args .at) (m .pile) (m .j) (c .pile-letter .result) (m .inv .1) (omega (arith, s .pre .1))
+          (omega (arith, pile-count (s .args .table .now) (s .args .t) (s .pre .0))) (c .pile-letter .ensures),
+    )
+
+same-length : tie.Need-same-length Inv-loop μ-loop
+same-length c = c .before .loop .inv .1 .size
+
+returns : tie.Need-returns Inv-loop μ-loop
+returns c =
+    let a = c .before .before .before .before .args in
+    let e : c .before .loop .j ≡ a .t .pile = omega arith in
+    c .before .loop .inv .1 .is ∙ ap (paste (a .pile .now) (a .at) (systemIn (a .table .now) .start .word)) e
+
+pub write-start-spec : {M : Type 1} → statement M
+write-start-spec =
+    tie.close
+    (tie.spec
+    Inv-loop
+    μ-loop
+    loop-holds
+    pile-letter-requires
+    add-pile
+    slice-write-pile
+    add-j
+    loop-less
+    loop-again
+    same-length
+    returns)

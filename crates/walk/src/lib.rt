@@ -1,0 +1,276 @@
+// The walk call: rules fired one after the other from the table's start. While it walks, the word stands at the end of the pile buffer.
+use acceptance::is_accepted;
+use automaton::sets;
+use firing::Firing;
+use firing::Placed;
+use firing::fire;
+use model::Walked;
+use shapes::move_front;
+use table::Parsed;
+use table::Table;
+use table::pile_letter;
+use table::read;
+use table::start_group;
+ghost use mathlib.Core.Path.{_≡_};
+ghost use Prim.Native.Nat.{_+_, _≤_};
+ghost use lib.ListN.{length, drop, getD};
+ghost use lib.Seq.{paste};
+ghost use Rattle.model.specs.Calls.{bit, filled, zeros, walkScratch, walkFrom, walkCall, walkFigures};
+ghost use Rattle.table.specs.Reading.{Holds, systemIn};
+ghost use Rattle.firing.specs.Piles.{configuration};
+ghost use Rattle.walk.specs.Walking.{InShape, StepTo, answerAt, Stopped, haltedBefore, outcomeOf, Halts, Walks};
+ghost use Rattle.walk.specs.Claims.{Reached};
+
+// What one step comes to: the number of its refusal, or the configuration after it.
+pub enum Taken {
+    Refused(u8),
+    Onward(Placed),
+}
+
+// Where the steps stopped: the number of the refusal, 0 at the list's end; the step; and the configuration there.
+pub struct Stop {
+    pub number: u8,
+    pub at: usize,
+    pub placed: Placed,
+}
+
+// What a walk gives, and where the part of the list begins that it hands back.
+pub struct Halted {
+    pub answer: Walked,
+    pub from: usize,
+}
+
+fn wide(x: u16) -> usize
+    ensures { λ r. ⌜ r ≡ x ⌝ }
+{
+    x as usize
+}
+
+// ---- the start
+// Writes the start's word from a place on.
+fn write_start(table: &[u8], t: Table, pile: &mut [u8], at: usize)
+    requires { ⌜ Holds (now table) t × (at + t .pile ≤ length (now pile)) ⌝ }
+    ensures { λ _. ⌜ now (pile .exit) ≡ paste (now (pile .entry)) at (systemIn (now (table .entry)) .start .word) (t .pile) ⌝ }
+{
+    let count = t.pile;
+    let mut j = 0;
+    while j < count {
+        pile[at + j] = pile_letter(table, t, j);
+        j += 1;
+    }
+}
+
+// Puts the start's word at the end of the buffer.
+fn place_start(table: &[u8], t: Table, pile: &mut [u8]) -> Placed
+    requires { ⌜ Holds (now table) t × (t .pile ≤ length (now pile)) ⌝ }
+    ensures { λ r. ⌜ (configuration (now (pile .exit)) r ≡ systemIn (now (table .entry)) .start) × (r .top ≤ length (now (pile .exit))) ⌝ }
+{
+    let states = start_group(table, t);
+    let count = t.pile;
+    let top = pile.len() - count;
+    write_start(table, t, pile, top);
+    Placed { states, top }
+}
+
+// ---- the steps
+// Fires the rule n. The order of the refusals: 13, 12, 14.
+fn take_step(table: &[u8], t: Table, n: usize, pile: &mut [u8], c: Placed) -> Taken
+    requires { ⌜ Holds (now table) t × InShape t (now pile) c ⌝ }
+    ensures { λ r. ⌜ StepTo (now (table .entry)) t n c (now (pile .entry)) (now (pile .exit)) r ⌝ }
+{
+    let rules = t.rules;
+    if rules <= n {
+        return Taken::Refused(13);
+    }
+    match fire(table, t, n, pile, c) {
+        Firing::Idle => {
+            return Taken::Refused(12);
+        }
+        Firing::Full => {
+            return Taken::Refused(14);
+        }
+        Firing::Done(d) => {
+            return Taken::Onward(d);
+        }
+    }
+}
+
+// Takes the steps of the list, up to the first that is refused.
+fn take_steps(table: &[u8], t: Table, list: &[u16], pile: &mut [u8], start: Placed) -> Stop
+    requires { ⌜ Holds (now table) t × InShape t (now pile) start ⌝ }
+    ensures { λ r. ⌜ Stopped (now (table .entry)) t (now (list .entry)) (walkFrom (systemIn (now (table .entry))) (length (now (pile .entry))) 0 (now (list .entry)) (configuration (now (pile .entry)) start)) (now (pile .exit)) r ⌝ }
+{
+    let mut c = start;
+    let mut k = 0;
+    while k < list.len() {
+        match take_step(table, t, wide(list[k]), pile, c) {
+            Taken::Refused(number) => {
+                return Stop {
+                    number,
+                    at: k,
+                    placed: c,
+                };
+            }
+            Taken::Onward(d) => {
+                c = d;
+                k += 1;
+            }
+        }
+    }
+    Stop {
+        number: 0,
+        at: k,
+        placed: c,
+    }
+}
+
+// ---- the end
+// What the walk gives where its steps stopped. The scratch is left zero.
+fn conclude(table: &[u8], t: Table, pile: &[u8], s: Stop, scratch: &mut [u8]) -> Walked
+    requires { ⌜ Holds (now table) t × InShape t (now pile) (s .placed) × (walkScratch ≤ length (now scratch)) ⌝ }
+    ensures { λ r. ⌜ (r ≡ answerAt (systemIn (now (table .entry))) s (configuration (now (pile .entry)) (s .placed))) × (now (scratch .exit) ≡ zeros (now (scratch .entry))) ⌝ }
+{
+    let number = s.number;
+    if number != 0 {
+        sets::clear(scratch);
+        return Walked::Refused {
+            number,
+            place: s.at,
+        };
+    }
+    let c = s.placed;
+    let states = c.states;
+    let top = c.top;
+    let watched = is_accepted(table, t, &pile[top..], states, scratch);
+    Walked::Ended {
+        states,
+        length: pile.len() - top,
+        watched,
+    }
+}
+
+// Moves the word to the front of the buffer and zeroes the rest.
+fn settle(pile: &mut [u8], top: usize)
+    requires { ⌜ top ≤ length (now pile) ⌝ }
+    ensures { λ _. ⌜ now (pile .exit) ≡ filled (drop top (now (pile .entry))) (now (pile .entry)) ⌝ }
+{
+    let count = pile.len() - top;
+    move_front(pile, top, count);
+    sets::clear(&mut pile[count..]);
+}
+
+// ---- the call
+// A walk whose start pile fits.
+fn walk_placed(table: &[u8], t: Table, list: &[u16], pile: &mut [u8], scratch: &mut [u8]) -> Halted
+    requires { ⌜ Holds (now table) t × (t .pile ≤ length (now pile)) × (walkScratch ≤ length (now scratch)) ⌝ }
+    ensures { λ r. ⌜ Halts (outcomeOf (walkFrom (systemIn (now (table .entry))) (length (now (pile .entry))) 0 (now (list .entry)) (systemIn (now (table .entry)) .start)) (now (pile .entry)) (now (scratch .entry))) (now (list .entry)) r (now (pile .exit)) (now (scratch .exit)) ⌝ }
+{
+    let start = place_start(table, t, pile);
+    let stop = take_steps(table, t, list, pile, start);
+    let answer = conclude(table, t, pile, stop, scratch);
+    let c = stop.placed;
+    settle(pile, c.top);
+    Halted {
+        answer,
+        from: stop.at,
+    }
+}
+
+// Refused before the first step: the empty part is handed back.
+fn halt_before(number: u8, place: usize, list: &[u16]) -> Halted
+    ensures { λ r. ⌜ r ≡ haltedBefore number place (length (now (list .entry))) ⌝ }
+{
+    Halted {
+        answer: Walked::Refused { number, place },
+        from: list.len(),
+    }
+}
+
+// A walk over an accepted table.
+fn walk_accepted(
+    table: &[u8],
+    t: Table,
+    list: &[u16],
+    pile: &mut [u8],
+    scratch: &mut [u8],
+) -> Halted
+    requires { ⌜ Holds (now table) t ⌝ }
+    ensures { λ r. ⌜ Halts (walkCall (now (table .entry)) (now (list .entry)) (now (pile .entry)) (now (scratch .entry))) (now (list .entry)) r (now (pile .exit)) (now (scratch .exit)) ⌝ }
+{
+    if scratch.len() < 2048 {
+        return halt_before(15, 0, list);
+    }
+    let count = t.pile;
+    if pile.len() < count {
+        sets::clear(scratch);
+        return halt_before(14, 0, list);
+    }
+    walk_placed(table, t, list, pile, scratch)
+}
+
+fn walk_table(table: &[u8], list: &[u16], pile: &mut [u8], scratch: &mut [u8]) -> Halted
+    ensures { λ r. ⌜ Halts (walkCall (now (table .entry)) (now (list .entry)) (now (pile .entry)) (now (scratch .entry))) (now (list .entry)) r (now (pile .exit)) (now (scratch .exit)) ⌝ }
+{
+    match read(table) {
+        Parsed::Refused { number, place } => {
+            return halt_before(number, place, list);
+        }
+        Parsed::Accepted(t) => {
+            return walk_accepted(table, t, list, pile, scratch);
+        }
+    }
+}
+
+fn as_figure(b: bool) -> u64
+    ensures { λ r. ⌜ r ≡ bit b ⌝ }
+{
+    if b {
+        return 1;
+    }
+    0
+}
+
+// Document 01's number and values: the refusal's number, its place, watched or not, pile length, end states.
+fn put_figures(figures: &mut [u64; 8], answer: Walked)
+    ensures { λ _. ⌜ now (figures .exit) ≡ walkFigures answer ⌝ }
+{
+    match answer {
+        Walked::Ended {
+            states,
+            length,
+            watched,
+        } => {
+            *figures = [
+                0,
+                0,
+                as_figure(watched),
+                length as u64,
+                states.s0 as u64,
+                states.s1 as u64,
+                states.s2 as u64,
+                states.s3 as u64,
+            ];
+        }
+        Walked::Refused { number, place } => {
+            *figures = [number as u64, place as u64, 0, 0, 0, 0, 0, 0];
+        }
+    }
+}
+
+// Walks the list of rules over the table. Hands back the part of the list from the refused step on, the empty part in any other case.
+pub fn walk<'a>(
+    table: &[u8],
+    list: &'a [u16],
+    pile: &mut [u8],
+    scratch: &mut [u8],
+    figures: &mut [u64; 8],
+) -> &'a [u16]
+    ensures outcome { λ r. ⌜ Walks (walkCall (now (table .entry)) (now (list .entry)) (now (pile .entry)) (now (scratch .entry))) (now (figures .exit)) (now r) (now (pile .exit)) (now (scratch .exit)) ⌝ }
+    ensures steps { λ _. ⌜ (getD (now (figures .exit)) 0 0 ≡ 0 → Reached (now (table .entry)) (now (list .entry)) (now (pile .exit)) (now (figures .exit))) ⌝ }
+{
+    let halted = walk_table(table, list, pile, scratch);
+    let answer = halted.answer;
+    let from = halted.from;
+    put_figures(figures, answer);
+    &list[from..]
+}
