@@ -142,7 +142,7 @@ first-both k (x ∷ xs) ys = by-test (sameKey (x .key) k) (λ y. rw y) (λ n. rw
 first-append : (k : Transition) (xs ys zs : List Candidate) → firstOf k xs ≡ firstOf k ys → firstOf k (xs ++ zs) ≡ firstOf k (ys ++ zs)
 first-append k xs ys zs e = first-both k xs zs ∙ ap (λ (o : Option Candidate). orElse o (firstOf k zs)) e ∙ sym (first-both k ys zs)
 
-first-skip : (k : Transition) (c : Candidate) (xs ys : List Candidate) → sameKey (c .key) k ≡ false → firstOf k (xs ++ (c ∷ ys)) ≡ firstOf k (xs ++ ys)
+pub first-skip : (k : Transition) (c : Candidate) (xs ys : List Candidate) → sameKey (c .key) k ≡ false → firstOf k (xs ++ (c ∷ ys)) ≡ firstOf k (xs ++ ys)
 first-skip k c [] ys n = rw n
 first-skip k c (x ∷ xs) ys n = ap (cond (sameKey (x .key) k) (some x)) (first-skip k c xs ys n)
 
@@ -158,7 +158,7 @@ collect-first k log n (c ∷ cs) got s = by-test (inLog (c .key) log)
     ∙ first-append k (insert c got) (got ++ (c ∷ [])) cs (insert-first k c got s)
     ∙ ap (firstOf k) (append-assoc got (c ∷ []) cs)))
 
-first-self : (cs : List Candidate) → Sorted cs → (c : Candidate) → List·Memᴰ c cs → firstOf (c .key) cs ≡ some c
+pub first-self : (cs : List Candidate) → Sorted cs → (c : Candidate) → List·Memᴰ c cs → firstOf (c .key) cs ≡ some c
 first-self [] s c m = absurd (List·Memᴰ·not-nil m)
 first-self (x ∷ cs) s c m = step (λ m′. first-self cs (s .1) c m′) (List·Memᴰ·cases-cons m)
   where

@@ -28,6 +28,5 @@ pub mod EmissionStack
 pub mod UniqueRound
 pub mod RoundGroups
 pub mod Skipping
-pub mod RoundLoops
 pub mod CodeTests
 pub mod Bounds

@@ -68,7 +68,7 @@ first-none k [] e = refl
 first-none k (c ∷ cs) e = rw (e .0) (first-none k cs (e .1))
 
 -- ---- lexicographic order of heads and keys
-lex-front : (xs ys us vs : List ℕ) → length xs ≡ length ys → lexLess xs ys ≡ true → lexLess (xs ++ us) (ys ++ vs) ≡ true
+pub lex-front : (xs ys us vs : List ℕ) → length xs ≡ length ys → lexLess xs ys ≡ true → lexLess (xs ++ us) (ys ++ vs) ≡ true
 lex-front [] [] us vs l e = absurd (false≢true e)
 lex-front [] (y ∷ ys) us vs l e = absurd (omega arith)
 lex-front (x ∷ xs) [] us vs l e = absurd (omega arith)
@@ -91,7 +91,7 @@ lex-le-lt xs h g n l = by-test (lexLess xs h) (λ y. lex-trans xs h g y l)
     by-same (inr e) f g = g e
 
 -- ---- filters by key
-filter-each : {A : Type 0} (f : A → Bool) (P : A → Type 0) (xs : List A) → Each P xs → Each P (filter f xs)
+pub filter-each : {A : Type 0} (f : A → Bool) (P : A → Type 0) (xs : List A) → Each P xs → Each P (filter f xs)
 filter-each f P [] e = tt
 filter-each f P (x ∷ xs) e = by-test (f x) (λ y. rw y (e .0, filter-each f P xs (e .1))) (λ n. rw n (filter-each f P xs (e .1)))
 
@@ -113,7 +113,7 @@ filter-sorted f (c ∷ cs) s = by-test (f c)
     (λ y. rw y (filter-each f (λ (d : Candidate). Less (c .key) (d .key)) cs (s .0), filter-sorted f cs (s .1)))
     (λ n. rw n (filter-sorted f cs (s .1)))
 
-sorted-append : (cs ds : List Candidate) → Sorted cs → Sorted ds → Each (λ (c : Candidate). Each (λ (d : Candidate). Less (c .key) (d .key)) ds) cs → Sorted (cs ++ ds)
+pub sorted-append : (cs ds : List Candidate) → Sorted cs → Sorted ds → Each (λ (c : Candidate). Each (λ (d : Candidate). Less (c .key) (d .key)) ds) cs → Sorted (cs ++ ds)
 sorted-append [] ds s t e = t
 sorted-append (c ∷ cs) ds s t e = (each-append (λ (d : Candidate). Less (c .key) (d .key)) cs ds (s .0) (e .0), sorted-append cs ds (s .1) t (e .1))
 

@@ -5,7 +5,7 @@ use mathlib.Core.Logic.{_≢_, _⊎_, inl, inr, ⊎-elim}
 use mathlib.Core.List.{List, List·Memᴰ, List·Memᴰ·append-cases, List·Memᴰ·cases-cons, List·Memᴰ·head, List·Memᴰ·not-nil, List·Memᴰ·tail, Memᴰ·append-right, Memᴰ·cast, Memᴰ·map, Memᴰ·of-map, [], _++_, _∷_, append-assoc, append-nil, map}
 use Prim.Native.Nat.{_+_, _<_, _≤_, suc, zero, zero-le, ℕ}
 use native.Mathlib.Omega.{arith}
-use native.Mathlib.Nat.{le-antisymm, le-refl, not-suc-le-zero}
+use native.Mathlib.Nat.{add-comm, le-antisymm, le-refl, not-suc-le-zero}
 use lib.Dec.{eqb}
 use lib.ListN.{length, length-append}
 use borrow.Author.Tests.{eqb-false, eqb-true}
@@ -16,10 +16,10 @@ use Rattle.model.specs.Log.{Candidate, Record, addedRecord, additions, c
 use Rattle.model.specs.Saturation.{Added, Delta}
 use Rattle.model.specs.Systems.{InAutomaton, System}
 use Rattle.model.proofs.Collecting.{Held, Reasoned, additions-reasoned, candidateKeys, inLog-of, keys-suc, log-saturates, logAt-suc}
-use Rattle.model.proofs.Limit.{length-suc, saturated-later, saturated-now}
+use Rattle.model.proofs.Limit.{ByteSystem, length-suc, limit-saturated, saturated-later, saturated-now}
 use Rattle.model.proofs.Lists.{each-append, each-get, each-map, each-of-map, isEmpty-false, mem-each}
 use Rattle.model.proofs.Order.{Less, Sorted, additions-fresh, additions-sorted, collect-sorted, each-candidateKeys}
-use Rattle.model.proofs.Reachability.{initial-held, keys-initial}
+use Rattle.model.proofs.Reachability.{initial-held, keys-initial, limit-log}
 use Rattle.model.proofs.Soundness.{transitionsAt}
 use Rattle.model.proofs.Tests.{by-test}
 use Rattle.model.proofs.Validity.{initial-each}
@@ -217,3 +217,10 @@ rounds-limit sys = le-antisymm (rounds-below (saturatedAt sys) (limit sys) (roun
     low : (k : ℕ) → saturatedAt sys ≡ k → saturatedAt sys ≤ rounds (limit sys)
     low zero e = subst (λ (n : ℕ). n ≤ rounds (limit sys)) (sym e) zero-le
     low (suc k) e = let x = rounds-held sys k e in subst (λ (n : ℕ). n ≤ rounds (limit sys)) (x .2) (rounds-above (x .0) (limit sys) (x .1))
+
+-- no log of any round is longer than the limit
+pub limit-longest : (sys : System) → ByteSystem sys → (j : ℕ) → length (logAt sys j) ≤ length (logAt sys (saturatedAt sys))
+limit-longest sys by j =
+    let grown : length (logAt sys j) ≤ length (logAt sys (saturatedAt sys + j)) = log-longer-later sys (saturatedAt sys) j in
+    let same : length (logAt sys (saturatedAt sys + j)) ≡ length (logAt sys (saturatedAt sys)) = ap (λ (k : ℕ). length (logAt sys k)) (add-comm (saturatedAt sys) j) ∙ ap length (limit-log sys (saturatedAt sys) j (limit-saturated sys by)) in
+    omega arith

@@ -34,7 +34,7 @@ letters-of log (n ∷ ns) = (
   each-map (λ (m : ℕ). List·Memᴰ (recordAt log m .key .letter) (label (transitionsAt log ns))) (λ (m : ℕ). List·Memᴰ (recordAt log m .key .letter) (label (transitionsAt log (n ∷ ns)))) (λ m i. List·Memᴰ·tail i) ns (letters-of log ns),
 )
 
-each-both : (P Q R : ℕ → Type 0) → ((n : ℕ) → P n → Q n → R n) → (ns : List ℕ) → Each P ns → Each Q ns → Each R ns
+pub each-both : (P Q R : ℕ → Type 0) → ((n : ℕ) → P n → Q n → R n) → (ns : List ℕ) → Each P ns → Each Q ns → Each R ns
 each-both P Q R f [] p q = tt
 each-both P Q R f (n ∷ ns) p q = (f n (p .0) (q .0), each-both P Q R f ns (p .1) (q .1))
 

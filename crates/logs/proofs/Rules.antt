@@ -1,0 +1,190 @@
+-- The rules and transitions of an accepted table: where they stand in its system, and that their states are of their letter's processes.
+use mathlib.Core.Path.{_≡_, refl, ap, sym, subst, _∙_}
+use mathlib.Core.Bool.{true, _&&_, true≢false}
+use mathlib.Core.Logic.{⊎-elim}
+use mathlib.Core.Option.{some}
+use mathlib.Core.List.{List, [], _∷_, map, append-nil, List·Memᴰ, List·Memᴰ·cases-cons, List·Memᴰ·not-nil, Memᴰ·of-map}
+use Prim.Native.Nat.{ℕ, zero, suc, _+_, _<_, _≤_}
+use native.Mathlib.Omega.{arith}
+use native.Mathlib.Nat.{not-suc-le-zero}
+use lib.Dec.{eqb, leb}
+use lib.ListN.{length, getD, getElem?, drop, drop-of-length-le, List·getD-map}
+use lib.Seq.{drop-cons}
+use borrow.Author.Tests.{eq-eqb, eqb-true, leb-true, ltb-true}
+use Rattle.model.specs.declared.Group.{Group}
+use Rattle.model.specs.Groups.{Process, Processes, Within, p0, p1, p2, p3, at, has, restrict}
+use Rattle.model.specs.Automata.{Transition}
+use Rattle.model.specs.Lists.{Each}
+use Rattle.model.specs.Log.{keyDigits}
+use Rattle.model.specs.Systems.{Rule}
+use Rattle.model.specs.Tables.{Item, absent, bodies, byteOf, controlsOf, isTwin, numberOf, ruleOf, sameBytes, statesOf, systemOf, transitionOf, valueFits}
+use Rattle.model.proofs.Groups.{at-restrict, ext}
+use Rattle.model.proofs.Lists.{Distinct, any-of, distinct-append, each-get}
+use Rattle.model.proofs.Tables.{Checked, none-yet, one-more, Complete, Passes, Fitting, RuleFits, TransitionFits, read-complete, accepted-well-formed, bodies-more, each-of-kind, rules-fit, transitions-fit}
+use Rattle.model.proofs.Tests.{by-test, and-both, and-left, and-right}
+use Rattle.automaton.specs.StateNumbers.{Over}
+use Rattle.table.specs.declared.Table.{Table}
+use Rattle.table.specs.Reading.{Holds, itemsIn, systemIn, ruleIn, transitionIn}
+use Rattle.table.proofs.Layouts.{body-in, body-size, count-in, rule-letter-in, rules-count, transition-letter-in, transitions-count, written-letter-in}
+use Rattle.shapes.specs.Shapes.{presentIn, processesBelow}
+use Rattle.shapes.proofs.Ranges.{each-place, each-by-place}
+use Rattle.shapes.proofs.Shapes.{loc-within, over-fits, table-read}
+
+-- ---- lists by their places
+pub elem-at : {A : Type 0} (l : List A) (k : ℕ) (d : A) → k < length l → getElem? l k ≡ some (getD l k d)
+elem-at [] k d h = absurd (not-suc-le-zero h)
+elem-at (x ∷ l) zero d h = refl
+elem-at (x ∷ l) (suc k) d h = elem-at l k d (omega arith)
+
+pub elem-place : {A : Type 0} (l : List A) (k : ℕ) (d x : A) → getElem? l k ≡ some x → (k < length l) × (getD l k d ≡ x)
+elem-place [] k d x e = absurd (let z : _≡_ {A = ℕ} 0 1 = cc in omega arith)
+elem-place (y ∷ l) zero d x e = (omega arith, let same : y ≡ x = cc in same)
+elem-place (y ∷ l) (suc k) d x e = let r = elem-place l k d x e in (omega (arith, r .0), r .1)
+
+pub each-by-elem : {A : Type 0} (P : A → Type 0) (l : List A) → ((k : ℕ) (x : A) → getElem? l k ≡ some x → P x) → Each P l
+each-by-elem P [] f = tt
+each-by-elem P (x ∷ l) f = (f 0 x refl, each-by-elem P l (λ k y e. f (suc k) y e))
+
+pub each-both : {A : Type 0} (P Q R : A → Type 0) → ((x : A) → P x → Q x → R x) → (l : List A) → Each P l → Each Q l → Each R l
+each-both P Q R f [] p q = tt
+each-both P Q R f (x ∷ l) p q = (f x (p .0) (q .0), each-both P Q R f l (p .1) (q .1))
+
+-- ---- groups
+pub over-restrict : (L : Processes) (g : Group) → Over L g → restrict L g ≡ g
+over-restrict L g o = ext (λ i. rw at-restrict (by-test (has L i) (λ m. rw m) (λ n. rw n (sym (o .outside i n)))))
+
+-- ---- the bounds of a process are at most 8
+bounds : {items : List Item} → Checked items → Each (λ (body : List ℕ). byteOf body 0 ≤ 8 × byteOf body 1 ≤ 8) (bodies 1 items)
+unfolding valueFits
+bounds c = each-of-kind 1 (λ items body. byteOf body 0 ≤ 8 × byteOf body 1 ≤ 8) (λ items x body l q. q) bound c
+  where
+    bound : (items : List Item) (body : List ℕ) → Passes items 1 body → byteOf body 0 ≤ 8 × byteOf body 1 ≤ 8
+    bound items body p =
+        let front = and-left (leb 1 (byteOf body 0) && leb (byteOf body 0) (byteOf body 1)) (leb (byteOf body 1) 8) (p .fits) in
+        let small : byteOf body 1 ≤ 8 = leb-true (byteOf body 1) 8 (and-right (leb 1 (byteOf body 0) && leb (byteOf body 0) (byteOf body 1)) (leb (byteOf body 1) 8) (p .fits)) in
+        let less : byteOf body 0 ≤ byteOf body 1 = leb-true (byteOf body 0) (byteOf body 1) (and-right (leb 1 (byteOf body 0)) (leb (byteOf body 0) (byteOf body 1)) front) in
+        (omega arith, small)
+
+-- ---- no two transitions have the same body
+same-bytes : (xs : List ℕ) → sameBytes xs xs ≡ true
+same-bytes [] = refl
+same-bytes (x ∷ xs) = and-both (eqb x x) (sameBytes xs xs) (eq-eqb x x refl) (same-bytes xs)
+
+single-body : (items : List Item) (body : List ℕ) → Passes items 4 body → List·Memᴰ body (bodies 4 items) → ⊥
+unfolding isTwin
+single-body items body p m = true≢false (sym (any-of (sameBytes body) (bodies 4 items) body m (same-bytes body)) ∙ p .single)
+
+bodies-distinct : {items : List Item} → Checked items → Distinct (bodies 4 items)
+bodies-distinct none-yet = tt
+bodies-distinct (one-more {items = items} x c p) = by-test (eqb (x .kind) 4)
+    (λ y. rw (bodies-more 4 items x, y) (distinct-append (bodies 4 items) (x .body ∷ []) (bodies-distinct c) ((λ m. List·Memᴰ·not-nil m), tt) (λ z m n. ⊎-elim
+    (λ (e : z ≡ x .body). single-body items (x .body) (subst (λ (k : ℕ). Passes items k (x .body)) (eqb-true (x .kind) 4 y) p) (subst (λ (b : List ℕ). List·Memᴰ b (bodies 4 items)) e m))
+    (λ (n′ : List·Memᴰ z []). List·Memᴰ·not-nil n′) (List·Memᴰ·cases-cons n))))
+    (λ n. rw (bodies-more 4 items x, n, append-nil) (bodies-distinct c))
+
+-- a body of nine bytes is the digits of its transition
+abbrev digitsFrom : ℕ → ℕ → List ℕ → List ℕ
+digitsFrom zero i l = []
+digitsFrom (suc n) i l = getD l i 0 ∷ digitsFrom n (suc i) l
+
+digits-from : (n i : ℕ) (l : List ℕ) → length l ≡ i + n → drop i l ≡ digitsFrom n i l
+digits-from zero i l e = drop-of-length-le l {i = i} (omega arith)
+digits-from (suc n) i l e = drop-cons l i 0 (omega arith) ∙ ap (λ (r : List ℕ). getD l i 0 ∷ r) (digits-from n (suc i) l (omega arith))
+
+transition-body : (body : List ℕ) → length body ≡ 9 → body ≡ keyDigits (transitionOf body)
+transition-body body e = digits-from 9 0 body e
+
+distinct-transitions : (ls : List (List ℕ)) → Each (λ (body : List ℕ). length body ≡ 9) ls → Distinct ls → Distinct (map transitionOf ls)
+distinct-transitions [] e d = tt
+distinct-transitions (body ∷ ls) e d = (absent-later, distinct-transitions ls (e .1) (d .1))
+  where
+    absent-later : List·Memᴰ (transitionOf body) (map transitionOf ls) → ⊥
+    absent-later m =
+        let c = Memᴰ·of-map transitionOf ls m in
+        let size : length (c .0) ≡ 9 = each-get (λ (b : List ℕ). length b ≡ 9) (c .0) ls (e .1) (c .1) in
+        let same : body ≡ c .0 = transition-body body (e .0) ∙ ap keyDigits (sym (c .2)) ∙ sym (transition-body (c .0) size) in
+        d .0 (subst (λ (b : List ℕ). List·Memᴰ b ls) (sym same) (c .1))
+
+module _ (bytes : List ℕ) (t : Table) (h : Holds bytes t) where
+  complete : Complete (itemsIn bytes)
+  complete = read-complete bytes (itemsIn bytes) (table-read bytes t h .reading)
+
+  -- ---- groups that fit a letter of the table
+  bound-place : (i : Process) → has (presentIn t) i ≡ true → numberOf i < length (bodies 1 (itemsIn bytes))
+  unfolding processesBelow
+  bound-place p0 m = omega (arith, count-in bytes t h 1 (omega arith), ltb-true 0 (t .processes) m)
+  bound-place p1 m = omega (arith, count-in bytes t h 1 (omega arith), ltb-true 1 (t .processes) m)
+  bound-place p2 m = omega (arith, count-in bytes t h 1 (omega arith), ltb-true 2 (t .processes) m)
+  bound-place p3 m = omega (arith, count-in bytes t h 1 (omega arith), ltb-true 3 (t .processes) m)
+
+  bound-at : (a : ℕ) → a < t .letters → (i : Process) → has (systemIn bytes .loc a) i ≡ true → (controlsOf (bodies 1 (itemsIn bytes)) i ≤ 8) × (statesOf (bodies 1 (itemsIn bytes)) i ≤ 8)
+  bound-at a l i m = each-place (λ (body : List ℕ). byteOf body 0 ≤ 8 × byteOf body 1 ≤ 8) (bodies 1 (itemsIn bytes)) absent (numberOf i) (bounds (complete .checked)) (bound-place i (loc-within bytes t h a l i m))
+
+  -- ---- rules
+  pub rule-elem : (k : ℕ) → k < t .rules → getElem? (systemIn bytes .rules) k ≡ some (ruleIn bytes k)
+  rule-elem k l = elem-at (systemIn bytes .rules) k (ruleOf []) (omega (arith, rules-count bytes t h))
+
+  pub rule-drop : (k : ℕ) → k < t .rules → drop k (systemIn bytes .rules) ≡ ruleIn bytes k ∷ drop (suc k) (systemIn bytes .rules)
+  rule-drop k l = drop-cons (systemIn bytes .rules) k (ruleOf []) (omega (arith, rules-count bytes t h))
+
+  -- a rule of the system by its number
+  pub rule-number : (k : ℕ) (r : Rule) → getElem? (systemIn bytes .rules) k ≡ some r → (k < t .rules) × (ruleIn bytes k ≡ r)
+  rule-number k r e = let p = elem-place (systemIn bytes .rules) k (ruleOf []) r e in (omega (arith, p .0, rules-count bytes t h), p .1)
+
+  rule-fits : (k : ℕ) → k < t .rules → (P : Rule → Type 0) → ((body : List ℕ) → RuleFits (bodies 1 (itemsIn bytes)) (bodies 2 (itemsIn bytes)) body → P (ruleOf body)) → P (ruleIn bytes k)
+  unfolding systemIn systemOf
+  rule-fits k l P f =
+      let e : ruleIn bytes k ≡ ruleOf (getD (bodies 3 (itemsIn bytes)) k []) = List·getD-map ruleOf (bodies 3 (itemsIn bytes)) k [] in
+      subst P (sym e) (f (getD (bodies 3 (itemsIn bytes)) k [])
+      (each-place (RuleFits (bodies 1 (itemsIn bytes)) (bodies 2 (itemsIn bytes))) (bodies 3 (itemsIn bytes)) [] k (rules-fit (complete .checked)) (omega (arith, count-in bytes t h 3 (omega arith)))))
+
+  over-letter : (bound : Process → ℕ) (x : Transition) → ((i : Process) → has (systemIn bytes .loc (x .letter)) i ≡ true → bound i ≤ 8) → Fitting (bodies 2 (itemsIn bytes)) bound x
+      → Over (systemIn bytes .loc (x .letter)) (x .before) × Over (systemIn bytes .loc (x .letter)) (x .after)
+  unfolding systemIn systemOf
+  over-letter bound x small f = (over-fits (systemIn bytes .loc (x .letter)) bound (x .before) small (f .before), over-fits (systemIn bytes .loc (x .letter)) bound (x .after) small (f .after))
+
+  pub rule-over : (k : ℕ) → k < t .rules → Over (systemIn bytes .loc (ruleIn bytes k .letter)) (ruleIn bytes k .before) × Over (systemIn bytes .loc (ruleIn bytes k .letter)) (ruleIn bytes k .after)
+  rule-over k l = rule-fits k l (λ (r : Rule). r .letter < t .letters → Over (systemIn bytes .loc (r .letter)) (r .before) × Over (systemIn bytes .loc (r .letter)) (r .after))
+      (λ body f m. over-letter (controlsOf (bodies 1 (itemsIn bytes))) (transitionOf body) (λ i n. bound-at (transitionOf body .letter) m i n .0) (f .fits)) (rule-letter-in bytes t h k l)
+
+  pub rule-before : (k : ℕ) → k < t .rules → restrict (systemIn bytes .loc (ruleIn bytes k .letter)) (ruleIn bytes k .before) ≡ ruleIn bytes k .before
+  rule-before k l = over-restrict (systemIn bytes .loc (ruleIn bytes k .letter)) (ruleIn bytes k .before) (rule-over k l .0)
+
+  -- written letters are letters of the table, and their processes are the rule's
+  pub rule-written : (k : ℕ) → k < t .rules
+      → Each (λ (a : ℕ). (a < t .letters) × Within (systemIn bytes .loc a) (systemIn bytes .loc (ruleIn bytes k .letter))) (ruleIn bytes k .written)
+  unfolding systemIn
+  rule-written k l = each-both (λ (a : ℕ). a < t .letters) (λ (a : ℕ). Within (systemIn bytes .loc a) (systemIn bytes .loc (ruleIn bytes k .letter)))
+      (λ (a : ℕ). (a < t .letters) × Within (systemIn bytes .loc a) (systemIn bytes .loc (ruleIn bytes k .letter))) (λ a p q. (p, q)) (ruleIn bytes k .written)
+      (each-by-place (λ (a : ℕ). a < t .letters) (ruleIn bytes k .written) (λ j m. written-letter-in bytes t h k j l m))
+      (accepted-well-formed (itemsIn bytes) complete .cooperating .cooperates k (ruleIn bytes k) (rule-elem k l))
+
+  -- ---- transitions
+  pub transition-elem : (k : ℕ) → k < t .transitions → getElem? (systemIn bytes .transitions) k ≡ some (transitionIn bytes k)
+  transition-elem k l = elem-at (systemIn bytes .transitions) k (transitionOf []) (omega (arith, transitions-count bytes t h))
+
+  pub transition-drop : (k : ℕ) → k < t .transitions → drop k (systemIn bytes .transitions) ≡ transitionIn bytes k ∷ drop (suc k) (systemIn bytes .transitions)
+  transition-drop k l = drop-cons (systemIn bytes .transitions) k (transitionOf []) (omega (arith, transitions-count bytes t h))
+
+  pub transition-number : (k : ℕ) (x : Transition) → getElem? (systemIn bytes .transitions) k ≡ some x → (k < t .transitions) × (transitionIn bytes k ≡ x)
+  transition-number k x e = let p = elem-place (systemIn bytes .transitions) k (transitionOf []) x e in (omega (arith, p .0, transitions-count bytes t h), p .1)
+
+  transition-fits : (k : ℕ) → k < t .transitions → (P : Transition → Type 0) → ((body : List ℕ) → TransitionFits (bodies 1 (itemsIn bytes)) (bodies 2 (itemsIn bytes)) body → P (transitionOf body)) → P (transitionIn bytes k)
+  unfolding systemIn systemOf
+  transition-fits k l P f =
+      let e : transitionIn bytes k ≡ transitionOf (getD (bodies 4 (itemsIn bytes)) k []) = List·getD-map transitionOf (bodies 4 (itemsIn bytes)) k [] in
+      subst P (sym e) (f (getD (bodies 4 (itemsIn bytes)) k [])
+      (each-place (TransitionFits (bodies 1 (itemsIn bytes)) (bodies 2 (itemsIn bytes))) (bodies 4 (itemsIn bytes)) [] k (transitions-fit (complete .checked)) (omega (arith, count-in bytes t h 4 (omega arith)))))
+
+  pub transition-over : (k : ℕ) → k < t .transitions → Over (systemIn bytes .loc (transitionIn bytes k .letter)) (transitionIn bytes k .before) × Over (systemIn bytes .loc (transitionIn bytes k .letter)) (transitionIn bytes k .after)
+  transition-over k l = transition-fits k l (λ (x : Transition). x .letter < t .letters → Over (systemIn bytes .loc (x .letter)) (x .before) × Over (systemIn bytes .loc (x .letter)) (x .after))
+      (λ body f m. over-letter (statesOf (bodies 1 (itemsIn bytes))) (transitionOf body) (λ i n. bound-at (transitionOf body .letter) m i n .1) (f .fits)) (transition-letter-in bytes t h k l)
+
+  pub transitions-distinct : Distinct (systemIn bytes .transitions)
+  unfolding systemIn systemOf
+  transitions-distinct = distinct-transitions (bodies 4 (itemsIn bytes))
+      (each-by-elem (λ (body : List ℕ). length body ≡ 9) (bodies 4 (itemsIn bytes)) (λ k body e.
+      let p = elem-place (bodies 4 (itemsIn bytes)) k [] body e in
+      let l : k < t .transitions = omega (arith, p .0, count-in bytes t h 4 (omega arith)) in
+      subst (λ (b : List ℕ). length b ≡ 9) (sym (body-in bytes t h 4 k [] (omega arith) l) ∙ p .1) (body-size bytes t h 4 k (omega arith) l)))
+      (bodies-distinct (complete .checked))
