@@ -1,0 +1,49 @@
+-- What the log of the limit gives: its records are read from its bytes, and the table's system meets what the theorems ask.
+use mathlib.Core.Path.{_≡_, refl, ap, sym, _∙_}
+use mathlib.Core.List.{List}
+use Prim.Native.Nat.{ℕ, _<_}
+use native.Mathlib.Omega.{arith}
+use Rattle.model.specs.Log.{recordAt, limit, saturatedAt}
+use Rattle.model.specs.Tables.{Reading, accepted, refused, read}
+use Rattle.model.proofs.Emission.{Earlier}
+use Rattle.model.proofs.Reachability.{WellFormed}
+use Rattle.model.proofs.Soundness.{Control}
+use Rattle.model.proofs.Tables.{Complete, read-complete, accepted-well-formed, accepted-control}
+use Rattle.model.proofs.Validity.{each-at, log-earlier}
+use Rattle.records.specs.Entries.{HasRecord, Fits, Reads}
+use Rattle.records.proofs.Entries.{log-reads, log-has}
+use Rattle.table.specs.declared.Table.{Table}
+use Rattle.table.specs.declared.Parsed.the-variants.{Accepted}
+use Rattle.table.specs.Reading.{parsed, Holds, itemsOf, itemsIn, systemIn}
+use Rattle.stack.specs.LimitLog.{LimitLog}
+
+-- ---- the table
+pub holds-complete : (bytes : List ℕ) (t : Table) → Holds bytes t → Complete (itemsIn bytes)
+unfolding itemsIn
+holds-complete bytes t h = go (read bytes) refl (h .reading)
+  where
+    go : (r : Reading) → read bytes ≡ r → parsed r ≡ Accepted t → Complete (itemsOf (read bytes))
+    go (accepted items) e q = read-complete bytes (itemsOf (read bytes)) (e ∙ ap (λ (x : Reading). accepted (itemsOf x)) (sym e))
+    go (refused number place) e q = let z : _≡_ {A = ℕ} 0 1 = cc in absurd (omega arith)
+
+pub holds-well-formed : (bytes : List ℕ) (t : Table) → Holds bytes t → WellFormed (systemIn bytes)
+unfolding systemIn
+holds-well-formed bytes t h = accepted-well-formed (itemsIn bytes) (holds-complete bytes t h)
+
+pub holds-control : (bytes : List ℕ) (t : Table) → Holds bytes t → Control (systemIn bytes .controls) (systemIn bytes .start .states)
+unfolding systemIn
+holds-control bytes t h = accepted-control (itemsIn bytes) (holds-complete bytes t h)
+
+-- ---- the log
+module _ {table : List ℕ} {t : Table} {log : List ℕ} {count : ℕ} (w : LimitLog table t log count) where
+  pub limit-fits : (r : ℕ) → r < count → Fits (recordAt (limit (systemIn table)) r)
+  limit-fits r h = each-at Fits (limit (systemIn table)) (w .fits) r (omega (arith, w .size))
+
+  pub limit-reads : (r : ℕ) → r < count → Reads log r (recordAt (limit (systemIn table)) r)
+  limit-reads r h = log-reads (limit (systemIn table)) (w .rest) log r (w .logged) (omega (arith, w .size)) (limit-fits r h)
+
+  pub limit-has : (r : ℕ) → r < count → HasRecord log r
+  limit-has r h = log-has (limit (systemIn table)) (w .rest) log r (w .logged) (omega (arith, w .size))
+
+pub limit-earlier : (table : List ℕ) → Earlier (limit (systemIn table))
+limit-earlier table = log-earlier (systemIn table) (saturatedAt (systemIn table))

@@ -1,0 +1,2 @@
+pub mod StackNumbers
+pub mod LimitLog

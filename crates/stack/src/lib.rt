@@ -1,0 +1,30 @@
+// The stack of record numbers in scratch.
+use chains::words::put_word;
+use chains::words::word_at;
+ghost use mathlib.Core.Path.{_≡_};
+ghost use Prim.Native.Nat.{_+_, _≤_};
+ghost use lib.ListN.{length};
+ghost use Rattle.chains.specs.WordBytes.{wordAt, withWord};
+ghost use Rattle.stack.specs.StackNumbers.{stackPlace};
+
+const STACK_BASE: usize = 33872;
+
+fn as_usize(x: u16) -> usize
+    ensures { λ r. ⌜ r ≡ x ⌝ }
+{
+    x as usize
+}
+
+pub fn number_at(scratch: &[u8], k: usize) -> usize
+    requires { ⌜ stackPlace k + 2 ≤ length (now scratch) ⌝ }
+    ensures { λ r. ⌜ r ≡ wordAt (now (scratch .entry)) (stackPlace k) ⌝ }
+{
+    as_usize(word_at(scratch, STACK_BASE + 2 * k))
+}
+
+pub fn put_number(scratch: &mut [u8], k: usize, x: u16)
+    requires { ⌜ stackPlace k + 2 ≤ length (now scratch) ⌝ }
+    ensures { λ _. ⌜ now (scratch .exit) ≡ withWord (now (scratch .entry)) (stackPlace k) x ⌝ }
+{
+    put_word(scratch, STACK_BASE + 2 * k, x);
+}

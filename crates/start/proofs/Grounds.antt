@@ -1,0 +1,161 @@
+-- What an accepted table gives the search: its states are numbered, and every record leads from one to another.
+use mathlib.Core.Path.{_≡_, ap, sym, subst, _∙_}
+use mathlib.Core.Bool.{true, false, _&&_, true≢false}
+use mathlib.Core.List.{List, []}
+use Prim.Native.Nat.{ℕ, _/_, _%_, _^_, _<_, _≤_}
+use native.Mathlib.Decide.{ℕ-discrete, decLt}
+use native.Mathlib.Nat.{div-eq-of-lt, lt-trans}
+use native.Mathlib.Omega.{arith}
+use lib.Dec.{eqb, ltb, leb}
+use lib.ListN.{length, getD}
+use lib.Pow.{pow-lt}
+use borrow.Author.Tests.{eqb-true, eq-eqb, ltb-true, leb-true, lt-ltb}
+use Rattle.model.specs.declared.Group.{Group}
+use Rattle.model.specs.Automata.{Transition}
+use Rattle.model.specs.Groups.{Process, Processes, p0, p1, p2, p3, at, has, processesOf, Within, merge}
+use Rattle.model.specs.Lists.{Each}
+use Rattle.model.specs.Log.{Record, recordAt, limit, saturatedAt}
+use Rattle.model.specs.Systems.{Rule}
+use Rattle.model.specs.Tables.{Item, bodies, byteOf, numberOf, absent, controlsOf, statesOf, present, locOf, ruleOf, transitionOf, groupOf, groupFits, valueFits, systemOf}
+use Rattle.model.proofs.Bounds.{Below, Bounded, log-below}
+use Rattle.model.proofs.Groups.{at-merge}
+use Rattle.model.proofs.Limit.{each-keys}
+use Rattle.model.proofs.Lists.{each-elem, each-get, each-map, each-of-map, getD-mem}
+use Rattle.model.proofs.Soundness.{ControlOn}
+use Rattle.model.proofs.Tables.{Complete, Passes, Fitting, RuleFits, TransitionFits, each-of-kind, fits-at, fits-outside, rules-fit, transitions-fit, accepting-fit, start-fits}
+use Rattle.model.proofs.Tests.{by-test, and-left, and-right, cond-less}
+use Rattle.model.proofs.Validity.{each-at}
+use Rattle.automaton.specs.StateNumbers.{Over}
+use Rattle.table.specs.declared.Table.{Table}
+use Rattle.table.specs.Reading.{Holds, itemsIn, systemIn, pileIn}
+use Rattle.table.proofs.Layouts.{count-in, loc-in, bits-in, pile-letter-in}
+use Rattle.stack.proofs.Limits.{holds-complete}
+use Rattle.start.specs.RestSets.{firstProcesses, processesOfTable}
+
+-- ---- sets of processes as bits
+bit-inside : (b n k : ℕ) → b < 2 ^ n → eqb (b / 2 ^ k % 2) 1 ≡ true → ltb k n ≡ true
+bit-inside b n k h t = elim (decLt k n) [
+  | yes l ↦ lt-ltb k n l
+  | no l ↦
+      let small : b < 2 ^ k = elim (ℕ-discrete n k) [ yes e ↦ subst (λ (j : ℕ). b < 2 ^ j) e h | no ne ↦ lt-trans h (pow-lt (omega arith)) ] in
+      let one : b / 2 ^ k % 2 ≡ 1 = eqb-true (b / 2 ^ k % 2) 1 t in
+      let none : 0 % 2 ≡ 1 = subst (λ (q : ℕ). q % 2 ≡ 1) (div-eq-of-lt small) one in
+      absurd (omega arith)
+]
+
+bits-within : (b n : ℕ) → b < 2 ^ n → Within (processesOf b) (firstProcesses n)
+bits-within b n h p0 m = bit-inside b n 0 h (eq-eqb (b / 2 ^ 0 % 2) 1 (let e : b % 2 ≡ 1 = eqb-true (b % 2) 1 m in omega arith))
+bits-within b n h p1 m = bit-inside b n 1 h m
+bits-within b n h p2 m = bit-inside b n 2 h m
+bits-within b n h p3 m = bit-inside b n 3 h m
+
+first-has : (n : ℕ) (i : Process) → has (firstProcesses n) i ≡ true → numberOf i < n
+first-has n p0 m = ltb-true 0 n m
+first-has n p1 m = ltb-true 1 n m
+first-has n p2 m = ltb-true 2 n m
+first-has n p3 m = ltb-true 3 n m
+
+-- ---- groups of a set of processes
+over-fits : (L : Processes) (bound : Process → ℕ) (g : Group) → ((i : Process) → has L i ≡ true → bound i ≤ 8) → groupFits L bound g ≡ true → Over L g
+over-fits L bound g small e = record {
+  inside = λ i m. let a : at g i < bound i = fits-at L bound g e i m in let b : bound i ≤ 8 = small i m in omega arith;
+  outside = fits-outside L bound g e;
+}
+
+pub over-merge : (L M : Processes) (x g : Group) → Within M L → ControlOn (λ (i : Process). 8) M x → Over L g → Over L (merge M x g)
+over-merge L M x g within below o = record {
+  inside = λ i m. subst (λ (k : ℕ). k < 8) (sym (at-merge M x g i)) (cond-less (has M i) (at x i) (at g i) 8 (below i) (o .inside i m));
+  outside = λ i m. at-merge M x g i ∙ by-test (has M i) (λ y. absurd (clash i m y)) (λ n. rw n (o .outside i m));
+}
+  where
+    clash : (i : Process) → has L i ≡ false → has M i ≡ true → ⊥
+    clash i m y = let e : true ≡ false = sym (within i y) ∙ m in true≢false e
+
+-- ---- the table
+pub record Grounds (table : List ℕ) (t : Table) : Type 0 where
+  pub letters : (i : ℕ) → i < t .pile → Within (systemIn table .loc (pileIn table i)) (processesOfTable t)
+  pub below : (r : ℕ) → r < length (limit (systemIn table)) → Below (systemIn table .loc) (λ (i : Process). 8) (recordAt (limit (systemIn table)) r .key)
+  pub start : Over (processesOfTable t) (systemIn table .start .states)
+  pub accepting : Each (Over (processesOfTable t)) (systemIn table .accepting)
+
+module _ (table : List ℕ) (t : Table) (h : Holds table t) where
+  abbrev items : List Item
+  items = itemsIn table
+
+  abbrev ps : List (List ℕ)
+  ps = bodies 1 (itemsIn table)
+
+  abbrev ls : List (List ℕ)
+  ls = bodies 2 (itemsIn table)
+
+  complete : Complete (itemsIn table)
+  complete = holds-complete table t h
+
+  processes-are : present (bodies 1 (itemsIn table)) ≡ processesOfTable t
+  processes-are = ap firstProcesses (count-in table t h 1 (omega arith))
+
+  -- at most 8 states
+  bodies-small : Each (λ (body : List ℕ). byteOf body 0 ≤ 8 × byteOf body 1 ≤ 8) (bodies 1 (itemsIn table))
+  unfolding valueFits
+  bodies-small = each-of-kind 1 (λ items body. byteOf body 0 ≤ 8 × byteOf body 1 ≤ 8) (λ items x body l q. q) bound (complete .checked)
+    where
+      bound : (items : List Item) (body : List ℕ) → Passes items 1 body → byteOf body 0 ≤ 8 × byteOf body 1 ≤ 8
+      bound items body p =
+          let small : byteOf body 1 ≤ 8 = leb-true (byteOf body 1) 8 (and-right (leb 1 (byteOf body 0) && leb (byteOf body 0) (byteOf body 1)) (leb (byteOf body 1) 8) (p .fits)) in
+          let less : byteOf body 0 ≤ byteOf body 1 =
+          leb-true (byteOf body 0) (byteOf body 1) (and-right (leb 1 (byteOf body 0)) (leb (byteOf body 0) (byteOf body 1)) (and-left (leb 1 (byteOf body 0) && leb (byteOf body 0) (byteOf body 1)) (leb (byteOf body 1) 8) (p .fits))) in
+          (omega arith, small)
+
+  bound-small : (i : Process) → has (present (bodies 1 (itemsIn table))) i ≡ true → (controlsOf (bodies 1 (itemsIn table)) i ≤ 8) × (statesOf (bodies 1 (itemsIn table)) i ≤ 8)
+  bound-small i m = each-get (λ (body : List ℕ). byteOf body 0 ≤ 8 × byteOf body 1 ≤ 8) (getD ps (numberOf i) absent) ps bodies-small (getD-mem ps (numberOf i) absent (first-has (length ps) i m))
+
+  -- the processes of a letter are processes of the table
+  loc-within : (a : ℕ) → a < t .letters → Within (systemIn table .loc a) (processesOfTable t)
+  loc-within a l = subst (λ (L : Processes). Within L (processesOfTable t)) (sym (loc-in table t h a l)) (bits-within _ (t .processes) (bits-in table t h a l .1))
+
+  loc-present : (a : ℕ) → a < length (bodies 2 (itemsIn table)) → Within (systemIn table .loc a) (present (bodies 1 (itemsIn table)))
+  loc-present a l = subst (λ (L : Processes). Within (systemIn table .loc a) L) (sym processes-are) (loc-within a (subst (λ (n : ℕ). a < n) (count-in table t h 2 (omega arith)) l))
+
+  below-8 : (bound : Process → ℕ) → ((i : Process) → has (present (bodies 1 (itemsIn table))) i ≡ true → bound i ≤ 8) → (u : Transition) → Fitting (bodies 2 (itemsIn table)) bound u
+      → Below (systemIn table .loc) (λ (i : Process). 8) u
+  unfolding systemIn systemOf
+  below-8 bound small u f i m =
+      let a : at (u .after) i < bound i = fits-at (locOf ls (u .letter)) bound (u .after) (f .after) i m in
+      let b : bound i ≤ 8 = small i (loc-present (u .letter) (f .letter) i m) in
+      omega arith
+
+  bounded : Bounded (systemIn table) (λ (i : Process). 8)
+  unfolding systemIn systemOf
+  bounded = record {
+    rules = λ n r is. each-elem (λ (r : Rule). ControlOn (λ (i : Process). 8) (systemIn table .loc (r .letter)) (r .after)) (systemIn table .rules)
+        (each-of-map (λ (r : Rule). ControlOn (λ (i : Process). 8) (systemIn table .loc (r .letter)) (r .after)) ruleOf (bodies 3 items)
+        (each-map (RuleFits ps ls) (λ (body : List ℕ). ControlOn (λ (i : Process). 8) (systemIn table .loc (ruleOf body .letter)) (ruleOf body .after))
+        (λ body f. below-8 (controlsOf ps) (λ i m. bound-small i m .0) (transitionOf body) (f .fits)) (bodies 3 items) (rules-fit (complete .checked)))) n r is;
+    automaton = λ u m. each-get (Below (systemIn table .loc) (λ (i : Process). 8)) u (systemIn table .transitions)
+        (each-of-map (Below (systemIn table .loc) (λ (i : Process). 8)) transitionOf (bodies 4 items)
+        (each-map (TransitionFits ps ls) (λ (body : List ℕ). Below (systemIn table .loc) (λ (i : Process). 8) (transitionOf body))
+        (λ body f. below-8 (statesOf ps) (λ i m. bound-small i m .1) (transitionOf body) (f .fits)) (bodies 4 items) (transitions-fit (complete .checked)))) m;
+  }
+
+  over-accepting : Each (Over (present (bodies 1 (itemsIn table)))) (systemIn table .accepting)
+  unfolding systemIn systemOf
+  over-accepting = each-of-map (Over (present ps)) (λ (body : List ℕ). groupOf body 0) (bodies 5 items)
+      (each-map (λ (body : List ℕ). groupFits (present ps) (statesOf ps) (groupOf body 0) ≡ true) (λ (body : List ℕ). Over (present ps) (groupOf body 0))
+      (λ body e. over-fits (present ps) (statesOf ps) (groupOf body 0) (λ i m. bound-small i m .1) e) (bodies 5 items) (accepting-fit (complete .checked)))
+
+  over-start : Over (present (bodies 1 (itemsIn table))) (systemIn table .start .states)
+  unfolding systemIn systemOf
+  over-start =
+      let one : length (bodies 6 items) ≡ 1 = count-in table t h 6 (omega arith) in
+      over-fits (present ps) (controlsOf ps) (groupOf (getD (bodies 6 items) 0 []) 0) (λ i m. bound-small i m .0)
+      (each-get (λ (body : List ℕ). groupFits (present ps) (controlsOf ps) (groupOf body 0) ≡ true) (getD (bodies 6 items) 0 []) (bodies 6 items) (start-fits (complete .checked))
+      (getD-mem (bodies 6 items) 0 [] (omega arith)))
+
+  pub grounds : Grounds table t
+  grounds = record {
+    letters = λ i l. loc-within (pileIn table i) (pile-letter-in table t h i l);
+    below = λ r l. each-at (λ (r : Record). Below (systemIn table .loc) (λ (i : Process). 8) (r .key)) (limit (systemIn table))
+        (each-keys (Below (systemIn table .loc) (λ (i : Process). 8)) (limit (systemIn table)) (log-below (systemIn table) (λ (i : Process). 8) bounded (saturatedAt (systemIn table)))) r l;
+    start = subst (λ (L : Processes). Over L (systemIn table .start .states)) processes-are over-start;
+    accepting = subst (λ (L : Processes). Each (Over L) (systemIn table .accepting)) processes-are over-accepting;
+  }

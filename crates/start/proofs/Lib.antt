@@ -1,0 +1,6 @@
+pub mod ScratchRegions
+pub mod Leading
+pub mod Filling
+pub mod Grounds
+pub mod RestRight
+pub mod Tracing

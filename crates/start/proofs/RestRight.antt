@@ -1,0 +1,198 @@
+-- The sets are right: a state is in set k exactly if the records accept the rest of the start word from letter k on.
+use mathlib.Core.Path.{_≡_, refl, ap, ap₂, sym, subst, _∙_}
+use mathlib.Core.Bool.{Bool, true, false, _&&_, _||_}
+use mathlib.Core.Logic.{inl, inr}
+use mathlib.Core.List.{List, [], _∷_, map}
+use Prim.Native.Nat.{ℕ, zero, suc, _+_, _-_, _<_, _≤_}
+use native.Mathlib.Decide.{decLt}
+use native.Mathlib.Numerals.{add-one}
+use native.Mathlib.Omega.{arith}
+use lib.Dec.{eqb, ltb}
+use lib.ListN.{length, getD, drop, drop-of-length-le}
+use lib.Seq.{drop-cons}
+use borrow.Author.Tests.{eq-eqb, eqb-true, lt-ltb, le-ltb}
+use Rattle.model.specs.declared.Group.{Group}
+use Rattle.model.specs.Automata.{Transition, move}
+use Rattle.model.specs.Groups.{Processes, processesOf, sameGroup, restrict, merge}
+use Rattle.model.specs.Lists.{Each, anyOf}
+use Rattle.model.specs.Log.{Record, recordAt, noRecord, readsAt, keys, limit}
+use Rattle.model.specs.Systems.{System, accepts}
+use Rattle.model.proofs.Groups.{sameGroup-true, sameGroup-of}
+use Rattle.model.proofs.Lists.{any-of, each-map, getD-mem}
+use Rattle.model.proofs.LogPaths.{reads-letter}
+use Rattle.model.proofs.Tests.{by-test, same-test}
+use Rattle.automaton.specs.StateNumbers.{stateNumber, groupNumbered, Over}
+use Rattle.automaton.specs.StateSets.{member, firstFrom}
+use Rattle.automaton.proofs.StateNumbers.{stateNumber-below, numbered-number, number-injective}
+use Rattle.automaton.proofs.StateSets.{first-of}
+use Rattle.records.specs.Entries.{afterAt}
+use Rattle.chains.specs.Buckets.{recordReads}
+use Rattle.chains.proofs.Buckets.{reads-model}
+use Rattle.table.specs.declared.Table.{Table}
+use Rattle.table.specs.Reading.{systemIn, pileIn}
+use Rattle.table.proofs.Layouts.{pile-count}
+use Rattle.stack.specs.LimitLog.{LimitLog}
+use Rattle.stack.proofs.Limits.{limit-fits, limit-reads}
+use Rattle.start.specs.declared.Letter.{Letter}
+use Rattle.start.specs.Regions.{setAt, setsEnd, chainsPlace, SameBut, OnlySet}
+use Rattle.start.specs.RestSets.{processesOfTable, LetterAt, leads, firstLead, continues, Filled, isNumberOf, acceptsFrom, SetRight}
+use Rattle.start.proofs.ScratchRegions.{same-none, same-join, same-wider, set-same}
+use Rattle.start.proofs.Leading.{lead-not, lead-reads}
+use Rattle.start.proofs.Grounds.{over-merge, Grounds, grounds}
+
+-- ---- some element passes a test
+first-agree : (test other : ℕ → Bool) (n k : ℕ) → ((j : ℕ) → n ≤ j → j < n + k → test j ≡ other j) → firstFrom test n k ≡ firstFrom other n k
+unfolding firstFrom
+first-agree test other n zero e = refl
+first-agree test other n (suc k) e = rw (e n (omega arith) (omega arith), first-agree test other (suc n) k (λ j p q. e j (omega arith) (omega arith)))
+
+any-none : {A : Type 0} (f : A → Bool) (d : A) (xs : List A) → ((j : ℕ) → j < length xs → f (getD xs j d) ≡ false) → anyOf f xs ≡ false
+any-none f d [] h = refl
+any-none f d (x ∷ xs) h = rw (h 0 (omega arith)) (any-none f d xs (λ j l. h (suc j) (omega arith)))
+
+any-first : {A : Type 0} (f : A → Bool) (d : A) (xs : List A) → anyOf f xs ≡ ltb (firstFrom (λ j. f (getD xs j d)) 0 (length xs)) (length xs)
+any-first f d xs =
+    let r = firstFrom (λ j. f (getD xs j d)) 0 (length xs) in
+    let w = first-of (λ j. f (getD xs j d)) 0 (length xs) in
+    elim (decLt r (length xs)) [
+      | yes h ↦ any-of f xs (getD xs r d) (getD-mem xs r d h) (w .passes (omega arith)) ∙ sym (lt-ltb r (length xs) h)
+      | no h ↦ any-none f d xs (λ j l. w .fails j (omega arith) (omega arith)) ∙ sym (le-ltb r (length xs) (omega arith))
+    ]
+
+any-map : {A B : Type 0} (f : B → Bool) (h : A → B) (xs : List A) → anyOf f (map h xs) ≡ anyOf (λ (x : A). f (h x)) xs
+any-map f h [] = refl
+any-map f h (x ∷ xs) = ap (λ (b : Bool). f (h x) || b) (any-map f h xs)
+
+any-agree : {A : Type 0} (f h : A → Bool) (xs : List A) → Each (λ (x : A). f x ≡ h x) xs → anyOf f xs ≡ anyOf h xs
+any-agree f h [] e = refl
+any-agree f h (x ∷ xs) e = ap₂ (λ (a b : Bool). a || b) (e .0) (any-agree f h xs (e .1))
+
+-- ---- acceptance by the lowest record that leads on
+-- record r reads the letter b in the state g, and from where it leads the rest w is accepted
+abbrev pub goesOn : System → List Record → ℕ → List ℕ → Group → ℕ → Bool
+goesOn sys log b w g r = readsAt (sys .loc) b g (recordAt log r) && accepts (sys .loc) (keys log) (sys .accepting) w (move (sys .loc) (recordAt log r .key) g)
+
+accepts-first : (sys : System) (log : List Record) (b : ℕ) (w : List ℕ) (g : Group)
+    → accepts (sys .loc) (keys log) (sys .accepting) (b ∷ w) g ≡ ltb (firstFrom (goesOn sys log b w g) 0 (length log)) (length log)
+unfolding readsAt
+accepts-first sys log b w g =
+    any-map (λ (t : Transition). eqb (t .letter) b && sameGroup (restrict (sys .loc b) g) (t .before) && accepts (sys .loc) (keys log) (sys .accepting) w (move (sys .loc) t g)) (λ (r : Record). r .key) log
+    ∙ any-first (λ (r : Record). readsAt (sys .loc) b g r && accepts (sys .loc) (keys log) (sys .accepting) w (move (sys .loc) (r .key) g)) noRecord log
+
+-- ---- one letter
+module _ {table : List ℕ} {t : Table} {log : List ℕ} {count : ℕ} (lent : LimitLog table t log count) (i : ℕ) (inside : i < t .pile) (a : Letter) (letter : LetterAt table i a) where
+  abbrev sys : System
+  sys = systemIn table
+
+  abbrev records : List Record
+  records = limit (systemIn table)
+
+  ground : Grounds table t
+  ground = grounds table t (lent .holds)
+
+  -- the rest of the word begins with the letter
+  pub word-from : drop i (systemIn table .start .word) ≡ pileIn table i ∷ drop (i + 1) (systemIn table .start .word)
+  word-from = drop-cons (sys .start .word) i 0 (omega (arith, pile-count table t (lent .holds))) ∙ ap (λ (k : ℕ). pileIn table i ∷ drop k (sys .start .word)) (sym (add-one i))
+
+  reads-is : (g : Group) (r : ℕ) → r < count
+      → recordReads log (a .number) (restrict (processesOf (a .bits)) g) r ≡ readsAt (systemIn table .loc) (pileIn table i) g (recordAt (limit (systemIn table)) r)
+  reads-is g r h =
+      ap₂ (λ (b : ℕ) (L : Processes). recordReads log b (restrict L g) r) (letter .number) (letter .bits .same)
+      ∙ reads-model (sys .loc) records (lent .rest) log (pileIn table i) g r (lent .logged) (omega (arith, lent .size)) (limit-fits lent r h)
+
+  -- where a record that reads the letter leads
+  pub target-is : (g : Group) (r : ℕ) → r < count → readsAt (systemIn table .loc) (pileIn table i) g (recordAt (limit (systemIn table)) r) ≡ true
+      → merge (processesOf (a .bits)) (afterAt log r) g ≡ move (systemIn table .loc) (recordAt (limit (systemIn table)) r .key) g
+  target-is g r h y =
+      ap₂ (λ (L : Processes) (x : Group). merge L x g)
+      (letter .bits .same ∙ sym (ap (sys .loc) (reads-letter (sys .loc) (pileIn table i) g (recordAt records r) y)))
+      (limit-reads lent r h .after)
+
+  pub target-over : (g : Group) (r : ℕ) → r < count → Over (processesOfTable t) g → readsAt (systemIn table .loc) (pileIn table i) g (recordAt (limit (systemIn table)) r) ≡ true
+      → Over (processesOfTable t) (move (systemIn table .loc) (recordAt (limit (systemIn table)) r .key) g)
+  target-over g r h o y = over-merge (processesOfTable t) (sys .loc (recordAt records r .key .letter)) (recordAt records r .key .after) g
+      (rw (reads-letter (sys .loc) (pileIn table i) g (recordAt records r) y) (ground .letters i inside))
+      (ground .below r (omega (arith, lent .size))) o
+
+  module _ (s : List ℕ) (next : SetRight table t s (i + 1)) (g : Group) (o : Over (processesOfTable t) g) where
+    lead-is : (r : ℕ) → r < count → leads log (setAt s (i + 1)) a g r ≡ goesOn (systemIn table) (limit (systemIn table)) (pileIn table i) (drop (i + 1) (systemIn table .start .word)) g r
+    lead-is r h = by-test (readsAt (sys .loc) (pileIn table i) g (recordAt records r))
+        (λ y. rw y (lead-reads log (setAt s (i + 1)) a g r (reads-is g r h ∙ y)
+        ∙ ap (λ (x : Group). member (setAt s (i + 1)) (stateNumber x)) (target-is g r h y)
+        ∙ next (move (sys .loc) (recordAt records r .key) g) (target-over g r h o y)))
+        (λ n. rw n (lead-not log (setAt s (i + 1)) a g r (reads-is g r h ∙ n)))
+
+    pub first-is-lead : firstLead log count (setAt s (i + 1)) a g
+        ≡ firstFrom (goesOn (systemIn table) (limit (systemIn table)) (pileIn table i) (drop (i + 1) (systemIn table .start .word)) g) 0 (length (limit (systemIn table)))
+    unfolding firstLead
+    first-is-lead =
+        first-agree (leads log (setAt s (i + 1)) a g) (goesOn sys records (pileIn table i) (drop (i + 1) (sys .start .word)) g) 0 count (λ r p q. lead-is r (omega arith))
+        ∙ ap (λ (k : ℕ). firstFrom (goesOn sys records (pileIn table i) (drop (i + 1) (sys .start .word)) g) 0 k) (sym (lent .size))
+
+    pub lead-accepts : ltb (firstLead log count (setAt s (i + 1)) a g) count ≡ acceptsFrom table i g
+    lead-accepts =
+        ap₂ (λ (r n : ℕ). ltb r n) first-is-lead (sym (lent .size))
+        ∙ sym (ap (λ (w : List ℕ). accepts (sys .loc) (keys records) (sys .accepting) w g) word-from ∙ accepts-first sys records (pileIn table i) (drop (i + 1) (sys .start .word)) g)
+
+  -- set i from set i + 1
+  pub set-before : (s s′ : List ℕ) (L : Processes) → L ≡ processesOfTable t → SetRight table t s (i + 1) → Filled (continues log count (setAt s (i + 1)) a L) i s s′ → SetRight table t s′ i
+  unfolding continues
+  set-before s s′ L e next f g o =
+      let x = stateNumber g in
+      let same : groupNumbered L x ≡ g = ap (λ (M : Processes). groupNumbered M x) e ∙ numbered-number (processesOfTable t) g o in
+      f .members x (stateNumber-below g)
+      ∙ ap (λ (h : Group). eqb (stateNumber h) x && ltb (firstLead log count (setAt s (i + 1)) a h) count) same
+      ∙ ap (λ (b : Bool). b && ltb (firstLead log count (setAt s (i + 1)) a g) count) (eq-eqb x x refl)
+      ∙ lead-accepts s next g o
+
+-- ---- the last set
+number-same : (L : Processes) (g h : Group) → Over L g → Over L h → eqb (stateNumber g) (stateNumber h) ≡ sameGroup g h
+number-same L g h o q = same-test (eqb (stateNumber g) (stateNumber h)) (sameGroup g h)
+    (λ t. sameGroup-of g h (number-injective L g h o q (eqb-true (stateNumber g) (stateNumber h) t)))
+    (λ t. eq-eqb (stateNumber g) (stateNumber h) (ap stateNumber (sameGroup-true g h t)))
+
+pub set-last : {table : List ℕ} {t : Table} (ground : Grounds table t) → length (systemIn table .start .word) ≡ t .pile → (s s′ : List ℕ)
+    → Filled (isNumberOf (systemIn table .accepting)) (t .pile) s s′ → SetRight table t s′ (t .pile)
+unfolding isNumberOf
+set-last {table} {t} ground size s s′ f g o =
+    f .members (stateNumber g) (stateNumber-below g)
+    ∙ any-agree (λ (h : Group). eqb (stateNumber g) (stateNumber h)) (sameGroup g) (systemIn table .accepting)
+    (each-map (Over (processesOfTable t)) (λ (h : Group). eqb (stateNumber g) (stateNumber h) ≡ sameGroup g h) (λ h q. number-same (processesOfTable t) g h o q) (systemIn table .accepting) (ground .accepting))
+    ∙ sym (ap (λ (w : List ℕ). accepts (systemIn table .loc) (keys (limit (systemIn table))) (systemIn table .accepting) w g)
+    (drop-of-length-le (systemIn table .start .word) {i = t .pile} (omega arith)))
+
+-- ---- the sets from the back
+right-same : (table : List ℕ) (t : Table) (s s′ : List ℕ) (k : ℕ) → setAt s′ k ≡ setAt s k → SetRight table t s k → SetRight table t s′ k
+right-same table t s s′ k e r g o = ap (λ (l : List ℕ). member l (stateNumber g)) e ∙ r g o
+
+-- a set behind one that has changed stays right
+pub right-behind : (table : List ℕ) (t : Table) {s s′ : List ℕ} (i k : ℕ) → i < k → k ≤ 64 → chainsPlace ≤ length s → OnlySet i s s′ → SetRight table t s k → SetRight table t s′ k
+right-behind table t {s} {s′} i k h l room w r = right-same table t s s′ k (set-same k (omega arith) (inr (omega arith)) w) r
+
+-- every set stays right where only the bytes behind the sets change
+pub right-before : (table : List ℕ) (t : Table) {low high : ℕ} {s s′ : List ℕ} (k : ℕ) → k ≤ 64 → setsEnd ≤ low → chainsPlace ≤ length s → SameBut low high s s′ → SetRight table t s k → SetRight table t s′ k
+right-before table t {s = s} {s′ = s′} k l h room w r = right-same table t s s′ k (set-same k (omega arith) (inl (omega arith)) w) r
+
+-- the loop: the sets from i on are right
+pub record Backwards (table : List ℕ) (t : Table) (s : List ℕ) (i : ℕ) (s′ : List ℕ) : Type 0 where
+  pub few : i ≤ t .pile
+  pub same : SameBut 0 setsEnd s s′
+  pub right : (k : ℕ) → i ≤ k → k ≤ t .pile → SetRight table t s′ k
+
+pub backwards-start : {table : List ℕ} {t : Table} (s : List ℕ) → SetRight table t s (t .pile) → Backwards table t s (t .pile) s
+backwards-start {table} {t} s r = record {
+  few = omega arith;
+  same = same-none 0 setsEnd s;
+  right = λ k a b. let e : t .pile ≡ k = omega arith in subst (λ (j : ℕ). SetRight table t s j) e r;
+}
+
+pub backwards-turn : {table : List ℕ} {t : Table} {s s′ s″ : List ℕ} {i : ℕ} → 0 < i → t .pile ≤ 64 → chainsPlace ≤ length s → Backwards table t s i s′ → OnlySet (i - 1) s′ s″ → SetRight table t s″ (i - 1)
+    → Backwards table t s (i - 1) s″
+backwards-turn {table} {t} {s} {s′} {s″} {i} h small room b w r = record {
+  few = omega (arith, b .few);
+  same = same-join (b .same) (same-wider (omega arith) (omega (arith, b .few)) w);
+  right = λ k l m. elim (decLt (i - 1) k) [
+    | yes n ↦ right-behind table t (i - 1) k n (omega arith) (omega (arith, b .same .size)) w (b .right k (omega arith) m)
+    | no n ↦ let e : i - 1 ≡ k = omega arith in subst (λ (j : ℕ). SetRight table t s″ j) e r
+  ];
+}

@@ -1,0 +1,223 @@
+-- Laws of the path from the start: at each letter the lowest record that leads on is the path's next record.
+use mathlib.Core.Path.{_≡_, refl, ap, ap₂, sym, subst, _∙_}
+use mathlib.Core.Bool.{Bool, true, false, cond, _&&_, true≢false}
+use mathlib.Core.Option.{Option, Option·map, none, some}
+use mathlib.Core.List.{List, [], _∷_, _++_, append-nil}
+use Prim.Native.Nat.{ℕ, zero, suc, _+_, _-_, _<_, _≤_, min}
+use native.Mathlib.Nat.{not-suc-le-zero}
+use native.Mathlib.Numerals.{add-one}
+use native.Mathlib.Omega.{arith}
+use lib.Dec.{ltb}
+use lib.ListN.{length, drop, drop-of-length-le}
+use lib.Seq.{append-snoc}
+use borrow.Author.Tests.{ltb-true}
+use Rattle.model.specs.declared.Group.{Group}
+use Rattle.model.specs.Automata.{move}
+use Rattle.model.specs.Calls.{startPath}
+use Rattle.model.specs.Groups.{processesOf, merge}
+use Rattle.model.specs.Lists.{sumOver}
+use Rattle.model.specs.Log.{Record, Path, push, recordAt, readsAt, keys, stepsCap, limit}
+use Rattle.model.specs.Systems.{System, accepts, isAccepting}
+use Rattle.model.specs.Unfolding.{acceptingPath, pathSteps}
+use Rattle.model.proofs.GreedyPath.{pickFrom, greedy, isSome, accepts-is, accepting-path-greedy}
+use Rattle.model.proofs.Tests.{and-left, and-right}
+use Rattle.automaton.specs.StateNumbers.{Over}
+use Rattle.automaton.proofs.StateSets.{First, first-at}
+use Rattle.records.specs.Entries.{afterAt}
+use Rattle.chains.specs.WordBytes.{withWord}
+use Rattle.chains.proofs.WordBytes.{length-word, byte-other}
+use Rattle.table.specs.declared.Table.{Table}
+use Rattle.table.specs.Reading.{systemIn, pileIn}
+use Rattle.stack.specs.StackNumbers.{stackBase, stackPlace, numbersDown, stackOf}
+use Rattle.stack.specs.LimitLog.{LimitLog}
+use Rattle.stack.proofs.Numbers.{down-more}
+use Rattle.start.specs.declared.Letter.{Letter}
+use Rattle.start.specs.declared.StartPath.the-variants.{NoPath, Found}
+use Rattle.start.specs.declared.Trace.{Trace}
+use Rattle.start.specs.Regions.{setAt, chainsPlace, SameBut}
+use Rattle.start.specs.RestSets.{processesOfTable, LetterAt, firstLead, acceptsFrom, SetRight}
+use Rattle.start.specs.Search.{pathFrom, OnPath, Advanced, PathWritten, startFound, Sought}
+use Rattle.start.proofs.ScratchRegions.{same-none, same-join}
+use Rattle.start.proofs.RestRight.{goesOn, word-from, target-is, target-over, first-is-lead, lead-accepts}
+
+-- ---- the lowest record that leads on
+pick-first : (sys : System) (b : ℕ) (g : Group) (ok : Group → Bool) (next : Group → Option Path) (rs : List Record) (n j : ℕ) → j < length rs
+    → ((k : ℕ) → k < j → (readsAt (sys .loc) b g (recordAt rs k) && ok (move (sys .loc) (recordAt rs k .key) g)) ≡ false)
+    → (readsAt (sys .loc) b g (recordAt rs j) && ok (move (sys .loc) (recordAt rs j .key) g)) ≡ true
+    → pickFrom (sys .loc) b g ok next rs n ≡ Option·map (push (n + j)) (next (move (sys .loc) (recordAt rs j .key) g))
+pick-first sys b g ok next [] n j h f y = absurd (not-suc-le-zero h)
+pick-first sys b g ok next (r ∷ rs) n zero h f y = rw y (ap (λ (k : ℕ). Option·map (push k) (next (move (sys .loc) (r .key) g))) (omega arith))
+pick-first sys b g ok next (r ∷ rs) n (suc j) h f y =
+    rw (f 0 (omega arith)) (pick-first sys b g ok next rs (suc n) j (omega arith) (λ k l. f (suc k) (omega arith)) y
+    ∙ ap (λ (k : ℕ). Option·map (push k) (next (move (sys .loc) (recordAt rs j .key) g))) (omega arith))
+
+-- what is known of the record that the code takes for letter i, and of the state g′ that it leads to
+pub record NextRecord (table : List ℕ) (t : Table) (i : ℕ) (g : Group) (count r : ℕ) (g′ : Group) : Type 0 where
+  pub inside : r < count
+  pub over : Over (processesOfTable t) g′
+  pub accepted : acceptsFrom table (i + 1) g′ ≡ true
+  pub first : pathFrom table i g ≡ Option·map (push r) (pathFrom table (i + 1) g′)
+
+module _ {table : List ℕ} {t : Table} {log : List ℕ} {count : ℕ} (lent : LimitLog table t log count) (i : ℕ) (inside : i < t .pile) (a : Letter) (letter : LetterAt table i a)
+    (s : List ℕ) (next : SetRight table t s (i + 1)) (g : Group) (o : Over (processesOfTable t) g) (good : acceptsFrom table i g ≡ true) where
+  abbrev sys : System
+  sys = systemIn table
+
+  abbrev records : List Record
+  records = limit (systemIn table)
+
+  abbrev rest : List ℕ
+  rest = drop (i + 1) (systemIn table .start .word)
+
+  module _ (r : ℕ) (is : r ≡ firstLead log count (setAt s (i + 1)) a g) where
+    pub lead-inside : r < count
+    lead-inside = ltb-true r count (ap (λ (k : ℕ). ltb k count) is ∙ lead-accepts lent i inside a letter s next g o ∙ good)
+
+    found : First (goesOn (systemIn table) (limit (systemIn table)) (pileIn table i) (drop (i + 1) (systemIn table .start .word)) g) 0 (length (limit (systemIn table))) r
+    found = first-at (goesOn sys records (pileIn table i) rest g) 0 (length records) r (is ∙ first-is-lead lent i inside a letter s next g o)
+
+    goes : goesOn (systemIn table) (limit (systemIn table)) (pileIn table i) (drop (i + 1) (systemIn table .start .word)) g r ≡ true
+    goes = found .passes (omega (arith, lead-inside, lent .size))
+
+    reads : readsAt (systemIn table .loc) (pileIn table i) g (recordAt (limit (systemIn table)) r) ≡ true
+    reads = and-left (readsAt (sys .loc) (pileIn table i) g (recordAt records r)) (accepts (sys .loc) (keys records) (sys .accepting) rest (move (sys .loc) (recordAt records r .key) g)) goes
+
+    path-step : pathFrom table i g ≡ Option·map (push r) (pathFrom table (i + 1) (move (systemIn table .loc) (recordAt (limit (systemIn table)) r .key) g))
+    path-step =
+        let h = move (sys .loc) (recordAt records r .key) g in
+        accepting-path-greedy sys records (record { states = g; word = drop i (sys .start .word) })
+        ∙ ap (λ (w : List ℕ). greedy (sys .loc) records (sys .accepting) w g) (word-from lent i inside a letter)
+        ∙ pick-first sys (pileIn table i) g (λ h. accepts (sys .loc) (keys records) (sys .accepting) rest h) (λ h. greedy (sys .loc) records (sys .accepting) rest h) records 0 r
+        (omega (arith, lead-inside, lent .size)) (λ k l. found .fails k (omega arith) l) goes
+        ∙ ap₂ (λ (k : ℕ) (p : Option Path). Option·map (push k) p) (omega arith) (sym (accepting-path-greedy sys records (record { states = h; word = rest })))
+
+    pub next-record : (g′ : Group) → g′ ≡ merge (processesOf (a .bits)) (afterAt log r) g → NextRecord table t i g count r g′
+    next-record g′ e = subst (NextRecord table t i g count r) (sym (e ∙ target-is lent i inside a letter g r lead-inside reads)) (record {
+      inside = lead-inside;
+      over = target-over lent i inside a letter g r lead-inside o reads;
+      accepted = and-right (readsAt (sys .loc) (pileIn table i) g (recordAt records r)) (accepts (sys .loc) (keys records) (sys .accepting) rest (move (sys .loc) (recordAt records r .key) g)) goes;
+      first = path-step;
+    })
+
+-- ---- the path so far
+abbrev prepend : List ℕ → Path → Path
+prepend ns p = record { numbers = ns ++ p .numbers; end = p .end }
+
+prepend-none : (o : Option Path) → o ≡ Option·map (prepend []) o
+prepend-none none = refl
+prepend-none (some p) = refl
+
+prepend-more : (ns : List ℕ) (n : ℕ) (o : Option Path) → Option·map (prepend ns) (Option·map (push n) o) ≡ Option·map (prepend (ns ++ (n ∷ []))) o
+prepend-more ns n none = refl
+prepend-more ns n (some p) = ap (λ (l : List ℕ). some (record { numbers = l; end = p .end })) (sym (append-snoc ns n (p .numbers)))
+
+sum-more : (f : ℕ → ℕ) (ns : List ℕ) (n : ℕ) → sumOver f (ns ++ (n ∷ [])) ≡ sumOver f ns + f n
+sum-more f [] n = omega arith
+sum-more f (m ∷ ns) n = ap (λ (k : ℕ). f m + k) (sum-more f ns n) ∙ omega arith
+
+-- the numbers of the first i records, in their places on the stack
+abbrev pub soFar : Table → ℕ → List ℕ → List ℕ
+soFar t i s = numbersDown s (stackPlace (t .pile - i)) i
+
+pub record Tracing (table : List ℕ) (t : Table) (s : List ℕ) (i : ℕ) (s′ : List ℕ) (c : Trace) : Type 0 where
+  pub few : i ≤ t .pile
+  pub same : SameBut stackBase chainsPlace s s′
+  pub on-path : OnPath table t i c
+  pub path : startPath (systemIn table) ≡ Option·map (prepend (soFar t i s′)) (pathFrom table i (c .state))
+  pub figure : c .steps ≡ pathSteps (limit (systemIn table)) (soFar t i s′)
+
+pub tracing-start : (table : List ℕ) (t : Table) (s : List ℕ) (c : Trace) → c .state ≡ systemIn table .start .states → c .steps ≡ 0 → Over (processesOfTable t) (systemIn table .start .states)
+    → acceptsFrom table 0 (systemIn table .start .states) ≡ true → Tracing table t s 0 s c
+unfolding numbersDown
+tracing-start table t s c e z over good = record {
+  few = omega arith;
+  same = same-none stackBase chainsPlace s;
+  on-path = record {
+    over = subst (Over (processesOfTable t)) (sym e) over;
+    accepted = ap (acceptsFrom table 0) e ∙ good;
+    steps = omega arith;
+  };
+  path = prepend-none (startPath (systemIn table)) ∙ ap (λ (g : Group). Option·map (prepend []) (pathFrom table 0 g)) (sym e);
+  figure = z;
+}
+
+word-only : (s : List ℕ) (at x : ℕ) → stackBase ≤ at → at + 2 ≤ chainsPlace → SameBut stackBase chainsPlace s (withWord s at x)
+word-only s at x h l = record {
+  size = length-word s at x;
+  before = λ i b. byte-other s at x i (λ e. omega arith) (λ e. omega arith);
+  behind = λ i b. byte-other s at x i (λ e. omega arith) (λ e. omega arith);
+}
+
+pub tracing-turn : {table : List ℕ} {t : Table} {s s′ s″ : List ℕ} {i : ℕ} {c d : Trace} → t .pile ≤ 64 → chainsPlace ≤ length s → i < t .pile → Tracing table t s i s′ c → Advanced table t i c s′ s″ d
+    → Tracing table t s (i + 1) s″ d
+tracing-turn {table} {t} {s} {s′} {s″} {i} {c} {d} small room inside w v =
+    let at = stackPlace (t .pile - 1 - i) in
+    let steps : ℕ → ℕ = λ m. recordAt (limit (systemIn table)) m .steps in
+    let place : stackPlace (t .pile - (i + 1)) ≡ at = ap stackPlace (omega arith) in
+    let above : at + 2 ≡ stackPlace (t .pile - i) = omega arith in
+    let more : soFar t (i + 1) s″ ≡ soFar t i s′ ++ (v .number ∷ []) =
+    ap₂ (λ (b k : ℕ). numbersDown s″ b k) place (add-one i)
+    ∙ ap (λ (l : List ℕ). numbersDown l at (suc i)) (v .written)
+    ∙ down-more s′ at i (v .number) (omega (arith, w .same .size)) (v .small)
+    ∙ ap (λ (b : ℕ). numbersDown s′ b i ++ (v .number ∷ [])) above in
+    let sum : sumOver steps (soFar t (i + 1) s″) ≡ sumOver steps (soFar t i s′) + steps (v .number) = ap (sumOver steps) more ∙ sum-more steps (soFar t i s′) (v .number) in
+    let figure : c .steps ≡ min (sumOver steps (soFar t i s′)) stepsCap = w .figure in
+    record {
+      few = omega arith;
+      same = same-join (w .same) (subst (SameBut stackBase chainsPlace s′) (sym (v .written)) (word-only s′ at (v .number) (omega arith) (omega arith)));
+      on-path = v .on-path;
+      path = w .path ∙ ap (λ (o : Option Path). Option·map (prepend (soFar t i s′)) o) (v .first) ∙ prepend-more (soFar t i s′) (v .number) (pathFrom table (i + 1) (d .state))
+          ∙ ap (λ (l : List ℕ). Option·map (prepend l) (pathFrom table (i + 1) (d .state))) (sym more);
+      figure = v .steps ∙ omega arith;
+    }
+
+-- at the word's end the path ends in an accepting group
+path-end : (sys : System) (log : List Record) (w : List ℕ) (g : Group) → w ≡ [] → accepts (sys .loc) (keys log) (sys .accepting) w g ≡ true
+    → acceptingPath sys log (record { states = g; word = w }) ≡ some (record { numbers = []; end = g })
+path-end sys log w g e y =
+    let yes : isAccepting g (sys .accepting) ≡ true = sym (ap (λ (v : List ℕ). accepts (sys .loc) (keys log) (sys .accepting) v g) e) ∙ y in
+    accepting-path-greedy sys log (record { states = g; word = w })
+    ∙ ap (λ (v : List ℕ). greedy (sys .loc) log (sys .accepting) v g) e
+    ∙ ap (λ (b : Bool). cond b (some (record { numbers = []; end = g })) none) yes
+
+pub tracing-end : {table : List ℕ} {t : Table} {s s′ : List ℕ} {i : ℕ} {c : Trace} → length (systemIn table .start .word) ≡ t .pile → t .pile ≤ i → Tracing table t s i s′ c
+    → PathWritten table t s s′ (c .steps)
+tracing-end {table} {t} {s} {s′} {i} {c} size h w =
+    let e : i ≡ t .pile = omega (arith, w .few) in
+    let base : stackPlace (t .pile - i) ≡ stackBase = omega arith in
+    let all : stackOf s′ (t .pile) ≡ soFar t i s′ = sym (ap₂ (λ (b k : ℕ). numbersDown s′ b k) base e) in
+    let last = path-end (systemIn table) (limit (systemIn table)) (drop i (systemIn table .start .word)) (c .state) (drop-of-length-le (systemIn table .start .word) {i = i} (omega arith)) (w .on-path .accepted) in
+    record {
+      size = w .same .size;
+      path = record { numbers = soFar t i s′; end = c .state };
+      is = w .path ∙ ap (λ (o : Option Path). Option·map (prepend (soFar t i s′)) o) last ∙ ap (λ (l : List ℕ). some (record { numbers = l; end = c .state })) (append-nil (soFar t i s′));
+      stack = all;
+      figure = w .figure;
+    }
+
+-- ---- the answer
+pub sought-path : {table : List ℕ} {t : Table} {s s′ : List ℕ} {steps : ℕ} → PathWritten table t s s′ steps → Sought table t (Found steps) s′
+sought-path {table} {t} {s} {s′} {steps} w = record {
+  given = ap Found (w .figure) ∙ sym (ap (startFound (limit (systemIn table))) (w .is));
+  stack = λ p e. let same : w .path ≡ p = one (w .path) p (sym (w .is) ∙ e) in w .stack ∙ ap (λ (q : Path). q .numbers) same;
+}
+  where
+    one : (p q : Path) → some p ≡ some q → p ≡ q
+    one p q e = cc
+
+no-some : (o : Option Path) → isSome o ≡ false → o ≡ none
+no-some none e = refl
+no-some (some p) e = absurd (true≢false e)
+
+pub sought-none : (table : List ℕ) (t : Table) (s : List ℕ) → acceptsFrom table 0 (systemIn table .start .states) ≡ false → Sought table t NoPath s
+unfolding acceptingPath
+sought-none table t s e =
+    let sys = systemIn table in
+    let missing : startPath sys ≡ none = no-some (startPath sys) (sym (accepts-is (sys .loc) (limit sys) (sys .accepting) (sys .start .word) (sys .start .states)) ∙ e) in
+    record {
+      given = sym (ap (startFound (limit sys)) missing);
+      stack = λ p is. absurd (clash p (sym missing ∙ is));
+    }
+  where
+    clash : (p : Path) → none ≡ some p → ⊥
+    clash p q = let z : _≡_ {A = ℕ} 0 1 = cc in omega arith

@@ -1,0 +1,46 @@
+use mathlib.Core.Path.{sym, _∙_}
+use native.Mathlib.Omega.{arith}
+use borrow.Author.Needs.{needs}
+use Rattle.start.proofs.Tracing.{sought-path, sought-none}
+use Rattle.start.proofs.find.Statement.{statement}
+use Rattle.start.proofs.find.Tie as tie
+
+prepare-requires : tie.Need-prepare-requires
+prepare-requires c κs = search needs
+
+is-accepted-requires : tie.Need-is-accepted-requires
+is-accepted-requires c κs =
+    let p = c .before .before .before .before .before .before .before .before .pre in
+    let e = c .before .before .before .prepare .ensures in
+    (p .0 .holds, omega (arith, e .0 .room .room), e .1 0 (omega arith))
+
+write-path-requires : tie.Need-write-path-requires
+write-path-requires c κs =
+    let e = c .before .before .before .before .before .before .prepare .ensures in
+    (c .before .before .before .before .before .before .before .before .before .before .before .pre .0, e .0, e .1, sym (c .before .before .is-accepted .ensures) ∙ c .before .if1 .taken)
+
+same-length : tie.Need-same-length
+same-length c = search needs
+
+returns : tie.Need-returns
+returns c = sought-path (c .before .before .write-path .ensures)
+
+same-length-2 : tie.Need-same-length-2
+same-length-2 c = search needs
+
+returns-2 : tie.Need-returns-2
+returns-2 c =
+    let a = c .before .before .before .before .before .before .before .before .before .before .args in
+    sought-none (a .table .now) (a .t) (c .before .before .before .before .before .prepare .last .1 .1 .1 .0) (sym (c .before .is-accepted .ensures) ∙ c .if1 .left)
+
+pub find-spec : {M : Type 1} → statement M
+find-spec =
+    tie.close
+    (tie.spec
+    prepare-requires
+    is-accepted-requires
+    write-path-requires
+    same-length
+    returns
+    same-length-2
+    returns-2)

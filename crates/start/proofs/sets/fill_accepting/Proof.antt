@@ -1,0 +1,32 @@
+use borrow.Author.Needs.{needs}
+use Rattle.table.proofs.Layouts.{table-modest, pile-count}
+use Rattle.start.proofs.ScratchRegions.{same-join}
+use Rattle.start.proofs.Grounds.{grounds}
+use Rattle.start.proofs.RestRight.{set-last}
+use Rattle.start.proofs.sets.fill_accepting.Statement.{statement}
+use Rattle.start.proofs.sets.fill_accepting.Tie as tie
+
+clear-set-requires : tie.Need-clear-set-requires
+clear-set-requires c κs =
+    let a = c .before .before .before .args in
+    (table-modest (a .table .now) (a .t) (c .before .before .before .pre .0) .pile, c .before .before .before .pre .1)
+
+add-all-accepting-requires : tie.Need-add-all-accepting-requires
+add-all-accepting-requires c κs = search needs
+
+same-length : tie.Need-same-length
+same-length c = search needs
+
+returns : tie.Need-returns
+returns c =
+    let a = c .before .before .before .before .before .before .before .before .before .before .args in
+    let holds = c .before .before .before .before .before .before .before .before .before .before .pre .0 in
+    let e = c .before .before .before .before .before .before .clear-set in
+    let f = c .before .before .add-all-accepting in (
+      same-join (e .ensures .0) (f .ensures .same),
+      set-last (grounds (a .table .now) (a .t) holds) (pile-count (a .table .now) (a .t) holds) (e .last .0) (f .last .1 .1 .0) (f .ensures),
+    )
+
+pub fill-accepting-spec : {M : Type 1} → statement M
+fill-accepting-spec =
+    tie.close (tie.spec clear-set-requires add-all-accepting-requires same-length returns)

@@ -1,0 +1,44 @@
+-- The scratch of the search: 65 sets of states, then the stack of record numbers, then the chains of the log's records.
+use mathlib.Core.Path.{_≡_}
+use mathlib.Core.List.{List, _++_}
+use Prim.Native.Nat.{ℕ, _+_, _*_, _<_, _≤_}
+use lib.ListN.{length, getD, take, drop}
+use Rattle.automaton.specs.StateSets.{setLength, inserted}
+use Rattle.chains.specs.Buckets.{ChainRoom, Chained}
+
+-- where set k begins
+abbrev pub setPlace : ℕ → ℕ
+setPlace k = setLength * k
+
+unfoldable pub setAt : List ℕ → ℕ → List ℕ
+setAt s k = take setLength (drop (setPlace k) s)
+
+-- where the sets end: one for each letter of the longest start word, and the last one
+abbrev pub setsEnd : ℕ
+setsEnd = setPlace 65
+
+-- the scratch with another set k
+abbrev pub withSet : List ℕ → ℕ → List ℕ → List ℕ
+withSet s k members = take (setPlace k) s ++ (members ++ drop setLength (drop (setPlace k) s))
+
+-- set k with one state more
+unfoldable pub withState : List ℕ → ℕ → ℕ → List ℕ
+withState s k x = withSet s k (inserted (setAt s k) x)
+
+-- where the chains begin
+abbrev pub chainsPlace : ℕ
+chainsPlace = 34000
+
+-- the log's first count records are chained in n buckets
+pub record Linked (log : List ℕ) (count n : ℕ) (s : List ℕ) : Type 0 where
+  pub room : ChainRoom log count n chainsPlace s
+  pub chained : Chained log count n chainsPlace s
+
+-- of the bytes s only those from low on and below high have changed
+pub record SameBut (low high : ℕ) (s t : List ℕ) : Type 0 where
+  pub size : length t ≡ length s
+  pub before : (i : ℕ) → i < low → getD t i 0 ≡ getD s i 0
+  pub behind : (i : ℕ) → high ≤ i → getD t i 0 ≡ getD s i 0
+
+abbrev pub OnlySet : ℕ → List ℕ → List ℕ → Type 0
+OnlySet k s t = SameBut (setPlace k) (setPlace k + setLength) s t

@@ -1,0 +1,66 @@
+-- The sets of states: set k has those from which the records accept the rest of the start word from letter k on.
+use mathlib.Core.Path.{_≡_}
+use mathlib.Core.Bool.{Bool, false, _&&_}
+use mathlib.Core.List.{List}
+use Prim.Native.Nat.{ℕ, _<_}
+use lib.Dec.{eqb, ltb}
+use lib.ListN.{drop}
+use Rattle.model.specs.declared.Group.{Group}
+use Rattle.model.specs.Groups.{Processes, processesOf, restrict, merge}
+use Rattle.model.specs.Lists.{anyOf}
+use Rattle.model.specs.Log.{keys, limit}
+use Rattle.model.specs.Systems.{accepts}
+use Rattle.automaton.specs.StateNumbers.{stateCount, stateNumber, groupNumbered, Over}
+use Rattle.automaton.specs.StateSets.{member, firstFrom}
+use Rattle.records.specs.Entries.{afterAt}
+use Rattle.chains.specs.Buckets.{recordReads}
+use Rattle.table.specs.declared.Table.{Table}
+use Rattle.table.specs.Reading.{systemIn, pileIn, BitsOf}
+use Rattle.start.specs.declared.Letter.{Letter}
+use Rattle.start.specs.Regions.{setAt, OnlySet}
+
+-- the first n processes, and those of the table
+abbrev pub firstProcesses : ℕ → Processes
+firstProcesses n = record { b0 = ltb 0 n; b1 = ltb 1 n; b2 = ltb 2 n; b3 = ltb 3 n }
+
+abbrev pub processesOfTable : Table → Processes
+processesOfTable t = firstProcesses (t .processes)
+
+-- letter i of the start word, with its processes
+pub record LetterAt (table : List ℕ) (i : ℕ) (a : Letter) : Type 0 where
+  pub number : a .number ≡ pileIn table i
+  pub bits : BitsOf (systemIn table .loc (pileIn table i)) (a .bits)
+
+-- ---- one letter, in terms of the log's bytes
+-- record r reads the letter in the state g, and leads into the set
+unfoldable pub leads : List ℕ → List ℕ → Letter → Group → ℕ → Bool
+leads log members a g r =
+    recordReads log (a .number) (restrict (processesOf (a .bits)) g) r && member members (stateNumber (merge (processesOf (a .bits)) (afterAt log r) g))
+
+-- the lowest record that does, or count
+unfoldable pub firstLead : List ℕ → ℕ → List ℕ → Letter → Group → ℕ
+firstLead log count members a g = firstFrom (leads log members a g) 0 count
+
+-- x is the number of a state of the processes L from which some record does
+unfoldable pub continues : List ℕ → ℕ → List ℕ → Letter → Processes → ℕ → Bool
+continues log count members a L x = eqb (stateNumber (groupNumbered L x)) x && ltb (firstLead log count members a (groupNumbered L x)) count
+
+-- set k has no state
+abbrev pub EmptySet : List ℕ → ℕ → Type 0
+EmptySet s k = (x : ℕ) → member (setAt s k) x ≡ false
+
+-- set k has the states that pass the test, and nothing else has changed
+pub record Filled (test : ℕ → Bool) (k : ℕ) (s t : List ℕ) : Type 0 where
+  pub same : OnlySet k s t
+  pub members : (x : ℕ) → x < stateCount → member (setAt t k) x ≡ test x
+
+-- x is the number of one of the groups
+unfoldable pub isNumberOf : List Group → ℕ → Bool
+isNumberOf groups x = anyOf (λ (g : Group). eqb x (stateNumber g)) groups
+
+-- ---- what a set means
+abbrev pub acceptsFrom : List ℕ → ℕ → Group → Bool
+acceptsFrom table k g = accepts (systemIn table .loc) (keys (limit (systemIn table))) (systemIn table .accepting) (drop k (systemIn table .start .word)) g
+
+abbrev pub SetRight : List ℕ → Table → List ℕ → ℕ → Type 0
+SetRight table t s k = (g : Group) → Over (processesOfTable t) g → member (setAt s k) (stateNumber g) ≡ acceptsFrom table k g

@@ -1,0 +1,96 @@
+// The letters of the start word, and the records that read one.
+use crate::CHAINS;
+use crate::Letter;
+use crate::SET_LENGTH;
+use automaton::groups::merged;
+use automaton::groups::restricted;
+use automaton::sets::contains;
+use automaton::states::number;
+use chains::first_match;
+use chains::next_match;
+use model::Group;
+use records::after_at;
+use table::Table;
+use table::letter_bits;
+use table::pile_letter;
+ghost use mathlib.Core.Path.{_≡_};
+ghost use Prim.Native.Nat.{_+_, _*_, _<_, _≤_};
+ghost use lib.ListN.{length};
+ghost use Rattle.model.specs.Groups.{processesOf, merge};
+ghost use Rattle.automaton.specs.StateNumbers.{stateNumber};
+ghost use Rattle.automaton.specs.StateSets.{setLength, member};
+ghost use Rattle.records.specs.Entries.{HasRecord, afterAt};
+ghost use Rattle.table.specs.Reading.{Holds};
+ghost use Rattle.start.specs.Regions.{setPlace, setAt, Linked};
+ghost use Rattle.start.specs.RestSets.{firstProcesses, LetterAt, firstLead};
+
+fn as_usize(x: u8) -> usize
+    ensures { λ r. ⌜ r ≡ x ⌝ }
+{
+    x as usize
+}
+
+// The first processes as bits.
+pub fn process_bits(processes: usize) -> u8
+    requires { ⌜ processes ≤ 4 ⌝ }
+    ensures { λ r. ⌜ processesOf r ≡ firstProcesses processes ⌝ }
+{
+    if processes == 0 {
+        return 0;
+    }
+    if processes == 1 {
+        return 1;
+    }
+    if processes == 2 {
+        return 3;
+    }
+    if processes == 3 {
+        return 7;
+    }
+    15
+}
+
+// Letter i of the start word.
+pub fn letter_at(table: &[u8], t: Table, i: usize) -> Letter
+    requires { ⌜ Holds (now table) t × (i < t .pile) ⌝ }
+    ensures { λ r. ⌜ LetterAt (now (table .entry)) i r ⌝ }
+{
+    let number = pile_letter(table, t, i);
+    let bits = letter_bits(table, t, as_usize(number));
+    Letter { number, bits }
+}
+
+// Whether record r leads from the state g into set k, where it reads a letter of the processes in bits.
+fn enters(log: &[u8], scratch: &[u8], k: usize, bits: u8, g: Group, r: usize) -> bool
+    requires { ⌜ HasRecord (now log) r × (setPlace k + setLength ≤ length (now scratch)) ⌝ }
+    ensures { λ b. ⌜ b ≡ member (setAt (now (scratch .entry)) k) (stateNumber (merge (processesOf bits) (afterAt (now (log .entry)) r) g)) ⌝ }
+{
+    let after = after_at(log, r);
+    let x = number(merged(bits, after, g));
+    let at = SET_LENGTH * k;
+    contains(&scratch[at..at + SET_LENGTH], x)
+}
+
+// The lowest record that reads the letter in the state g and leads into set k, or count.
+pub fn first_lead(
+    log: &[u8],
+    scratch: &[u8],
+    n: usize,
+    count: usize,
+    k: usize,
+    a: Letter,
+    g: Group,
+) -> usize
+    requires { ⌜ Linked (now log) count n (now scratch) × (k ≤ 64) ⌝ }
+    ensures { λ r. ⌜ r ≡ firstLead (now (log .entry)) count (setAt (now (scratch .entry)) k) a g ⌝ }
+{
+    let before = restricted(a.bits, g);
+    let mut r = first_match(log, scratch, CHAINS, n, count, a.number, before);
+    while r < count {
+        if enters(log, scratch, k, a.bits, g, r) {
+            return r;
+        }
+        r = next_match(log, scratch, CHAINS, n, count, r, a.number, before);
+    }
+    count
+}

@@ -1,0 +1,76 @@
+// The path from the start: at each letter the lowest record that leads into the next set.
+use crate::Trace;
+use crate::letters::first_lead;
+use crate::letters::letter_at;
+use automaton::groups::merged;
+use records::after_at;
+use records::steps_at;
+use stack::put_number;
+use table::Table;
+use table::start_group;
+ghost use mathlib.Core.Path.{_≡_};
+ghost use mathlib.Core.Bool.{true};
+ghost use Prim.Native.Nat.{ℕ, _+_, _^_, _<_, _≤_, min};
+ghost use Rattle.model.specs.Log.{stepsCap};
+ghost use Rattle.table.specs.Reading.{systemIn};
+ghost use Rattle.stack.specs.LimitLog.{LimitLog};
+ghost use Rattle.start.specs.Regions.{Linked};
+ghost use Rattle.start.specs.RestSets.{acceptsFrom, SetRight};
+ghost use Rattle.start.specs.Search.{OnPath, Advanced, PathWritten};
+
+const STEPS_CAP: u32 = 1000001;
+
+fn add_steps(a: u32, b: u32) -> u32
+    requires { ⌜ (a ≤ stepsCap) × (b < 2 ^ 24) ⌝ }
+    ensures { λ r. ⌜ r ≡ min (a + b) stepsCap ⌝ }
+{
+    let sum = a + b;
+    if sum < STEPS_CAP { sum } else { STEPS_CAP }
+}
+
+// The record for letter i, which goes to its place on the stack.
+fn advance(
+    table: &[u8],
+    t: Table,
+    log: &[u8],
+    scratch: &mut [u8],
+    n: usize,
+    count: usize,
+    i: usize,
+    c: Trace,
+) -> Trace
+    requires { ⌜ LimitLog (now table) t (now log) count × Linked (now log) count n (now scratch) × (i < t .pile) × SetRight (now table) t (now scratch) (i + 1) × OnPath (now table) t i c ⌝ }
+    ensures { λ d. ⌜ Advanced (now (table .entry)) t i c (now (scratch .entry)) (now (scratch .exit)) d ⌝ }
+{
+    let a = letter_at(table, t, i);
+    let g = c.state;
+    let r = first_lead(log, scratch, n, count, i + 1, a, g);
+    put_number(scratch, t.pile - 1 - i, r as u16);
+    let after = after_at(log, r);
+    Trace {
+        state: merged(a.bits, after, g),
+        steps: add_steps(c.steps, steps_at(log, r)),
+    }
+}
+
+// Writes the record numbers of the start's path to the stack, the first letter's on top, and gives the path's steps.
+pub fn write_path(
+    table: &[u8],
+    t: Table,
+    log: &[u8],
+    scratch: &mut [u8],
+    n: usize,
+    count: usize,
+) -> u32
+    requires { ⌜ LimitLog (now table) t (now log) count × Linked (now log) count n (now scratch) × ((k : ℕ) → k ≤ t .pile → SetRight (now table) t (now scratch) k) × (acceptsFrom (now table) 0 (systemIn (now table) .start .states) ≡ true) ⌝ }
+    ensures { λ r. ⌜ PathWritten (now (table .entry)) t (now (scratch .entry)) (now (scratch .exit)) r ⌝ }
+{
+    let state = start_group(table, t);
+    let mut c = Trace { state, steps: 0 };
+    let mut i = 0;
+    while i < t.pile {
+        c = advance(table, t, log, scratch, n, count, i, c);
+        i += 1;
+    }
+    c.steps
+}

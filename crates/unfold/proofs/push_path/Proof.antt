@@ -1,0 +1,49 @@
+use Rattle.unfold.proofs.Pushing.{Pushing, pushing-start, pushing-room, pushing-turn, pushing-end}
+use native.Mathlib.Omega.{arith}
+use Rattle.unfold.proofs.push_path.Statement.{statement}
+use Rattle.unfold.proofs.push_path.Tie as tie
+
+abbrev Inv-loop : tie.InvT-loop
+Inv-loop log scratch₀ top x height₀ j₀ scratch height j = Pushing log scratch₀ top x j scratch height
+
+abbrev μ-loop : tie.MeasureT-loop
+μ-loop log scratch₀ top x height₀ j₀ scratch height j = j
+
+loop-holds : tie.Need-loop-holds Inv-loop μ-loop
+loop-holds c = let a = c .before .before .args in pushing-start (a .log .now) (a .scratch .now) (a .top) (a .x)
+
+sub-j : tie.Need-sub-j Inv-loop μ-loop
+sub-j c = omega arith
+
+place-at-requires : tie.Need-place-at-requires Inv-loop μ-loop
+place-at-requires c κs = (c .before .before .before .before .pre .0, omega (arith, c .before .loop .inv .left))
+
+push-place-requires : tie.Need-push-place-requires Inv-loop μ-loop
+push-place-requires c κs = rw (c .before .place-at .ensures) (pushing-room (c .before .before .loop-test .taken) (c .before .before .before .before .before .before .pre .1) (c .before .before .before .loop .inv))
+
+loop-less : tie.Need-loop-less Inv-loop μ-loop
+loop-less c = omega arith
+
+loop-again : tie.Need-loop-again Inv-loop μ-loop
+loop-again c = pushing-turn (c .before .before .before .before .before .loop-test .taken) (c .before .before .before .before .before .before .loop .inv) (rw (c .before .before .before .before .place-at .ensures) at (c .before .before .push-place .ensures))
+
+same-length : tie.Need-same-length Inv-loop μ-loop
+same-length c = c .before .loop .inv .pushed .size
+
+returns : tie.Need-returns Inv-loop μ-loop
+returns c = pushing-end (c .loop-test .left) (c .before .loop .inv)
+
+pub push-path-spec : {M : Type 1} → statement M
+push-path-spec =
+    tie.close
+    (tie.spec
+    Inv-loop
+    μ-loop
+    loop-holds
+    sub-j
+    place-at-requires
+    push-place-requires
+    loop-less
+    loop-again
+    same-length
+    returns)

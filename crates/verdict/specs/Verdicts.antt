@@ -1,0 +1,51 @@
+-- What the verdict and the run ask of the table, the log and the scratch, and what they leave.
+use mathlib.Core.Path.{_≡_}
+use mathlib.Core.Option.{some}
+use mathlib.Core.List.{List, []}
+use Prim.Native.Nat.{ℕ, _≤_}
+use lib.ListN.{length}
+use Rattle.model.specs.declared.Answered.{Answered}
+use Rattle.model.specs.declared.Ran.{Ran}
+use Rattle.model.specs.Calls.{zeros, runVerdict, startPath, runRefusal, pageAfter}
+use Rattle.model.specs.Lists.{valueOr}
+use Rattle.model.specs.Log.{Path, limit, rounds}
+use Rattle.model.specs.Unfolding.{emitted, pathSteps}
+use Rattle.table.specs.declared.Table.{Table}
+use Rattle.table.specs.Reading.{systemIn}
+use Rattle.stack.specs.LimitLog.{LimitLog, scratchFor}
+use Rattle.stack.specs.StackNumbers.{stackOf}
+use Rattle.start.specs.declared.StartPath.{StartPath}
+use Rattle.start.specs.declared.StartPath.the-variants.{NoPath, Found}
+
+-- document 01: "gives the verdict, transitions, rounds, steps", "Unreachable has no steps"
+unfoldable pub stated : StartPath → ℕ → ℕ → Answered
+stated NoPath transitions rounds = Answered.Unreachable transitions rounds
+stated (Found steps) transitions rounds = Answered.Reachable transitions rounds steps
+
+-- document 01: "Rounds end when one adds nothing", "Rounds is the highest round held"; the log begins with the limit's records, `count` of the n that it has room for
+pub record Settled (table : List ℕ) (t : Table) (log : List ℕ) (n count most : ℕ) (scratch : List ℕ) : Type 0 where
+  pub log-of : LimitLog table t log count
+  pub fits : count ≤ n
+  pub short : n ≤ 65535
+  pub room : scratchFor n ≤ length scratch
+  pub highest : most ≡ rounds (limit (systemIn table))
+
+-- document 01: "The start's path: likewise the first accepting one in the limit"; its record numbers are the stack, the first letter's on top, and these are its steps
+pub record PathOnStack (table : List ℕ) (t : Table) (log : List ℕ) (count most steps : ℕ) (scratch : List ℕ) : Type 0 where
+  pub log-of : LimitLog table t log count
+  pub room : scratchFor count ≤ length scratch
+  pub highest : most ≡ rounds (limit (systemIn table))
+  pub path : Path
+  pub is : startPath (systemIn table) ≡ some path
+  pub stack : stackOf scratch (t .pile) ≡ path .numbers
+  pub figure : steps ≡ pathSteps (limit (systemIn table)) (path .numbers)
+
+-- document 01: "Unfolding: take the first record of the path that isn't of round 0, emit its rule"; the rules that the start's path emits
+unfoldable pub startRun : List ℕ → List ℕ
+startRun table = valueOr [] (λ (p : Path). emitted (limit (systemIn table)) (p .numbers)) (startPath (systemIn table))
+
+-- document 01: "scratch is left zero", "The page holds the run then zeros, unchanged if refused"
+pub record RunLeft (table scratch₀ page₀ : List ℕ) (r : Ran) (scratch page : List ℕ) : Type 0 where
+  pub given : r ≡ runVerdict (systemIn table) (length page₀) (startPath (systemIn table))
+  pub cleared : scratch ≡ zeros scratch₀
+  pub run : page ≡ pageAfter (runRefusal r) (startRun table) page₀
