@@ -1,0 +1,141 @@
+// The calls answer and run: whether a run joins the start and the watched set, and such a run.
+use automaton::sets::clear;
+use model::Answered;
+use model::Ran;
+use records::RECORD_LENGTH;
+use saturate::Saturated;
+use saturate::saturate;
+use table::Parsed;
+use table::Table;
+use table::read;
+use verdict::answer_limit;
+use verdict::clear_behind;
+use verdict::run_limit;
+ghost use mathlib.Core.Path.{_≡_};
+ghost use Prim.Native.Nat.{ℕ, _+_, _*_, _≤_, _<_};
+ghost use lib.ListN.{length};
+ghost use mathlib.Core.List.{List};
+ghost use Rattle.model.specs.Calls.{capacity, answerCall, runCall};
+ghost use Rattle.model.specs.Demands.{Demand3};
+ghost use Rattle.model.specs.Records.{recordLength};
+ghost use Rattle.table.specs.Reading.{Holds};
+ghost use Rattle.reach.specs.Outcomes.{Roomy, LogLeft, Answers, Runs};
+
+const MOST_RECORDS: usize = 65535;
+
+fn as_u32(x: usize) -> u32
+    requires { ⌜ x ≤ 65535 ⌝ }
+    ensures { λ r. ⌜ r ≡ x ⌝ }
+{
+    x as u32
+}
+
+// The number of whole records that a log of this length can hold, at most 65,535.
+fn records_in(size: usize) -> usize
+    ensures { λ r. ⌜ (r ≡ capacity size) × (r ≤ 65535) × (r * recordLength ≤ size) ⌝ }
+{
+    let whole = size / RECORD_LENGTH;
+    if whole < MOST_RECORDS {
+        return whole;
+    }
+    MOST_RECORDS
+}
+
+// Fills the log with the limit's records, then zeros; a log too short for them is left zero, and so is the scratch.
+fn fill_log(table: &[u8], t: Table, log: &mut [u8], scratch: &mut [u8], n: usize) -> Saturated
+    requires { ⌜ Holds (now table) t × Roomy n (now log) (now scratch) ⌝ }
+    ensures { λ r. ⌜ LogLeft (now (table .entry)) t n (now (log .entry)) (now (scratch .entry)) r (now (log .exit)) (now (scratch .exit)) ⌝ }
+{
+    match saturate(table, t, log, scratch, n) {
+        Saturated::Full => {
+            clear(log);
+            clear(scratch);
+            Saturated::Full
+        }
+        Saturated::Limit { count, rounds } => {
+            clear_behind(log, count);
+            Saturated::Limit { count, rounds }
+        }
+    }
+}
+
+// The answer for an accepted table.
+fn answer_table(table: &[u8], t: Table, log: &mut [u8], scratch: &mut [u8]) -> Answered
+    requires { ⌜ Holds (now table) t ⌝ }
+    ensures { λ r. ⌜ Answers (answerCall (now (table .entry)) (now (log .entry)) (now (scratch .entry))) r (now (log .exit)) (now (scratch .exit)) ⌝ }
+{
+    let n = records_in(log.len());
+    if scratch.len() < 34000 + 6 * n {
+        return Answered::Refused {
+            number: 15,
+            place: 0,
+        };
+    }
+    match fill_log(table, t, log, scratch, n) {
+        Saturated::Full => Answered::Refused {
+            number: 10,
+            place: 0,
+        },
+        Saturated::Limit { count, rounds } => answer_limit(
+            table,
+            t,
+            log,
+            scratch,
+            n,
+            count,
+            as_u32(rounds),
+        ),
+    }
+}
+
+// The run for an accepted table.
+fn run_table(table: &[u8], t: Table, log: &mut [u8], scratch: &mut [u8], page: &mut [u16]) -> Ran
+    requires { ⌜ Holds (now table) t ⌝ }
+    ensures { λ r. ⌜ Runs (runCall (now (table .entry)) (now (log .entry)) (now (scratch .entry)) (now (page .entry))) r (now (log .exit)) (now (scratch .exit)) (now (page .exit)) ⌝ }
+{
+    let n = records_in(log.len());
+    if scratch.len() < 34000 + 6 * n {
+        return Ran::Refused {
+            number: 15,
+            place: 0,
+        };
+    }
+    match fill_log(table, t, log, scratch, n) {
+        Saturated::Full => Ran::Refused {
+            number: 10,
+            place: 0,
+        },
+        Saturated::Limit { count, rounds } => run_limit(
+            table,
+            t,
+            log,
+            scratch,
+            page,
+            n,
+            count,
+            as_u32(rounds),
+        ),
+    }
+}
+
+// Document 01, the answer call: the verdict with transitions, rounds and steps, or a refusal.
+pub fn answer(table: &[u8], log: &mut [u8], scratch: &mut [u8]) -> Answered
+    ensures outcome { λ r. ⌜ Answers (answerCall (now (table .entry)) (now (log .entry)) (now (scratch .entry))) r (now (log .exit)) (now (scratch .exit)) ⌝ }
+    ensures demand { λ r. ⌜ ((page : List ℕ) → Demand3 (now (table .entry)) (now (log .entry)) (now (scratch .entry)) page r (runCall (now (table .entry)) (now (log .entry)) (now (scratch .entry)) page .answer) (runCall (now (table .entry)) (now (log .entry)) (now (scratch .entry)) page .page)) ⌝ }
+{
+    match read(table) {
+        Parsed::Refused { number, place } => Answered::Refused { number, place },
+        Parsed::Accepted(t) => answer_table(table, t, log, scratch),
+    }
+}
+
+// Document 01, the run call: also a run that joins the start and the watched set, on the page, and its peak.
+pub fn run(table: &[u8], log: &mut [u8], scratch: &mut [u8], page: &mut [u16]) -> Ran
+    ensures outcome { λ r. ⌜ Runs (runCall (now (table .entry)) (now (log .entry)) (now (scratch .entry)) (now (page .entry))) r (now (log .exit)) (now (scratch .exit)) (now (page .exit)) ⌝ }
+    ensures demand { λ r. ⌜ Demand3 (now (table .entry)) (now (log .entry)) (now (scratch .entry)) (now (page .entry)) (answerCall (now (table .entry)) (now (log .entry)) (now (scratch .entry)) .answer) r (now (page .exit)) ⌝ }
+{
+    match read(table) {
+        Parsed::Refused { number, place } => Ran::Refused { number, place },
+        Parsed::Accepted(t) => run_table(table, t, log, scratch, page),
+    }
+}
