@@ -1,0 +1,112 @@
+//! The tables to compare: named ones, random ones and damaged ones.
+
+use tables::random::{self, Shape};
+use tables::{Rng, Table, bench, damage, named};
+
+/// How many random tables, and how many damaged ones.
+const EACH: usize = 2_000;
+
+/// A table's bytes and what it is.
+pub struct Case {
+    pub name: String,
+    pub table: Vec<u8>,
+}
+
+/// All cases of a seed, each random one with a seed of its own.
+pub fn all(seed: u64) -> Vec<Case> {
+    let mut cases = named_cases();
+    let mut seeds = Rng::new(seed);
+    for number in 0..EACH {
+        let own = seeds.draw();
+        cases.push(Case {
+            name: format!("random table {number}, seed {own}"),
+            table: random_table(&mut Rng::new(own), number).bytes(),
+        });
+    }
+    let full = bench::full_table();
+    for number in 0..EACH {
+        let own = seeds.draw();
+        cases.push(Case {
+            name: format!("damaged table {number}, seed {own}"),
+            table: damaged_table(&mut Rng::new(own), number, &full),
+        });
+    }
+    cases
+}
+
+/// Each shape in turn, long runs at times, and in almost half of the tables any make.
+fn random_table(rng: &mut Rng, number: usize) -> Table {
+    match number % 8 {
+        4 if number.is_multiple_of(5) => long_run(rng),
+        0 => random::table(rng, &Shape::TINY),
+        1 => random::table(rng, &Shape::DENSE),
+        2 => random::table(rng, &Shape::MIDDLE),
+        3 => random::table(rng, &Shape::LARGE),
+        _ => random::any(rng),
+    }
+}
+
+/// A run about as long as the page of `line`, or far longer, with its rules in any order.
+fn long_run(rng: &mut Rng) -> Table {
+    let most = *rng.pick(&[20_000, 20_000, 20_000, 1_048_574]);
+    let mut table = bench::long_run(rng.between(1, most));
+    let by = rng.below(table.rules.len());
+    table.rules.rotate_left(by);
+    table
+}
+
+/// Damage to a table of any shape, or bytes that were never a table.
+fn damaged_table(rng: &mut Rng, number: usize, full: &Table) -> Vec<u8> {
+    let whole = match number % 16 {
+        0 => return random_bytes(rng),
+        1 => full.clone(),
+        2 | 3 => random::table(rng, &Shape::LARGE),
+        4..8 => random::table(rng, &Shape::MIDDLE),
+        8..12 => random::table(rng, &Shape::DENSE),
+        _ => random::table(rng, &Shape::TINY),
+    };
+    damage::damaged(rng, &whole)
+}
+
+/// Up to 39 bytes, most of them kinds.
+fn random_bytes(rng: &mut Rng) -> Vec<u8> {
+    let length = rng.below(40);
+    let bytes = (0..length).map(|_| *rng.pick(&[1, 1, 2, 6, 8, 0, 3, 4, 5, 7, 255, 9]));
+    bytes.collect()
+}
+
+/// The small tables, the benchmark tables, the refused specimens and the edges of `line`.
+fn named_cases() -> Vec<Case> {
+    let mut cases = Vec::new();
+    let mut push = |name: &str, table: Vec<u8>| {
+        let name = name.to_string();
+        cases.push(Case { name, table });
+    };
+    push("empty file", Vec::new());
+    push("sound", damage::sound().bytes());
+    for (name, table) in named::all() {
+        push(&name, table.bytes());
+    }
+    for (name, table) in bench::all() {
+        push(name, table.bytes());
+    }
+    for specimen in damage::specimens() {
+        push(&specimen.name, specimen.bytes);
+    }
+    for records in [1_999, 2_000, 2_001] {
+        let name = format!("{records} records");
+        push(&name, bench::wide(records, 5).bytes());
+    }
+    for steps in [9_999, 10_000, 10_001, 999_999] {
+        let name = format!("run of {steps} steps");
+        push(&name, bench::long_run(steps).bytes());
+    }
+    for more in [1, 2, 3_000, 100_000, 2_000_000] {
+        for (name, whole) in [("T", named::t()), ("a full table", bench::full_table())] {
+            let mut table = whole.bytes();
+            table.extend(vec![0; more]);
+            push(&format!("{name} and {more} bytes after its end"), table);
+        }
+    }
+    cases
+}

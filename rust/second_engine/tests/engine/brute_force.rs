@@ -1,0 +1,192 @@
+//! Small random tables against the plain definitions and against a search.
+
+use crate::calls::{Seed, answered, log_of, ran, walked};
+use crate::naive::{self, Configuration, Record};
+use second_engine::{Answer, Refusal, Run, Walk};
+use tables::Table;
+use tables::random::{self, Shape};
+
+const LOG: usize = 24 * 1_000 + 5;
+
+/// What has been compared.
+#[derive(Default, Debug)]
+struct Tally {
+    reachable: usize,
+    unreachable: usize,
+    /// Tables with too many paths or records.
+    skipped: usize,
+    /// Tables for which the search met a watched configuration.
+    found: usize,
+    most_rounds: u16,
+    most_steps: u64,
+    /// Tables with a record that several reasons add in its first round.
+    choices: usize,
+}
+
+/// The bytes of all records.
+fn records_bytes(records: &[Record]) -> Vec<u8> {
+    records.iter().flat_map(Record::bytes).collect()
+}
+
+/// Compares answer and run with the definitions; gives the run if there is one.
+fn compare_calls(table: &Table, records: &[Record], path: Option<&[u16]>) -> Option<Vec<u16>> {
+    let bytes = table.bytes();
+    let transitions = records.len() as u32;
+    let rounds = u32::from(records.last().map_or(0, |record| record.round));
+    let expected_log = log_of(&records_bytes(records), LOG);
+    let (answer, log) = answered(&bytes, LOG);
+    assert_eq!(log, expected_log);
+    let Some(path) = path else {
+        let unreachable = Answer::Unreachable {
+            transitions,
+            rounds,
+        };
+        assert_eq!(answer, unreachable);
+        let (run, log, _) = ran(&bytes, LOG, 10);
+        let no_run = Refusal {
+            number: 16,
+            place: 0,
+        };
+        assert_eq!((run, log), (Run::Refused(no_run), expected_log));
+        return None;
+    };
+    let steps = naive::start_steps(records, path);
+    let reachable = Answer::Reachable {
+        transitions,
+        rounds,
+        steps: steps as u32,
+    };
+    assert_eq!(answer, reachable);
+    let (run, log, page) = ran(&bytes, LOG, 2_000);
+    assert_eq!(log, expected_log);
+    if steps > 2_000 {
+        let long_run = Refusal {
+            number: 11,
+            place: 0,
+        };
+        assert_eq!(run, Run::Refused(long_run));
+        return None;
+    }
+    let rules = naive::unfold(records, path);
+    assert_eq!(rules.len() as u64, steps);
+    assert_eq!(page[..rules.len()], rules);
+    assert!(page[rules.len()..].iter().all(|&number| number == 0));
+    let reachable = Run::Reachable {
+        transitions,
+        rounds,
+        steps: steps as u32,
+        peak: replay(table, &rules) as u32,
+    };
+    assert_eq!(run, reachable);
+    Some(rules)
+}
+
+/// Replays a run by the definition of firing and by the engine's walk; gives its peak.
+fn replay(table: &Table, rules: &[u16]) -> usize {
+    let mut at = Configuration::start(table);
+    let mut peak = at.word.len();
+    for &rule in rules {
+        let next = at.fire(table, &table.rules[usize::from(rule)]);
+        at = next.expect("every rule of a run fires");
+        peak = peak.max(at.word.len());
+    }
+    assert!(at.watched(table));
+    let (walk, pile) = walked(&table.bytes(), rules, peak);
+    let expected = Walk::Walked {
+        states: at.states,
+        length: at.word.len(),
+        watched: true,
+        rest: rules.len(),
+    };
+    assert_eq!(walk, expected);
+    assert_eq!(pile, log_of(&at.word, peak));
+    peak
+}
+
+/// Compares one table; tables with too many paths are skipped.
+fn compare(table: &Table, budget: usize, tally: &mut Tally) {
+    let solved = naive::saturate(table, budget).and_then(|records| {
+        let path = naive::start_path(table, &records, budget)?;
+        Some((records, path))
+    });
+    let Some((records, path)) = solved.filter(|(records, _)| records.len() <= 1_000) else {
+        tally.skipped += 1;
+        return;
+    };
+    compare_calls(table, &records, path.as_deref());
+    match &path {
+        Some(path) => {
+            tally.reachable += 1;
+            let steps = naive::start_steps(&records, path);
+            tally.most_steps = tally.most_steps.max(steps);
+        }
+        None => tally.unreachable += 1,
+    }
+    let rounds = records.last().map_or(0, |record| record.round);
+    tally.most_rounds = tally.most_rounds.max(rounds);
+    tally.choices += usize::from(records.iter().any(|record| record.choices > 1));
+}
+
+/// Compares random tables of one shape.
+fn compare_shape(shape: &Shape, seeds: std::ops::Range<u64>) -> Tally {
+    let mut tally = Tally::default();
+    for seed in seeds.map(Seed) {
+        let table = random::table(&mut seed.rng(), shape);
+        compare(&table, 20_000, &mut tally);
+    }
+    println!("{tally:?}");
+    tally
+}
+
+#[test]
+fn tiny_tables_follow_the_definitions() {
+    let tally = compare_shape(&Shape::TINY, 0..6_000);
+    assert!(tally.reachable > 2_000 && tally.unreachable > 2_000);
+    assert!(tally.skipped < 100);
+}
+
+#[test]
+fn dense_tables_follow_the_definitions() {
+    let tally = compare_shape(&Shape::DENSE, 50_000..53_000);
+    assert!(tally.reachable > 1_000 && tally.unreachable > 600);
+    assert!(tally.choices > 1_000 && tally.skipped < 500);
+}
+
+#[test]
+fn middle_tables_follow_the_definitions() {
+    let tally = compare_shape(&Shape::MIDDLE, 100_000..101_000);
+    assert!(tally.reachable > 300 && tally.unreachable > 300);
+    assert!(tally.choices > 300 && tally.skipped < 100);
+}
+
+#[test]
+fn slow_tables_follow_the_definitions() {
+    let mut tally = Tally::default();
+    for seed in (200_000..200_150).map(Seed) {
+        compare(&random::slow(&mut seed.rng()), 20_000, &mut tally);
+    }
+    println!("{tally:?}");
+    assert!(tally.most_rounds > 100, "{tally:?}");
+}
+
+#[test]
+fn search_agrees_with_the_answer() {
+    let mut tally = Tally::default();
+    for seed in (300_000..306_000).map(Seed) {
+        let table = random::table(&mut seed.rng(), &Shape::TINY);
+        let found = naive::search(&table, 8, 8, 200);
+        tally.found += usize::from(found);
+        match answered(&table.bytes(), LOG).0 {
+            Answer::Reachable { .. } => tally.reachable += 1,
+            Answer::Unreachable { .. } => {
+                tally.unreachable += 1;
+                assert!(!found);
+            }
+            Answer::Refused(_) => tally.skipped += 1,
+        }
+    }
+    println!("{tally:?}");
+    // Nearly all runs of tiny tables are short: the search must find most of them.
+    assert!(tally.found * 10 > tally.reachable * 9, "{tally:?}");
+    assert!(tally.unreachable > 1_500, "{tally:?}");
+}

@@ -1,0 +1,224 @@
+//! Lent buffers of all lengths: what they decide and what they hold afterwards.
+
+use crate::calls::{Seed, answered, junk, junk_page, log_of, ran, walked};
+use crate::naive::Configuration;
+use second_engine::{Answer, Refusal, Run, WALK_SCRATCH, Walk, answer, run, scratch_needed, walk};
+use tables::random::{self, Shape};
+use tables::{Rng, Table, named};
+
+const REFUSED: fn(u8) -> Refusal = |number| Refusal { number, place: 0 };
+
+/// The number of records and the steps, if the limit is not too large for these tests.
+fn figures(given: Answer) -> Option<(usize, Option<u32>)> {
+    match given {
+        Answer::Reachable {
+            transitions, steps, ..
+        } => Some((transitions as usize, Some(steps))),
+        Answer::Unreachable { transitions, .. } => Some((transitions as usize, None)),
+        Answer::Refused(_) => None,
+    }
+}
+
+fn random_table(rng: &mut Rng) -> Table {
+    let shape = *rng.pick(&[Shape::TINY, Shape::DENSE, Shape::MIDDLE]);
+    random::table(rng, &shape)
+}
+
+#[test]
+fn logs_around_the_limit() {
+    for seed in (400_000..401_000).map(Seed) {
+        let mut rng = seed.rng();
+        let bytes = random_table(&mut rng).bytes();
+        let (given, log) = answered(&bytes, 24 * 1_000);
+        let Some((records, _)) = figures(given) else {
+            continue;
+        };
+        let filled = &log[..24 * records];
+        for length in [24 * records, 24 * records + rng.between(1, 60)] {
+            assert_eq!(answered(&bytes, length), (given, log_of(filled, length)));
+        }
+        if records > 0 {
+            let length = 24 * rng.below(records) + rng.below(24);
+            let short = Answer::Refused(REFUSED(10));
+            assert_eq!(answered(&bytes, length), (short, vec![0; length]));
+            let (given, log, page) = ran(&bytes, length, 7);
+            assert_eq!((given, log), (Run::Refused(REFUSED(10)), vec![0; length]));
+            assert_eq!(page, ran(&[], length, 7).2);
+        }
+    }
+}
+
+#[test]
+fn pages_around_the_steps() {
+    for seed in (410_000..411_000).map(Seed) {
+        let mut rng = seed.rng();
+        let bytes = random_table(&mut rng).bytes();
+        let (given, log) = answered(&bytes, 24 * 1_000);
+        let Some((_, Some(steps))) = figures(given) else {
+            continue;
+        };
+        let steps = steps as usize;
+        let (exact, exact_log, rules) = ran(&bytes, log.len(), steps);
+        assert!(matches!(exact, Run::Reachable { steps: s, .. } if s as usize == steps));
+        assert_eq!(exact_log, log);
+        let (given, _, page) = ran(&bytes, log.len(), steps + 3);
+        assert_eq!(given, exact);
+        assert_eq!(page, [&rules[..], &[0; 3]].concat());
+        if steps > 0 {
+            let length = rng.below(steps);
+            let (given, short_log, page) = ran(&bytes, log.len(), length);
+            assert_eq!(given, Run::Refused(REFUSED(11)));
+            assert_eq!(short_log, log);
+            assert_eq!(page, ran(&[], log.len(), length).2);
+        }
+    }
+}
+
+#[test]
+fn scratch_of_all_lengths() {
+    let bytes = named::t().bytes();
+    let mut rng = Rng::new(3);
+    for log_length in [0, 23, 24, 71, 72, 100, 24 * 65_535, 24 * 65_535 + 500] {
+        let needed = scratch_needed(log_length);
+        assert_eq!(needed, 34_000 + 6 * (log_length / 24).min(65_535));
+        for length in [0, 33_999, needed - 1] {
+            let before = junk(&mut rng, log_length);
+            let (mut log, mut scratch) = (before.clone(), vec![9; length]);
+            let mut page = junk_page(&mut rng, 5);
+            let given = answer(&bytes, &mut log, &mut scratch);
+            assert_eq!(given, Answer::Refused(REFUSED(15)));
+            let unchanged = page.clone();
+            let given = run(&bytes, &mut log, &mut scratch, &mut page);
+            assert_eq!(given, Run::Refused(REFUSED(15)));
+            assert_eq!((log, page), (before, unchanged));
+            assert_eq!(scratch, vec![9; length]);
+        }
+        for length in [needed, needed + 999] {
+            let (mut log, mut scratch) = (vec![9; log_length], vec![9; length]);
+            let given = answer(&bytes, &mut log, &mut scratch);
+            assert_eq!(given == Answer::Refused(REFUSED(10)), log_length < 72);
+            assert_eq!(scratch, vec![0; length]);
+            assert!(log.iter().skip(72).all(|&byte| byte == 0));
+        }
+    }
+}
+
+#[test]
+fn an_empty_limit_needs_no_log() {
+    let mut table = named::smallest();
+    let none = Answer::Unreachable {
+        transitions: 0,
+        rounds: 0,
+    };
+    assert_eq!(answered(&table.bytes(), 0).0, none);
+    table.accepting.push(table.start);
+    let empty_run = Run::Reachable {
+        transitions: 0,
+        rounds: 0,
+        steps: 0,
+        peak: 0,
+    };
+    assert_eq!(ran(&table.bytes(), 0, 0).0, empty_run);
+}
+
+#[test]
+fn short_walk_scratch() {
+    let bytes = named::t().bytes();
+    for length in [0, WALK_SCRATCH - 1] {
+        // Too short a scratch hides too short a pile.
+        for room in [0, 5] {
+            let (mut pile, mut scratch) = (vec![9; room], vec![9; length]);
+            let given = walk(&bytes, &[0, 7], &mut pile, &mut scratch);
+            let refusal = REFUSED(15);
+            assert_eq!(given, Walk::Refused { refusal, rest: 2 });
+            assert_eq!((pile, scratch), (vec![9; room], vec![9; length]));
+        }
+    }
+    let mut scratch = vec![9; WALK_SCRATCH + 50];
+    walk(&bytes, &[], &mut [9; 5], &mut scratch);
+    assert_eq!(scratch, vec![0; WALK_SCRATCH + 50]);
+}
+
+/// A list of rules: most of them fire in their turn, some don't, some the table lacks.
+fn random_list(rng: &mut Rng, table: &Table) -> Vec<u16> {
+    let mut at = Configuration::start(table);
+    let mut list = Vec::new();
+    for _ in 0..rng.below(12) {
+        let fires = |&number: &usize| at.fire(table, &table.rules[number]).is_some();
+        let firing: Vec<usize> = (0..table.rules.len()).filter(fires).collect();
+        let number = match rng.below(30) {
+            0 => table.rules.len() + rng.below(3),
+            1 => rng.below(table.rules.len() + 1),
+            2 => 0xFFFF,
+            _ if firing.is_empty() => rng.below(table.rules.len() + 1),
+            _ => *rng.pick(&firing),
+        };
+        if let Some(rule) = table.rules.get(number) {
+            at = at.fire(table, rule).unwrap_or(at);
+        }
+        list.push(number as u16);
+    }
+    list
+}
+
+/// The walk by the definitions: what the call gives and the pile it leaves.
+fn expected_walk(table: &Table, list: &[u16], room: usize) -> (Walk, Vec<u8>) {
+    let mut at = Configuration::start(table);
+    if at.word.len() > room {
+        let (refusal, rest) = (REFUSED(14), list.len());
+        return (Walk::Refused { refusal, rest }, vec![0xA5; room]);
+    }
+    for (step, &number) in list.iter().enumerate() {
+        let rule = table.rules.get(usize::from(number));
+        let next = rule.and_then(|rule| at.fire(table, rule));
+        let number = match (rule, &next) {
+            (None, _) => 13,
+            (_, None) => 12,
+            (_, Some(next)) if next.word.len() > room => 14,
+            _ => 0,
+        };
+        if number > 0 {
+            let refusal = Refusal {
+                number,
+                place: step,
+            };
+            let given = Walk::Refused {
+                refusal,
+                rest: step,
+            };
+            return (given, log_of(&at.word, room));
+        }
+        at = next.unwrap_or(at);
+    }
+    let given = Walk::Walked {
+        states: at.states,
+        length: at.word.len(),
+        watched: at.watched(table),
+        rest: list.len(),
+    };
+    (given, log_of(&at.word, room))
+}
+
+#[test]
+fn walks_follow_the_definitions() {
+    let mut met = [0; 17];
+    let mut watched = 0;
+    for seed in (420_000..430_000).map(Seed) {
+        let mut rng = seed.rng();
+        let table = random_table(&mut rng);
+        let list = random_list(&mut rng, &table);
+        let room = match rng.below(3) {
+            0 => table.pile.len() + rng.below(3),
+            1 => rng.below(10),
+            _ => 60,
+        };
+        let expected = expected_walk(&table, &list, room);
+        assert_eq!(walked(&table.bytes(), &list, room), expected);
+        match expected.0 {
+            Walk::Walked { watched: w, .. } => watched += usize::from(w),
+            Walk::Refused { refusal, .. } => met[usize::from(refusal.number)] += 1,
+        }
+    }
+    println!("refusals by number {met:?}, watched {watched}");
+    assert!(met[12] > 500 && met[13] > 500 && met[14] > 500 && watched > 100);
+}

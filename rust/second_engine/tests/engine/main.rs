@@ -1,0 +1,10 @@
+//! Tests of the second engine against document 01 and against plain definitions.
+
+mod brute_force;
+mod buffers;
+mod calls;
+mod large;
+mod naive;
+mod reader;
+mod refusals;
+mod small_tables;

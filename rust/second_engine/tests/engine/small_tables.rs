@@ -1,0 +1,174 @@
+//! The small tables of document 01.
+
+use crate::calls::{answered, ran, walked};
+use second_engine::{Answer, Refusal, Run, Walk, answer};
+use tables::{Table, named};
+
+const LOG: usize = 24 * 2_000;
+const PAGE: usize = 10_000;
+
+fn refused(number: u8, place: usize) -> Refusal {
+    Refusal { number, place }
+}
+
+/// The run call's figures and the rules of the run.
+fn run_of(table: &Table) -> (Run, Vec<u16>) {
+    let (given, _, mut page) = ran(&table.bytes(), LOG, PAGE);
+    if let Run::Reachable { steps, .. } = given {
+        let rest = page.split_off(steps as usize);
+        assert!(rest.iter().all(|&number| number == 0));
+    }
+    (given, page)
+}
+
+fn reachable(transitions: u32, rounds: u32, steps: u32, peak: u32) -> Run {
+    Run::Reachable {
+        transitions,
+        rounds,
+        steps,
+        peak,
+    }
+}
+
+#[test]
+fn t_gives_its_listing() {
+    assert_eq!(named::t().bytes().len(), 70);
+    assert_eq!(run_of(&named::t()), (reachable(3, 2, 3, 2), vec![0, 1, 2]));
+}
+
+#[test]
+fn t_log_is_exact() {
+    let (_, log) = answered(&named::t().bytes(), 80);
+    let n = 0xFF;
+    let first = [1, 0, n, n, n, 1, n, n, n, 1, 0, 1, 0];
+    let second = [2, n, 0, n, n, n, 1, n, n, 1, 0, 2, 0];
+    let third = [0, 0, 0, n, n, 1, 1, n, n, 2, 0, 0, 0];
+    let mut expected = first.to_vec();
+    expected.extend([n, n, n, n, n, n, n, n, 1, 0, 0]);
+    expected.extend(second);
+    expected.extend([n, n, n, n, n, n, n, n, 1, 0, 0]);
+    expected.extend(third);
+    expected.extend([0, 0, 1, 0, n, n, n, n, 3, 0, 0]);
+    expected.extend([0; 8]);
+    assert_eq!(log, expected);
+}
+
+#[test]
+fn t_variants() {
+    let unreachable = Answer::Unreachable {
+        transitions: 1,
+        rounds: 1,
+    };
+    let table = named::t_without_rule_2();
+    assert_eq!(answered(&table.bytes(), LOG).0, unreachable);
+    assert_eq!(run_of(&table).0, Run::Refused(refused(16, 0)));
+    let (given, _) = answered(&named::t_without_accepting().bytes(), LOG);
+    assert!(matches!(given, Answer::Unreachable { transitions: 3, .. }));
+    let at_goal = named::t_at_goal();
+    assert_eq!(run_of(&at_goal), (reachable(3, 2, 0, 0), vec![]));
+}
+
+#[test]
+fn t_with_short_logs_and_scratch() {
+    let bytes = named::t().bytes();
+    assert!(matches!(answered(&bytes, 72).0, Answer::Reachable { .. }));
+    assert_eq!(answered(&bytes, 71).0, Answer::Refused(refused(10, 0)));
+    assert_eq!(answered(&bytes, 71).1, vec![0; 71]);
+    let mut log = [7; 72];
+    let mut scratch = vec![7; 34_018];
+    let given = answer(&bytes, &mut log, &mut scratch[..34_017]);
+    assert_eq!(given, Answer::Refused(refused(15, 0)));
+    assert_eq!((log, scratch[0]), ([7; 72], 7));
+    let given = answer(&bytes, &mut log, &mut scratch);
+    assert!(matches!(given, Answer::Reachable { .. }));
+}
+
+#[test]
+fn empty_file_is_cut() {
+    assert_eq!(answered(&[], LOG).0, Answer::Refused(refused(1, 0)));
+}
+
+#[test]
+fn t_walks() {
+    let bytes = named::t().bytes();
+    let walk_of = |rules: &[u16]| walked(&bytes, rules, 3);
+    let end = Walk::Walked {
+        states: [1, 1, 0xFF, 0xFF],
+        length: 0,
+        watched: true,
+        rest: 3,
+    };
+    assert_eq!(walk_of(&[0, 2, 1]), (end, vec![0, 0, 0]));
+    let middle = Walk::Walked {
+        states: [0, 1, 0xFF, 0xFF],
+        length: 1,
+        watched: false,
+        rest: 2,
+    };
+    assert_eq!(walk_of(&[0, 2]), (middle, vec![1, 0, 0]));
+    let idle = Walk::Refused {
+        refusal: refused(12, 0),
+        rest: 0,
+    };
+    assert_eq!(walk_of(&[1]), (idle, vec![0, 0, 0]));
+    let unknown = Walk::Refused {
+        refusal: refused(13, 1),
+        rest: 1,
+    };
+    assert_eq!(walk_of(&[0, 3, 1]), (unknown, vec![1, 2, 0]));
+}
+
+#[test]
+fn full_piles() {
+    let bytes = named::t().bytes();
+    let refusal = refused(14, 0);
+    let start = Walk::Refused { refusal, rest: 3 };
+    assert_eq!(walked(&bytes, &[0, 1, 2], 0), (start, vec![]));
+    let step = Walk::Refused { refusal, rest: 0 };
+    assert_eq!(walked(&bytes, &[0, 1, 2], 1), (step, vec![0]));
+    let given = walked(&bytes, &[0, 1, 2], 2).0;
+    assert!(matches!(given, Walk::Walked { watched: true, .. }));
+}
+
+#[test]
+fn re_entry_is_refused() {
+    let table = named::re_entry();
+    let place = 3 + 2 * 2 + 15;
+    let expected = Answer::Refused(refused(7, place));
+    assert_eq!(answered(&table.bytes(), LOG).0, expected);
+}
+
+#[test]
+fn doubling() {
+    let (given, run) = run_of(&named::doubling(3));
+    assert_eq!(given, reachable(3, 3, 7, 3));
+    assert_eq!(run, [0, 1, 2, 2, 1, 2, 2]);
+    for (letters, expected) in [(19, 524_287), (20, 1_000_001), (32, 1_000_001)] {
+        let bytes = named::doubling(letters).bytes();
+        let (given, _) = answered(&bytes, LOG);
+        assert!(matches!(given, Answer::Reachable { steps, .. } if steps == expected));
+        let (given, log, page) = ran(&bytes, LOG, 524_286);
+        assert_eq!(given, Run::Refused(refused(11, 0)));
+        assert_eq!(log, answered(&bytes, LOG).1);
+        assert!(page.iter().any(|&number| number != 0));
+    }
+    let (given, _, _) = ran(&named::doubling(19).bytes(), LOG, 524_287);
+    assert_eq!(given, reachable(19, 19, 524_287, 19));
+    let (given, _, _) = ran(&named::doubling(20).bytes(), LOG, 1_200_000);
+    assert_eq!(given, Run::Refused(refused(11, 0)));
+}
+
+#[test]
+fn edges_of_pile_and_count() {
+    let number = |table: Table| match answered(&table.bytes(), LOG).0 {
+        Answer::Refused(refusal) => refusal.number,
+        _ => 0,
+    };
+    assert_eq!(number(named::start_pile(64)), 0);
+    assert_eq!(number(named::start_pile(65)), 4);
+    assert_eq!(number(named::count(4)), 0);
+    assert_eq!(number(named::count(5)), 5);
+    assert_eq!(run_of(&named::start_pile(64)).0, reachable(3, 3, 64, 64));
+    assert_eq!(run_of(&named::count(4)).0, reachable(2, 2, 5, 4));
+    assert_eq!(run_of(&named::smallest()).0, Run::Refused(refused(16, 0)));
+}

@@ -1,0 +1,153 @@
+//! A table in the open: its parts as plain values, and its bytes.
+
+/// The byte of a process that has no part, and of a spare written place.
+pub const NO_PART: u8 = 0xFF;
+
+/// A state group, one byte for each process.
+pub type Group = [u8; 4];
+
+/// A process (document 01: station) with its line states and its states in all.
+#[derive(Clone, Copy, PartialEq, Eq, Debug)]
+pub struct Process {
+    pub line: u8,
+    pub all: u8,
+}
+
+#[derive(Clone, PartialEq, Eq, Debug)]
+pub struct Rule {
+    pub letter: u8,
+    pub before: Group,
+    pub after: Group,
+    /// The written letters, top first.
+    pub written: Vec<u8>,
+}
+
+/// A watch transition.
+#[derive(Clone, Copy, PartialEq, Eq, PartialOrd, Ord, Hash, Debug)]
+pub struct Transition {
+    pub letter: u8,
+    pub before: Group,
+    pub after: Group,
+}
+
+/// A table; nothing makes sure that it is an accepted one.
+#[derive(Clone, PartialEq, Eq, Debug)]
+pub struct Table {
+    pub processes: Vec<Process>,
+    /// The process bits of each letter (document 01: task), bit 0 is process 0.
+    pub letters: Vec<u8>,
+    pub rules: Vec<Rule>,
+    pub watch: Vec<Transition>,
+    pub accepting: Vec<Group>,
+    pub start: Group,
+    /// The start pile, top first.
+    pub pile: Vec<u8>,
+}
+
+impl Table {
+    /// A table of `count` like processes, all of them starting in state 0.
+    pub fn new(count: usize, line: u8, all: u8) -> Self {
+        Table {
+            processes: vec![Process { line, all }; count],
+            letters: Vec::new(),
+            rules: Vec::new(),
+            watch: Vec::new(),
+            accepting: Vec::new(),
+            start: group(&vec![0; count]),
+            pile: Vec::new(),
+        }
+    }
+
+    /// Adds a letter and gives its number.
+    pub fn letter(&mut self, bits: u8) -> u8 {
+        self.letters.push(bits);
+        (self.letters.len() - 1) as u8
+    }
+
+    /// Adds a rule; of the groups only the letter's part is taken.
+    pub fn rule(&mut self, letter: u8, before: Group, after: Group, written: &[u8]) {
+        let bits = self.letters[usize::from(letter)];
+        self.rules.push(Rule {
+            letter,
+            before: restrict(before, bits),
+            after: restrict(after, bits),
+            written: written.to_vec(),
+        });
+    }
+
+    /// Adds a watch transition; of the groups only the letter's part is taken.
+    pub fn transition(&mut self, letter: u8, before: Group, after: Group) {
+        let bits = self.letters[usize::from(letter)];
+        self.watch.push(Transition {
+            letter,
+            before: restrict(before, bits),
+            after: restrict(after, bits),
+        });
+    }
+
+    /// The bits of all processes.
+    pub fn everyone(&self) -> u8 {
+        (1 << self.processes.len()) - 1
+    }
+
+    /// The table's items in file order, each with its kind byte.
+    pub fn items(&self) -> Vec<Vec<u8>> {
+        let mut items = Vec::new();
+        items.extend(self.processes.iter().map(|p| vec![1, p.line, p.all]));
+        items.extend(self.letters.iter().map(|&bits| vec![2, bits]));
+        items.extend(self.rules.iter().map(rule_item));
+        items.extend(self.watch.iter().map(watch_item));
+        items.extend(
+            self.accepting
+                .iter()
+                .map(|group| [&[5], &group[..]].concat()),
+        );
+        items.push([&[6], &self.start[..]].concat());
+        items.extend(self.pile.iter().map(|&letter| vec![7, letter]));
+        items.push(vec![8]);
+        items
+    }
+
+    pub fn bytes(&self) -> Vec<u8> {
+        self.items().concat()
+    }
+}
+
+/// A rule's item. More than four written letters give their count and the first four.
+fn rule_item(rule: &Rule) -> Vec<u8> {
+    let mut item = vec![3, rule.letter];
+    item.extend(rule.before);
+    item.extend(rule.after);
+    item.push(rule.written.len() as u8);
+    item.extend((0..4).map(|place| rule.written.get(place).unwrap_or(&NO_PART)));
+    item
+}
+
+fn watch_item(watch: &Transition) -> Vec<u8> {
+    let mut item = vec![4, watch.letter];
+    item.extend(watch.before);
+    item.extend(watch.after);
+    item
+}
+
+/// The group with these states at the first processes and no part elsewhere.
+pub fn group(states: &[u8]) -> Group {
+    std::array::from_fn(|process| states.get(process).copied().unwrap_or(NO_PART))
+}
+
+/// The part of a group that belongs to the processes of `bits`.
+pub fn restrict(group: Group, bits: u8) -> Group {
+    std::array::from_fn(|process| match bits >> process & 1 {
+        1 => group[process],
+        _ => NO_PART,
+    })
+}
+
+/// Takes the last item back if the items held it before.
+pub(crate) fn drop_twin<T: PartialEq>(items: &mut Vec<T>) {
+    if let Some((last, others)) = items.split_last()
+        && others.contains(last)
+    {
+        items.pop();
+    }
+}

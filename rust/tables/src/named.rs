@@ -1,0 +1,114 @@
+//! The small tables of document 01.
+
+use crate::model::{Group, Table, group};
+
+const ZERO: Group = [0; 4];
+const ONE: Group = [1; 4];
+
+/// Table T: two processes; letter 0 is replaced by letters 1 and 2, which are then removed by
+/// one process each.
+pub fn t() -> Table {
+    let mut table = Table::new(2, 2, 2);
+    let both = table.letter(0b11);
+    let first = table.letter(0b01);
+    let second = table.letter(0b10);
+    table.rule(both, ZERO, ZERO, &[first, second]);
+    table.rule(first, ZERO, ONE, &[]);
+    table.rule(second, ZERO, ONE, &[]);
+    table.accepting.push(group(&[1, 1]));
+    table.pile.push(both);
+    table
+}
+
+pub fn t_without_rule_2() -> Table {
+    let mut table = t();
+    table.rules.pop();
+    table
+}
+
+pub fn t_without_accepting() -> Table {
+    let mut table = t();
+    table.accepting.clear();
+    table
+}
+
+/// T with start (1,1) and no pile.
+pub fn t_at_goal() -> Table {
+    let mut table = t();
+    table.start = group(&[1, 1]);
+    table.pile.clear();
+    table
+}
+
+/// A watch transition enters a line state; refused 7.
+pub fn re_entry() -> Table {
+    let mut table = Table::new(1, 2, 2);
+    table.letter(1);
+    table.letter(1);
+    table.rule(1, ONE, ONE, &[]);
+    table.transition(0, ZERO, ONE);
+    table.accepting.push(group(&[1]));
+    table.pile = vec![0, 1];
+    table
+}
+
+/// One process of one state; rule i writes letter i+1 twice, the last rule none.
+pub fn doubling(letters: u8) -> Table {
+    let mut table = Table::new(1, 1, 1);
+    for _ in 0..letters {
+        table.letter(1);
+    }
+    for letter in 0..letters - 1 {
+        table.rule(letter, ZERO, ZERO, &[letter + 1; 2]);
+    }
+    table.rule(letters - 1, ZERO, ZERO, &[]);
+    table.accepting.push(group(&[0]));
+    table.pile.push(0);
+    table
+}
+
+/// Doubling with 3 letters and a start pile of `height` last letters; 65 are refused 4.
+pub fn start_pile(height: usize) -> Table {
+    let mut table = doubling(3);
+    table.pile = vec![2; height];
+    table
+}
+
+/// One rule that writes a letter `count` times, one that removes it; a count of 5 is refused 5.
+pub fn count(count: usize) -> Table {
+    let mut table = Table::new(1, 1, 1);
+    let many = table.letter(1);
+    let one = table.letter(1);
+    table.rule(many, ZERO, ZERO, &vec![one; count]);
+    table.rule(one, ZERO, ZERO, &[]);
+    table.accepting.push(group(&[0]));
+    table.pile.push(many);
+    table
+}
+
+/// The smallest accepted table: one process and its start.
+pub fn smallest() -> Table {
+    Table::new(1, 1, 1)
+}
+
+/// All small tables with their names.
+pub fn all() -> Vec<(String, Table)> {
+    let mut tables = vec![
+        ("T".to_string(), t()),
+        ("T without rule 2".to_string(), t_without_rule_2()),
+        ("T without accepting".to_string(), t_without_accepting()),
+        ("T at its goal".to_string(), t_at_goal()),
+        ("re-entry".to_string(), re_entry()),
+        ("smallest".to_string(), smallest()),
+    ];
+    for letters in [1, 2, 3, 19, 20, 32] {
+        tables.push((format!("doubling {letters}"), doubling(letters)));
+    }
+    for height in [0, 1, 64, 65] {
+        tables.push((format!("start pile {height}"), start_pile(height)));
+    }
+    for written in 0..=5 {
+        tables.push((format!("count {written}"), count(written)));
+    }
+    tables
+}
