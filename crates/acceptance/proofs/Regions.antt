@@ -5,7 +5,7 @@ use mathlib.Core.List.{List, [], _∷_, _++_}
 use Prim.Native.Nat.{ℕ, _+_, _<_, _≤_}
 use native.Mathlib.Numerals.{add-one}
 use native.Mathlib.Omega.{arith}
-use lib.ListN.{length, getD, take, drop, drop-of-length-le, length-append, length-take, length-drop, replicate, length-replicate}
+use lib.ListN.{length, getD, take, drop, drop-of-length-le, length-append, length-take, length-drop, length-replicate}
 use lib.Seq.{take-at, drop-at, drop-cons, length-take-le}
 use Rattle.model.specs.Calls.{zeros}
 use Rattle.model.specs.Groups.{Processes}
@@ -82,7 +82,3 @@ module _ (sys : System) (L : Processes) where
       let n : length (here s) ≡ setLength = length-take-le setLength s (omega arith) in
       let size : length ys ≡ setLength = ap length e ∙ length-inserted (zeros (here s)) (stateNumber g) ∙ length-replicate (length (here s)) 0 ∙ n in
       q ∙ f ∙ ap (λ (l : List ℕ). someAccepts sys L l word) (take-at ys (drop setLength s) setLength size ∙ e) ∙ start-accepts sys L (length (here s)) word g n o
-
--- zeros know the length alone
-pub zeros-same : (s s′ : List ℕ) → length s ≡ length s′ → zeros s ≡ zeros s′
-zeros-same s s′ e = ap (λ (n : ℕ). replicate n 0) e

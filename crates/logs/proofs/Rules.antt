@@ -1,34 +1,34 @@
 -- The rules and transitions of an accepted table: where they stand in its system, and that their states are of their letter's processes.
+use Rattle.table.proofs.Readings.{holds-complete}
 use mathlib.Core.Path.{_≡_, refl, ap, sym, subst, _∙_}
-use mathlib.Core.Bool.{true, _&&_, true≢false}
+use mathlib.Core.Bool.{true, true≢false}
 use mathlib.Core.Logic.{⊎-elim}
 use mathlib.Core.Option.{some}
 use mathlib.Core.List.{List, [], _∷_, map, append-nil, List·Memᴰ, List·Memᴰ·cases-cons, List·Memᴰ·not-nil, Memᴰ·of-map}
 use Prim.Native.Nat.{ℕ, zero, suc, _+_, _<_, _≤_}
 use native.Mathlib.Omega.{arith}
 use native.Mathlib.Nat.{not-suc-le-zero}
-use lib.Dec.{eqb, leb}
+use lib.Dec.{eqb}
 use lib.ListN.{length, getD, getElem?, drop, drop-of-length-le, List·getD-map}
 use lib.Seq.{drop-cons}
-use borrow.Author.Tests.{eq-eqb, eqb-true, leb-true, ltb-true}
+use borrow.Author.Tests.{eq-eqb, eqb-true}
 use Rattle.model.specs.declared.Group.{Group}
-use Rattle.model.specs.Groups.{Process, Processes, Within, p0, p1, p2, p3, at, has, restrict}
+use Rattle.model.specs.Groups.{Process, Processes, Within, has, restrict}
 use Rattle.model.specs.Automata.{Transition}
 use Rattle.model.specs.Lists.{Each}
 use Rattle.model.specs.Log.{keyDigits}
 use Rattle.model.specs.Systems.{Rule}
-use Rattle.model.specs.Tables.{Item, absent, bodies, byteOf, controlsOf, isTwin, numberOf, ruleOf, sameBytes, statesOf, systemOf, transitionOf, valueFits}
+use Rattle.model.specs.Tables.{Item, bodies, controlsOf, isTwin, ruleOf, sameBytes, statesOf, systemOf, transitionOf}
 use Rattle.model.proofs.Groups.{at-restrict, ext}
 use Rattle.model.proofs.Lists.{Distinct, any-of, distinct-append, each-get}
-use Rattle.model.proofs.Tables.{Checked, none-yet, one-more, Complete, Passes, Fitting, RuleFits, TransitionFits, read-complete, accepted-well-formed, bodies-more, each-of-kind, rules-fit, transitions-fit}
-use Rattle.model.proofs.Tests.{by-test, and-both, and-left, and-right}
+use Rattle.model.proofs.Tables.{Checked, none-yet, one-more, Complete, Passes, Fitting, RuleFits, TransitionFits, accepted-well-formed, bodies-more, rules-fit, transitions-fit}
+use Rattle.model.proofs.Tests.{by-test, and-both}
 use Rattle.automaton.specs.StateNumbers.{Over}
 use Rattle.table.specs.declared.Table.{Table}
 use Rattle.table.specs.Reading.{Holds, itemsIn, systemIn, ruleIn, transitionIn}
 use Rattle.table.proofs.Layouts.{body-in, body-size, count-in, rule-letter-in, rules-count, transition-letter-in, transitions-count, written-letter-in}
-use Rattle.shapes.specs.Shapes.{presentIn, processesBelow}
 use Rattle.shapes.proofs.Ranges.{each-place, each-by-place}
-use Rattle.shapes.proofs.Shapes.{loc-within, over-fits, table-read}
+use Rattle.shapes.proofs.Shapes.{loc-within, over-fits, bound-at}
 
 -- ---- lists by their places
 pub elem-at : {A : Type 0} (l : List A) (k : ℕ) (d : A) → k < length l → getElem? l k ≡ some (getD l k d)
@@ -52,18 +52,6 @@ each-both P Q R f (x ∷ l) p q = (f x (p .0) (q .0), each-both P Q R f l (p .1)
 -- ---- groups
 pub over-restrict : (L : Processes) (g : Group) → Over L g → restrict L g ≡ g
 over-restrict L g o = ext (λ i. rw at-restrict (by-test (has L i) (λ m. rw m) (λ n. rw n (sym (o .outside i n)))))
-
--- ---- the bounds of a process are at most 8
-bounds : {items : List Item} → Checked items → Each (λ (body : List ℕ). byteOf body 0 ≤ 8 × byteOf body 1 ≤ 8) (bodies 1 items)
-unfolding valueFits
-bounds c = each-of-kind 1 (λ items body. byteOf body 0 ≤ 8 × byteOf body 1 ≤ 8) (λ items x body l q. q) bound c
-  where
-    bound : (items : List Item) (body : List ℕ) → Passes items 1 body → byteOf body 0 ≤ 8 × byteOf body 1 ≤ 8
-    bound items body p =
-        let front = and-left (leb 1 (byteOf body 0) && leb (byteOf body 0) (byteOf body 1)) (leb (byteOf body 1) 8) (p .fits) in
-        let small : byteOf body 1 ≤ 8 = leb-true (byteOf body 1) 8 (and-right (leb 1 (byteOf body 0) && leb (byteOf body 0) (byteOf body 1)) (leb (byteOf body 1) 8) (p .fits)) in
-        let less : byteOf body 0 ≤ byteOf body 1 = leb-true (byteOf body 0) (byteOf body 1) (and-right (leb 1 (byteOf body 0)) (leb (byteOf body 0) (byteOf body 1)) front) in
-        (omega arith, small)
 
 -- ---- no two transitions have the same body
 same-bytes : (xs : List ℕ) → sameBytes xs xs ≡ true
@@ -107,18 +95,11 @@ distinct-transitions (body ∷ ls) e d = (absent-later, distinct-transitions ls 
 
 module _ (bytes : List ℕ) (t : Table) (h : Holds bytes t) where
   complete : Complete (itemsIn bytes)
-  complete = read-complete bytes (itemsIn bytes) (table-read bytes t h .reading)
+  complete = holds-complete bytes t h
 
   -- ---- groups that fit a letter of the table
-  bound-place : (i : Process) → has (presentIn t) i ≡ true → numberOf i < length (bodies 1 (itemsIn bytes))
-  unfolding processesBelow
-  bound-place p0 m = omega (arith, count-in bytes t h 1 (omega arith), ltb-true 0 (t .processes) m)
-  bound-place p1 m = omega (arith, count-in bytes t h 1 (omega arith), ltb-true 1 (t .processes) m)
-  bound-place p2 m = omega (arith, count-in bytes t h 1 (omega arith), ltb-true 2 (t .processes) m)
-  bound-place p3 m = omega (arith, count-in bytes t h 1 (omega arith), ltb-true 3 (t .processes) m)
-
-  bound-at : (a : ℕ) → a < t .letters → (i : Process) → has (systemIn bytes .loc a) i ≡ true → (controlsOf (bodies 1 (itemsIn bytes)) i ≤ 8) × (statesOf (bodies 1 (itemsIn bytes)) i ≤ 8)
-  bound-at a l i m = each-place (λ (body : List ℕ). byteOf body 0 ≤ 8 × byteOf body 1 ≤ 8) (bodies 1 (itemsIn bytes)) absent (numberOf i) (bounds (complete .checked)) (bound-place i (loc-within bytes t h a l i m))
+  letter-bound : (a : ℕ) → a < t .letters → (i : Process) → has (systemIn bytes .loc a) i ≡ true → (controlsOf (bodies 1 (itemsIn bytes)) i ≤ 8) × (statesOf (bodies 1 (itemsIn bytes)) i ≤ 8)
+  letter-bound a l i m = bound-at bytes t h i (loc-within bytes t h a l i m)
 
   -- ---- rules
   pub rule-elem : (k : ℕ) → k < t .rules → getElem? (systemIn bytes .rules) k ≡ some (ruleIn bytes k)
@@ -145,7 +126,7 @@ module _ (bytes : List ℕ) (t : Table) (h : Holds bytes t) where
 
   pub rule-over : (k : ℕ) → k < t .rules → Over (systemIn bytes .loc (ruleIn bytes k .letter)) (ruleIn bytes k .before) × Over (systemIn bytes .loc (ruleIn bytes k .letter)) (ruleIn bytes k .after)
   rule-over k l = rule-fits k l (λ (r : Rule). r .letter < t .letters → Over (systemIn bytes .loc (r .letter)) (r .before) × Over (systemIn bytes .loc (r .letter)) (r .after))
-      (λ body f m. over-letter (controlsOf (bodies 1 (itemsIn bytes))) (transitionOf body) (λ i n. bound-at (transitionOf body .letter) m i n .0) (f .fits)) (rule-letter-in bytes t h k l)
+      (λ body f m. over-letter (controlsOf (bodies 1 (itemsIn bytes))) (transitionOf body) (λ i n. letter-bound (transitionOf body .letter) m i n .0) (f .fits)) (rule-letter-in bytes t h k l)
 
   pub rule-before : (k : ℕ) → k < t .rules → restrict (systemIn bytes .loc (ruleIn bytes k .letter)) (ruleIn bytes k .before) ≡ ruleIn bytes k .before
   rule-before k l = over-restrict (systemIn bytes .loc (ruleIn bytes k .letter)) (ruleIn bytes k .before) (rule-over k l .0)
@@ -178,7 +159,7 @@ module _ (bytes : List ℕ) (t : Table) (h : Holds bytes t) where
 
   pub transition-over : (k : ℕ) → k < t .transitions → Over (systemIn bytes .loc (transitionIn bytes k .letter)) (transitionIn bytes k .before) × Over (systemIn bytes .loc (transitionIn bytes k .letter)) (transitionIn bytes k .after)
   transition-over k l = transition-fits k l (λ (x : Transition). x .letter < t .letters → Over (systemIn bytes .loc (x .letter)) (x .before) × Over (systemIn bytes .loc (x .letter)) (x .after))
-      (λ body f m. over-letter (statesOf (bodies 1 (itemsIn bytes))) (transitionOf body) (λ i n. bound-at (transitionOf body .letter) m i n .1) (f .fits)) (transition-letter-in bytes t h k l)
+      (λ body f m. over-letter (statesOf (bodies 1 (itemsIn bytes))) (transitionOf body) (λ i n. letter-bound (transitionOf body .letter) m i n .1) (f .fits)) (transition-letter-in bytes t h k l)
 
   pub transitions-distinct : Distinct (systemIn bytes .transitions)
   unfolding systemIn systemOf

@@ -21,6 +21,7 @@ pub mod FirstCandidates
 pub mod Rounds
 pub mod Reasons
 pub mod Tables
+pub mod Closing
 pub mod Demands
 pub mod Theorems
 pub mod GreedyPath

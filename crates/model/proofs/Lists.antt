@@ -73,6 +73,10 @@ pub isEmpty-true : {A : Type 0} (xs : List A) → isEmpty xs ≡ true → xs ≡
 isEmpty-true [] e = refl
 isEmpty-true (x ∷ xs) e = absurd (false≢true e)
 
+pub length-zero : {A : Type 0} (xs : List A) → length xs ≡ 0 → xs ≡ []
+length-zero [] e = refl
+length-zero (x ∷ xs) e = absurd (omega arith)
+
 pub isEmpty-false : {A : Type 0} (xs : List A) → isEmpty xs ≡ false → 0 < length xs
 isEmpty-false [] e = absurd (true≢false e)
 isEmpty-false (x ∷ xs) e = omega arith

@@ -13,7 +13,6 @@ use Rattle.model.specs.Automata.{Along, Transition, label}
 use Rattle.model.specs.Groups.{Processes, at}
 use Rattle.model.specs.Lists.{Each}
 use Rattle.model.specs.Log.{Candidate, Path, Record, addedRecord, additions, initialCandidate, initialRecord, keys, logAt, paths, stepsCap}
-use Rattle.model.specs.SmallTables.{walks}
 use Rattle.model.specs.Systems.{Accepting, Accepts, Configuration, InAutomaton, Joins, System, isAccepting}
 use Rattle.model.specs.Unfolding.{Unfolds, acceptingPath, emitted, firstAccepting, pathSteps}
 use Rattle.model.specs.Words.{project}

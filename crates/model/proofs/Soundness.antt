@@ -12,7 +12,6 @@ use Rattle.model.specs.Groups.{Apart, Process, Processes, at, has, merge
 use Rattle.model.specs.Lists.{Each}
 use Rattle.model.specs.Log.{Record, recordAt}
 use Rattle.model.specs.Saturation.{added}
-use Rattle.model.specs.SmallTables.{walks}
 use Rattle.model.specs.Systems.{Accepts, Configuration, Rule, System, enabled, fired, walk}
 use Rattle.model.specs.Tables.{cooperates}
 use Rattle.model.specs.Unfolding.{Unfolds, done, replaced, skipped}

@@ -9,7 +9,6 @@ use lib.ListN.{getElem?}
 use Rattle.model.specs.declared.Group.{Group}
 use Rattle.model.specs.Groups.{Processes, at, merge, restrict, sameGroup}
 use Rattle.model.specs.Lists.{andThen}
-use Rattle.model.specs.SmallTables.{gives}
 use Rattle.model.specs.Systems.{Configuration, Equal, Rule, Step, Steps, System, enabled, fire, fired, onward, stay, walk}
 use Rattle.model.specs.Tables.{read}
 use Rattle.model.specs.Words.{Located, project, removeFirst, tops}

@@ -23,7 +23,7 @@ use Rattle.model.proofs.Lists.{all-each, each-append, each-elem, each-g
 use Rattle.model.proofs.Paths.{Inside}
 use Rattle.model.proofs.Reachability.{WellFormed}
 use Rattle.model.proofs.Soundness.{Control, ControlOn, Leaves}
-use Rattle.model.proofs.Tests.{and-left, and-right, by-test, every-at, implies, or-right}
+use Rattle.model.proofs.Tests.{and-left, and-right, by-test, every-at, implies, not-false, or-right}
 
 -- the checks of refusal 2 to 8, none of which holds
 pub record Passes (items : List Item) (k : ℕ) (body : List ℕ) : Type 0 where
@@ -56,10 +56,6 @@ all-false false false false false false true g h z = absurd (omega arith)
 all-false false false false false false false true h z = absurd (omega arith)
 all-false false false false false false false false true z = absurd (omega arith)
 all-false false false false false false false false false z = record { t2 = refl; t3 = refl; t4 = refl; t1 = refl; t5 = refl; t6 = refl; t7 = refl; t8 = refl }
-
-not-false : (b : Bool) → not b ≡ false → b ≡ true
-not-false true e = refl
-not-false false e = absurd (true≢false e)
 
 pub passes : (items : List Item) (k : ℕ) (body : List ℕ) → refusal items k body ≡ 0 → Passes items k body
 unfolding refusal

@@ -1,5 +1,7 @@
 -- What the calls give is their outcome.
 -- ---- an accepted table
+use Rattle.model.proofs.Closing.{refusal-changes-nothing, refusal-number}
+use Rattle.table.proofs.Readings.{holds-read, refused-reading}
 use mathlib.Core.Path.{_∙_, _≡_, ap, refl, subst, sym}
 use mathlib.Core.Bool.{true}
 use mathlib.Core.Logic.{_≢_}
@@ -8,7 +10,7 @@ use mathlib.Core.List.{List}
 use Prim.Native.Nat.{_<_, _≤_, ℕ}
 use native.Mathlib.Omega.{arith}
 use lib.ListN.{length, replicate}
-use borrow.Author.Tests.{le-leb, le-ltb, lt-ltb, ne-eqb}
+use borrow.Author.Tests.{le-ltb, lt-ltb, ne-eqb}
 use Rattle.model.specs.declared.Answered.{Answered}
 use Rattle.model.specs.declared.Ran.{Ran}
 use Rattle.model.specs.Calls.{answerCall, answerGiven, answerRefusal, capacity, changesNothing, filled, isLong, logAfter, pageAfter, recordsOf, runCall, runGiven, runOf, runRefusal, runVerdict, scratchAfter, scratchNeeded, startPath, verdict, zeros}
@@ -18,18 +20,16 @@ use Rattle.model.specs.Records.{logBytes}
 use Rattle.model.specs.Tables.{Reading, accepted, read, refused, systemOf}
 use Rattle.model.specs.Unfolding.{pathSteps}
 use Rattle.model.proofs.Demands.{demand-3}
-use Rattle.model.proofs.Tables.{Numbered9, read-numbered}
 use Rattle.model.proofs.Tests.{by-test}
 use Rattle.table.specs.declared.Parsed.{Parsed}
 use Rattle.table.specs.declared.Table.{Table}
 use Rattle.reach.specs.Outcomes.{Answers, LimitLeft, NoneLeft, Runs}
 use Rattle.table.specs.Reading.{Holds, itemsIn, parsed, systemIn}
 use Rattle.verdict.specs.Verdicts.{RunLeft, startRun}
-use Rattle.shapes.proofs.Shapes.{table-read}
 
 module _ (table log scratch : List ℕ) (t : Table) (holds : Holds table t) where
   reading : read table ≡ accepted (itemsIn table)
-  reading = table-read table t holds .reading
+  reading = holds-read table t holds
 
   records-are : recordsOf (read table) ≡ limit (systemIn table)
   unfolding recordsOf systemIn
@@ -78,8 +78,8 @@ module _ (table log scratch : List ℕ) (t : Table) (holds : Holds table t) wher
         answers r (given-limit few ∙ sym g) log′ scratch′
         (l .log-left ∙ ap (λ (rs : List Record). filled (logBytes rs) log) (sym records-are) ∙ ap (λ (k : ℕ). logAfter k (recordsOf (read table)) log) (sym zero))
         (z ∙ ap (λ (k : ℕ). replicate k 0) (l .scratch-length) ∙ ap (λ (k : ℕ). scratchAfter k scratch) (sym zero))
+    -- ---- the run
 
-  -- ---- the run
   module _ (page : List ℕ) where
     run-is : runOf (read table) ≡ startRun table
     unfolding runOf startRun systemIn
@@ -133,19 +133,12 @@ module _ (table log scratch : List ℕ) (t : Table) (holds : Holds table t) wher
           (d .run ∙ ap (λ (ns : List ℕ). pageAfter (runRefusal r) ns page) (sym run-is))
 
 -- ---- a table that is refused
-refused-reading : (r : Reading) (number place : ℕ) → parsed r ≡ Parsed.Refused number place → r ≡ refused number place
-refused-reading (accepted items) number place e = let z : _≡_ {A = ℕ} 0 1 = cc in absurd (omega arith)
-refused-reading (refused n p) number place e = let q : refused n p ≡ refused number place = cc in q
-
-table-number : (n : ℕ) → 1 ≤ n → n ≤ 9 → changesNothing n ≡ true
-table-number n a b = rw (le-leb 1 n a, le-leb n 9 b)
-
 module _ (table log scratch : List ℕ) (number place : ℕ) (e : parsed (read table) ≡ Parsed.Refused number place) where
   is-refused : read table ≡ refused number place
   is-refused = refused-reading (read table) number place e
 
   nothing : changesNothing number ≡ true
-  nothing = let b : Numbered9 (refused number place) = subst Numbered9 is-refused (read-numbered table) in table-number number (b .0) (b .1)
+  nothing = refusal-changes-nothing table number place is-refused
 
   pub answers-refused : Answers (answerCall table log scratch) (Answered.Refused number place) log scratch
   unfolding answerCall answerGiven logAfter scratchAfter
@@ -158,7 +151,7 @@ module _ (table log scratch : List ℕ) (number place : ℕ) (e : parsed (read t
   pub runs-refused : (page : List ℕ) → Runs (runCall table log scratch page) (Ran.Refused number place) log scratch page
   unfolding runCall runGiven logAfter scratchAfter pageAfter
   runs-refused page =
-      let late : number ≢ 0 = let b : Numbered9 (refused number place) = subst Numbered9 is-refused (read-numbered table) in omega (arith, b .0) in
+      let late : number ≢ 0 = omega (arith, refusal-number table number place is-refused .0) in
       record {
         answer = ap (λ (x : Reading). runGiven x (length log) (length scratch) (length page)) (sym is-refused);
         log-left = sym (ap (λ (x : Reading). logAfter (runRefusal (runGiven x (length log) (length scratch) (length page))) (recordsOf (read table)) log) is-refused ∙ rw nothing);

@@ -1,4 +1,5 @@
 -- The log that saturation leaves, as answer and run hand it on.
+use Rattle.model.proofs.Closing.{zeros-same}
 use mathlib.Core.Path.{_∙_, _≡_, ap, ap₂, subst, sym}
 use mathlib.Core.List.{List, _++_}
 use Prim.Native.Nat.{_*_, _+_, _-_, _<_, _≤_, ℕ}
@@ -23,9 +24,6 @@ use Rattle.records.proofs.Entries.{length-log}
 module _ (table : List ℕ) (t : Table) (n : ℕ) (log scratch : List ℕ) (holds : Holds table t) (roomy : Roomy n log scratch) where
   abbrev sys : System
   sys = systemIn table
-
-  zeros-same : (xs ys : List ℕ) → length xs ≡ length ys → zeros xs ≡ zeros ys
-  zeros-same xs ys e = ap (λ (k : ℕ). replicate k 0) e
 
   pub none-left : (log₁ scratch₁ log₂ scratch₂ : List ℕ) (r : Saturated) → r ≡ Full → SaturatedDone table n log scratch r log₁ scratch₁ → log₂ ≡ zeros log₁ → scratch₂ ≡ zeros scratch₁ → NoneLeft table n log scratch log₂ scratch₂
   none-left log₁ scratch₁ log₂ scratch₂ r e d p q =

@@ -9,6 +9,7 @@ use table::Parsed;
 use table::Table;
 use table::read;
 use verdict::answer_limit;
+use verdict::as_u32;
 use verdict::clear_behind;
 use verdict::run_limit;
 ghost use mathlib.Core.Path.{_≡_};
@@ -22,13 +23,6 @@ ghost use Rattle.table.specs.Reading.{Holds};
 ghost use Rattle.reach.specs.Outcomes.{Roomy, LogLeft, Answers, Runs};
 
 const MOST_RECORDS: usize = 65535;
-
-fn as_u32(x: usize) -> u32
-    requires { ⌜ x ≤ 65535 ⌝ }
-    ensures { λ r. ⌜ r ≡ x ⌝ }
-{
-    x as u32
-}
 
 // The number of whole records that a log of this length can hold, at most 65,535.
 fn records_in(size: usize) -> usize

@@ -19,7 +19,7 @@ use Rattle.model.specs.Log.{Candidate, Path, Record, addedRecord, candidate, in
 use Rattle.model.specs.Records.{logBytes, recordBytes, recordLength}
 use Rattle.model.specs.Systems.{Rule}
 use Rattle.model.proofs.Groups.{sameGroup-true}
-use Rattle.model.proofs.Lists.{each-any, each-append, each-map, each-of-map}
+use Rattle.model.proofs.Lists.{each-any, each-append, each-map, each-of-map, length-zero}
 use Rattle.model.proofs.RoundGroups.{isHead}
 use Rattle.model.proofs.Tests.{and-left, and-right, by-test}
 use Rattle.saturate.specs.declared.groups.Stage.{Stage}
@@ -202,7 +202,7 @@ module _ (table : List ℕ) (t : Table) (stage : Stage) where
 
     pub group-none : (count : ℕ) → count ≤ stage .n → new ≡ 0 → GroupAdded table t stage count log s₀ count log₁ s₃
     group-none count l e =
-        let nothing : stageAdditions table stage ≡ [] = empty (stageAdditions table stage) (omega (arith, found .count, additions-count)) in
+        let nothing : stageAdditions table stage ≡ [] = length-zero (stageAdditions table stage) (omega (arith, found .count, additions-count)) in
         record {
           more = omega (arith, found .count, additions-count);
           fits = l;
@@ -211,10 +211,6 @@ module _ (table : List ℕ) (t : Table) (stage : Stage) where
           log-length = ap length log-same;
           scratch-length = found .scratch-length;
         }
-      where
-        empty : (cs : List Candidate) → length cs ≡ 0 → cs ≡ []
-        empty [] e = refl
-        empty (c ∷ cs) e = absurd (omega arith)
 
     module _ (count : ℕ) (behind : base ≤ count) (few : new ≤ stage .n - count) (within : count ≤ stage .n) (some-new : new ≢ 0) (room : stage .n * recordLength ≤ length log) where
       fits-in : count + length (newBelow marks stateCount) ≤ stage .n

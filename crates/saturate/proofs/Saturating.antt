@@ -1,7 +1,8 @@
 -- Rounds until one adds nothing: the limit.
+use Rattle.model.proofs.Lists.{length-zero}
 use mathlib.Core.Path.{_∙_, _≡_, ap, refl, subst, sym}
 use mathlib.Core.Bool.{_&&_, false, true}
-use mathlib.Core.List.{List, [], _++_, _∷_, append-nil, map}
+use mathlib.Core.List.{List, _++_, append-nil, map}
 use Prim.Native.Nat.{_*_, _+_, _-_, _<_, _≤_, suc, ℕ}
 use native.Mathlib.Omega.{arith}
 use native.Mathlib.Nat.{not-suc-le-zero}
@@ -29,7 +30,7 @@ use Rattle.table.specs.Reading.{Holds, itemsIn, systemIn}
 use Rattle.logs.proofs.Rules.{transitions-distinct}
 use Rattle.records.proofs.Entries.{length-log}
 use Rattle.saturate.proofs.Selecting.{initial-length}
-use Rattle.stack.proofs.Limits.{holds-complete}
+use Rattle.table.proofs.Readings.{holds-complete}
 use Rattle.table.proofs.Layouts.{transitions-count}
 
 pub counted-within : (table : List ℕ) (n round : ℕ) (log s : List ℕ) (added : Added) (log′ s′ : List ℕ) (r : ℕ) → r ≡ countOrOver added n → RoundDone table n round log s added log′ s′ → RoundCounted table n round log s r log′ s′
@@ -160,12 +161,8 @@ module _ (table : List ℕ) (t : Table) (n : ℕ) where
           (λ m. omega (arith, ltb-false round (saturatedAt sys) n, ltb-false (saturatedAt sys) round m)))
 
       limit-is : logAt sys (suc round) ≡ limit sys
-      limit-is = logAt-suc sys round ∙ ap (λ (cs : List Candidate). logAt sys round ++ map (addedRecord (suc round) (logAt sys round)) cs) (empty (additions sys (logAt sys round)) nothing)
+      limit-is = logAt-suc sys round ∙ ap (λ (cs : List Candidate). logAt sys round ++ map (addedRecord (suc round) (logAt sys round)) cs) (length-zero (additions sys (logAt sys round)) nothing)
           ∙ append-nil (logAt sys round) ∙ ap (logAt sys) (sym last-is)
-        where
-          empty : (cs : List Candidate) → length cs ≡ 0 → cs ≡ []
-          empty [] e = refl
-          empty (c ∷ cs) e = absurd (omega arith)
 
       pub saturating-limit : (log₁ s₁ : List ℕ) → length log₀ ≡ length log₁ → length s₀ ≡ length s₁ → SaturatedLimit table n log₁ s₁ count round log s
       saturating-limit log₁ s₁ l m = record {

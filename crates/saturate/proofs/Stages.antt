@@ -209,10 +209,6 @@ module _ (table : List ℕ) (t : Table) (stage : Stage) (k : ℕ) (job : Job) (h
           candidates-are = ap₂ (λ (b : ℕ) (x : Group). offers job (glances log b) 0 x []) job-base e
               ∙ job-offers job loc (ruleIn table k) k (glances log (length R)) R stage-job (glances-keys log R bytes fits) (ruleIn table k .after)
 
-pub not-false : (b : Bool) → not b ≡ false → b ≡ true
-not-false true e = refl
-not-false false e = absurd (true≢false e)
-
 -- a path without records
 pub no-places : (i : ℕ) → i < writtenPlaces → getD (noNumber ∷ noNumber ∷ noNumber ∷ noNumber ∷ []) i noNumber ≡ noNumber
 no-places zero h = refl

@@ -14,7 +14,7 @@ const FRESH: usize = 16640;
 
 const LETTER_CEILING: usize = 32;
 
-fn wide(x: u8) -> usize
+pub fn wide(x: u8) -> usize
     ensures { λ r. ⌜ r ≡ x ⌝ }
 {
     x as usize

@@ -1,4 +1,5 @@
 // The rules of one head, letter and before states: what a round adds for them.
+use crate::activity::wide;
 use crate::ends::count_new;
 use crate::ends::mark_held;
 use crate::ends::place_new;
@@ -39,12 +40,6 @@ pub enum Added {
     Full,
 }
 
-fn as_index(x: u8) -> usize
-    ensures { λ r. ⌜ r ≡ x ⌝ }
-{
-    x as usize
-}
-
 // The round as a record holds it. A later one adds no record that the log has room for.
 fn label(round: usize) -> u16
     ensures { λ r. ⌜ (round ≤ 65535 → r ≡ round) ⌝ }
@@ -73,7 +68,7 @@ fn word_bits(table: &[u8], t: Table, k: usize, j: usize) -> u8
 {
     if j < table::written_count(table, t, k) {
         let a = table::written_letter(table, t, k, j);
-        return table::letter_bits(table, t, as_index(a));
+        return table::letter_bits(table, t, wide(a));
     }
     0
 }
@@ -85,7 +80,7 @@ fn job_of(table: &[u8], t: Table, stage: Stage, k: usize) -> Job
     let letter = table::rule_letter(table, t, k);
     Job {
         letter,
-        bits: table::letter_bits(table, t, as_index(letter)),
+        bits: table::letter_bits(table, t, wide(letter)),
         before: table::rule_before(table, t, k),
         rule: k as u16,
         round: label(stage.round),

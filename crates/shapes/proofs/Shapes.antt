@@ -1,5 +1,6 @@
 -- What an accepted table gives to those who step through its configurations: each letter has a process of the table, states are below 8 at the
 -- table's processes and 255 elsewhere, words have letters of the table; and every step keeps it so.
+use Rattle.table.proofs.Readings.{holds-complete}
 use mathlib.Core.Path.{_≡_, refl, ap, sym, subst, _∙_}
 use mathlib.Core.Bool.{true, not, _&&_, _||_, true≢false}
 use mathlib.Core.List.{List, [], _∷_, _++_}
@@ -13,17 +14,16 @@ use Rattle.model.specs.Groups.{Process, Processes, Within, p0, p1, p2, p3, at, 
 use Rattle.model.specs.Automata.{Transition, move}
 use Rattle.model.specs.Lists.{Each}
 use Rattle.model.specs.Systems.{Rule}
-use Rattle.model.specs.Tables.{Item, Reading, accepted, refused, absent, bodies, byteOf, controlsOf, groupFits, groupOf, numberOf, present, read, ruleOf, statesOf, systemOf, transitionOf, valueFits}
+use Rattle.model.specs.Tables.{Item, accepted, absent, bodies, byteOf, controlsOf, groupFits, groupOf, numberOf, present, ruleOf, statesOf, systemOf, transitionOf, valueFits}
 use Rattle.model.specs.Words.{Located, removeFirst}
 use Rattle.model.proofs.Groups.{at-merge}
 use Rattle.model.proofs.Lists.{each-append}
-use Rattle.model.proofs.Tables.{Checked, Complete, Passes, Fitting, RuleFits, TransitionFits, read-complete, accepted-well-formed, each-of-kind, fits-at, fits-outside, rules-fit, transitions-fit, start-fits}
+use Rattle.model.proofs.Tables.{Checked, Complete, Passes, Fitting, RuleFits, TransitionFits, accepted-well-formed, each-of-kind, fits-at, fits-outside, rules-fit, transitions-fit, start-fits}
 use Rattle.model.proofs.Tests.{by-test, and-left, and-right, every-at, implies}
 use Rattle.automaton.specs.StateNumbers.{Over}
 use Rattle.table.specs.declared.Table.{Table}
-use Rattle.table.specs.declared.Parsed.the-variants.{Accepted}
 use Rattle.table.specs.Places.{bodyOf, counts}
-use Rattle.table.specs.Reading.{Holds, parsed, itemsOf, itemsIn, systemIn, countsOf, ruleIn, transitionIn}
+use Rattle.table.specs.Reading.{Holds, itemsIn, systemIn, ruleIn, transitionIn}
 use Rattle.table.proofs.Layouts.{table-modest, count-in, loc-in, bits-in, bits-small, pile-count, pile-letter-in, written-letter-in}
 use Rattle.shapes.specs.Shapes.{processesBelow, presentIn}
 use Rattle.shapes.proofs.Ranges.{allBelow, all-below, each-place, each-by-place}
@@ -60,19 +60,6 @@ bits-below n bits h q l i m =
     (implies (ltb bits (2 ^ n)) (every (λ i. not (has (processesOf bits) i) || has (processesBelow n) i)) one (lt-ltb bits (2 ^ n) l)) i) m
 
 -- ---- the table
--- it was read to its end, with these items
-pub record Read (bytes : List ℕ) (t : Table) : Type 0 where
-  pub reading : read bytes ≡ accepted (itemsIn bytes)
-  pub counts : countsOf (itemsIn bytes) ≡ t
-
-pub table-read : (bytes : List ℕ) (t : Table) → Holds bytes t → Read bytes t
-unfolding itemsIn
-table-read bytes t h = go (read bytes) refl (h .reading)
-  where
-    go : (r : Reading) → read bytes ≡ r → parsed r ≡ Accepted t → Read bytes t
-    go (accepted items) e q = record { reading = e ∙ ap (λ (r : Reading). accepted (itemsOf r)) (sym e); counts = ap (λ (r : Reading). countsOf (itemsOf r)) e ∙ (let same : countsOf items ≡ t = cc in same) }
-    go (refused number place) e q = let z : _≡_ {A = ℕ} 0 1 = cc in absurd (omega arith)
-
 -- the bounds of a process are at most 8
 bounds : {items : List Item} → Checked items → Each (λ (body : List ℕ). byteOf body 0 ≤ 8 × byteOf body 1 ≤ 8) (bodies 1 items)
 unfolding valueFits
@@ -87,7 +74,7 @@ bounds c = each-of-kind 1 (λ items body. byteOf body 0 ≤ 8 × byteOf body 1 �
 
 module _ (bytes : List ℕ) (t : Table) (h : Holds bytes t) where
   complete : Complete (itemsIn bytes)
-  complete = read-complete bytes (itemsIn bytes) (table-read bytes t h .reading)
+  complete = holds-complete bytes t h
 
   -- each letter has a process
   pub located : Located (systemIn bytes .loc)
@@ -112,7 +99,7 @@ module _ (bytes : List ℕ) (t : Table) (h : Holds bytes t) where
   bound-place p2 m = omega (arith, count-in bytes t h 1 (omega arith), ltb-true 2 (t .processes) m)
   bound-place p3 m = omega (arith, count-in bytes t h 1 (omega arith), ltb-true 3 (t .processes) m)
 
-  bound-at : (i : Process) → has (presentIn t) i ≡ true → (controlsOf (bodies 1 (itemsIn bytes)) i ≤ 8) × (statesOf (bodies 1 (itemsIn bytes)) i ≤ 8)
+  pub bound-at : (i : Process) → has (presentIn t) i ≡ true → (controlsOf (bodies 1 (itemsIn bytes)) i ≤ 8) × (statesOf (bodies 1 (itemsIn bytes)) i ≤ 8)
   bound-at i m = each-place (λ (body : List ℕ). byteOf body 0 ≤ 8 × byteOf body 1 ≤ 8) (bodies 1 (itemsIn bytes)) absent (numberOf i) (bounds (complete .checked)) (bound-place i m)
 
   -- ---- states

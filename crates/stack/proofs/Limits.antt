@@ -4,28 +4,19 @@ use mathlib.Core.List.{List}
 use Prim.Native.Nat.{ℕ, _<_}
 use native.Mathlib.Omega.{arith}
 use Rattle.model.specs.Log.{recordAt, limit, saturatedAt}
-use Rattle.model.specs.Tables.{Reading, accepted, refused, read}
 use Rattle.model.proofs.Emission.{Earlier}
 use Rattle.model.proofs.Reachability.{WellFormed}
 use Rattle.model.proofs.Soundness.{Control}
-use Rattle.model.proofs.Tables.{Complete, read-complete, accepted-well-formed, accepted-control}
+use Rattle.model.proofs.Tables.{accepted-well-formed, accepted-control}
 use Rattle.model.proofs.Validity.{each-at, log-earlier}
 use Rattle.records.specs.Entries.{HasRecord, Fits, Reads}
 use Rattle.records.proofs.Entries.{log-reads, log-has}
 use Rattle.table.specs.declared.Table.{Table}
-use Rattle.table.specs.declared.Parsed.the-variants.{Accepted}
-use Rattle.table.specs.Reading.{parsed, Holds, itemsOf, itemsIn, systemIn}
+use Rattle.table.specs.Reading.{Holds, itemsIn, systemIn}
+use Rattle.table.proofs.Readings.{holds-complete}
 use Rattle.stack.specs.LimitLog.{LimitLog}
 
 -- ---- the table
-pub holds-complete : (bytes : List ℕ) (t : Table) → Holds bytes t → Complete (itemsIn bytes)
-unfolding itemsIn
-holds-complete bytes t h = go (read bytes) refl (h .reading)
-  where
-    go : (r : Reading) → read bytes ≡ r → parsed r ≡ Accepted t → Complete (itemsOf (read bytes))
-    go (accepted items) e q = read-complete bytes (itemsOf (read bytes)) (e ∙ ap (λ (x : Reading). accepted (itemsOf x)) (sym e))
-    go (refused number place) e q = let z : _≡_ {A = ℕ} 0 1 = cc in absurd (omega arith)
-
 pub holds-well-formed : (bytes : List ℕ) (t : Table) → Holds bytes t → WellFormed (systemIn bytes)
 unfolding systemIn
 holds-well-formed bytes t h = accepted-well-formed (itemsIn bytes) (holds-complete bytes t h)

@@ -29,7 +29,7 @@ use Rattle.automaton.specs.StateNumbers.{Over}
 use Rattle.table.specs.declared.Table.{Table}
 use Rattle.table.specs.Reading.{Holds, itemsIn, systemIn, pileIn}
 use Rattle.table.proofs.Layouts.{count-in, loc-in, bits-in, pile-letter-in}
-use Rattle.stack.proofs.Limits.{holds-complete}
+use Rattle.table.proofs.Readings.{holds-complete}
 use Rattle.start.specs.RestSets.{firstProcesses, processesOfTable}
 
 -- ---- sets of processes as bits

@@ -1,4 +1,5 @@
 -- From what the search and the unfolding give to the verdict and the run.
+use Rattle.model.proofs.Closing.{zeros-same}
 use mathlib.Core.Path.{_≡_, refl, ap, ap₂, sym, subst, _∙_}
 use mathlib.Core.Bool.{Bool, true, false, cond, _||_}
 use mathlib.Core.Option.{Option, none, some}
@@ -54,9 +55,6 @@ short-fits steps room e =
     (ltb-false room steps (n .0), ltb-false 1000000 steps (n .1))
 
 -- ---- the run of a path on the stack
-pub zeros-same : (s₀ s₁ s₂ : List ℕ) → length s₁ ≡ length s₀ → s₂ ≡ zeros s₁ → s₂ ≡ zeros s₀
-zeros-same s₀ s₁ s₂ e z = z ∙ ap (λ (n : ℕ). replicate {A = ℕ} n 0) e
-
 verdict-long : (sys : System) (room : ℕ) (p : Path) → isLong (pathSteps (limit sys) (p .numbers)) room ≡ true → Ran.Refused 11 0 ≡ runVerdict sys room (some p)
 verdict-long sys room p e = sym (ap (λ (b : Bool). cond b (Ran.Refused 11 0)
     (Ran.Reached (length (limit sys)) (rounds (limit sys)) (pathSteps (limit sys) (p .numbers)) (peak sys (emitted (limit sys) (p .numbers)) (sys .start)))) e)
@@ -115,7 +113,7 @@ module _ {table : List ℕ} {t : Table} {log : List ℕ} {count most steps : ℕ
         record {
           given = figures ∙ subst (λ (o : Option Path). Ran.Reached (length (limit (systemIn table))) (rounds (limit (systemIn table))) (pathSteps (limit (systemIn table)) (w .path .numbers)) (peak (systemIn table) run (systemIn table .start)) ≡ runVerdict (systemIn table) (length page) o)
               (sym (w .is)) (verdict-reached (systemIn table) (length page) (w .path) (long-path false short));
-          cleared = zeros-same s s₁ s₂ e z;
+          cleared = z ∙ zeros-same s₁ s e;
           run = page-filled run page page₁ page₂ used (run-size ∙ sym us) (omega (arith, run-room)) page-is f ∙ ap (λ (l : List ℕ). filled l page) (sym run-is);
         }
 
@@ -140,7 +138,7 @@ module _ {table : List ℕ} {t : Table} {log : List ℕ} {n count most : ℕ} {s
       let none-is : startPath (systemIn table) ≡ none = no-path (limit (systemIn table)) (startPath (systemIn table)) (sym e ∙ f .given) in
       record {
         given = subst (λ (o : Option Path). Ran.Refused 16 0 ≡ runVerdict (systemIn table) (length page) o) (sym none-is) refl;
-        cleared = zeros-same s s₁ s₂ size z;
+        cleared = z ∙ zeros-same s₁ s size;
         run = refl;
       }
 
@@ -158,4 +156,4 @@ module _ {table : List ℕ} {t : Table} {log : List ℕ} {n count most : ℕ} {s
       }
 
   pub run-back : {page : List ℕ} {r : Ran} {s₂ page₂ : List ℕ} → RunLeft table s₁ page r s₂ page₂ → RunLeft table s page r s₂ page₂
-  run-back {s₂ = s₂} d = record { given = d .given; cleared = zeros-same s s₁ s₂ size (d .cleared); run = d .run }
+  run-back d = record { given = d .given; cleared = d .cleared ∙ zeros-same s₁ s size; run = d .run }

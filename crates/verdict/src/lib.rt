@@ -19,7 +19,8 @@ ghost use Rattle.verdict.specs.Verdicts.{stated, Settled, PathOnStack, R
 
 const LONGEST_RUN: u32 = 1000000;
 
-fn as_u32(x: usize) -> u32
+// A count of records, or a round, as an answer gives it.
+pub fn as_u32(x: usize) -> u32
     requires { ⌜ x ≤ 65535 ⌝ }
     ensures { λ r. ⌜ r ≡ x ⌝ }
 {

@@ -1,4 +1,6 @@
 -- The outcome of the walk call, by the way that it ended.
+use Rattle.model.proofs.Closing.{refusal-changes-nothing}
+use Rattle.table.proofs.Readings.{holds-read, refused-reading}
 use mathlib.Core.Path.{_≡_, refl, ap, ap₂, sym, subst, _∙_}
 use mathlib.Core.Bool.{Bool, true, false, cond}
 use mathlib.Core.List.{List, _++_}
@@ -6,13 +8,12 @@ use Prim.Native.Nat.{ℕ, _-_, _<_, _≤_}
 use native.Mathlib.Omega.{arith}
 use lib.Dec.{eqb, ltb}
 use lib.ListN.{length, drop, drop-of-length-le, replicate}
-use borrow.Author.Tests.{lt-ltb, le-ltb, le-leb}
+use borrow.Author.Tests.{lt-ltb, le-ltb}
 use Rattle.model.specs.declared.Walked.{Walked}
 use Rattle.model.specs.Calls.{Halt, WalkOutcome, changesNothing, filled, haltBefore, scratchAfter, walkCall, walkFrom, walkGiven, walkRefusal, walkScratch, zeros}
 use Rattle.model.specs.Lists.{Each, valueOr}
 use Rattle.model.specs.Systems.{System, Configuration}
-use Rattle.model.specs.Tables.{Reading, accepted, refused, read}
-use Rattle.model.proofs.Tables.{Numbered9, read-numbered}
+use Rattle.model.specs.Tables.{Reading, refused, read}
 use Rattle.model.proofs.Tests.{by-test}
 use Rattle.automaton.specs.StateNumbers.{Over}
 use Rattle.table.specs.declared.Table.{Table}
@@ -20,7 +21,7 @@ use Rattle.table.specs.declared.Parsed.the-variants.{Refused}
 use Rattle.table.specs.Reading.{Holds, parsed, systemIn}
 use Rattle.table.proofs.Layouts.{pile-count}
 use Rattle.shapes.specs.Shapes.{presentIn}
-use Rattle.shapes.proofs.Shapes.{start-over, start-lettered, table-read}
+use Rattle.shapes.proofs.Shapes.{start-over, start-lettered}
 use Rattle.firing.specs.declared.Placed.{Placed}
 use Rattle.firing.specs.Piles.{configuration}
 use Rattle.walk.specs.declared.Stop.{Stop}
@@ -36,9 +37,6 @@ scratch-kept number s e = rw e refl
 scratch-zero : (number : ℕ) (s : List ℕ) → changesNothing number ≡ false → zeros s ≡ scratchAfter number s
 unfolding scratchAfter
 scratch-zero number s e = rw e refl
-
-table-number : (n : ℕ) → 1 ≤ n → n ≤ 9 → changesNothing n ≡ true
-table-number n h q = rw (le-leb 1 n h, le-leb n 9 q) refl
 
 answer-late : (sys : System) (s : Stop) (c : Configuration) → changesNothing (s .number) ≡ false → changesNothing (walkRefusal (answerAt sys s c)) ≡ false
 answer-late sys s c e = by-test (eqb (s .number) 0) (λ y. rw y refl) (λ n. rw n e)
@@ -82,7 +80,7 @@ module _ (table : List ℕ) (t : Table) (h : Holds table t) (list pile scratch :
   call-is : walkCall table list pile scratch ≡ outcomeOf (givenBy (systemIn table) list (t .pile) (length pile) (length scratch)) pile scratch
   unfolding walkCall walkGiven outcomeOf systemIn
   call-is =
-      ap (λ (r : Reading). outcomeOf (walkGiven r list (length pile) (length scratch)) pile scratch) (table-read table t h .reading)
+      ap (λ (r : Reading). outcomeOf (walkGiven r list (length pile) (length scratch)) pile scratch) (holds-read table t h)
       ∙ ap (λ (n : ℕ). outcomeOf (givenBy (systemIn table) list n (length pile) (length scratch)) pile scratch) (pile-count table t h)
 
   -- 15: the scratch is short
@@ -112,20 +110,15 @@ module _ (table : List ℕ) (t : Table) (h : Holds table t) (list pile scratch :
       (sym (long l ∙ ap (λ (b : Bool). outcomeOf (cond b (haltBefore 14 0) (walkFrom (systemIn table) (length pile) 0 list (systemIn table .start))) pile scratch) (le-ltb (length pile) (t .pile) q))) x
 
 -- ---- a table that is refused
-refused-reading : (r : Reading) (number place : ℕ) → Refused number place ≡ parsed r → r ≡ refused number place
-refused-reading (accepted items) number place e = let z : _≡_ {A = ℕ} 0 1 = cc in absurd (omega arith)
-refused-reading (refused n p) number place e = let q : refused n p ≡ refused number place = cc in q
-
 pub table-halts : (table list pile scratch : List ℕ) (number place : ℕ) → Refused number place ≡ parsed (read table)
     → Halts (walkCall table list pile scratch) list (haltedBefore number place (length list)) pile scratch
 unfolding walkCall walkGiven
 table-halts table list pile scratch number place e =
-    let is : read table ≡ refused number place = refused-reading (read table) number place e in
-    let small : Numbered9 (refused number place) = subst Numbered9 is (read-numbered table) in
+    let is : read table ≡ refused number place = refused-reading (read table) number place (sym e) in
     rw is (record {
       answer = refl;
       inside = omega arith;
       rest = drop-of-length-le list {i = length list} (omega arith);
       pile = refl;
-      scratch = scratch-kept number scratch (table-number number (small .0) (small .1));
+      scratch = scratch-kept number scratch (refusal-changes-nothing table number place is);
     })

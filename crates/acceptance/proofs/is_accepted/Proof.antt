@@ -1,7 +1,8 @@
 use mathlib.Core.Path.{_∙_}
 use Rattle.table.specs.Reading.{systemIn}
 use Rattle.shapes.specs.Shapes.{presentIn}
-use Rattle.acceptance.proofs.Regions.{here-length, word-read, zeros-same}
+use Rattle.acceptance.proofs.Regions.{here-length, word-read}
+use Rattle.model.proofs.Closing.{zeros-same}
 use native.Mathlib.Omega.{arith}
 use borrow.Author.Needs.{needs}
 use Rattle.acceptance.proofs.is_accepted.Statement.{statement}

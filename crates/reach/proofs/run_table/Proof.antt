@@ -7,7 +7,7 @@ use Rattle.reach.proofs.run_table.Statement.{statement}
 use Rattle.reach.proofs.run_table.Tie as tie
 use Rattle.reach.proofs.run_table.Reads as reads
 use Rattle.reach.proofs.run_table.Lts as lts
-use Rattle.reach.proofs.as_u32.Reads as as-u32-reads
+use Rattle.verdict.proofs.as_u32.Reads as as-u32-reads
 use Rattle.reach.proofs.fill_log.Reads as fill-log-reads
 use Rattle.reach.proofs.records_in.Reads as records-in-reads
 use Rattle.verdict.proofs.run_limit.Reads as run-limit-reads

@@ -1,8 +1,7 @@
 use mathlib.Core.Path.{_≡_, refl, sym, ap, _∙_}
 use mathlib.Core.Bool.{not}
 use borrow.Author.Tests.{ltb-true, ltb-false}
-use Rattle.model.proofs.Tests.{not-true}
-use Rattle.saturate.proofs.Stages.{not-false}
+use Rattle.model.proofs.Tests.{not-true, not-false}
 use Rattle.saturate.proofs.Saturating.{initial-full, initial-kept, initial-begins, saturated-before}
 use native.Mathlib.Omega.{arith}
 use lib.ListN.{length, length-set}

@@ -1,7 +1,8 @@
 use mathlib.Core.Path.{ap, _∙_}
 use Prim.Native.Nat.{ℕ}
 use Rattle.verdict.specs.Verdicts.{stated}
-use Rattle.verdict.proofs.Verdicts.{verdict-stated, zeros-same}
+use Rattle.verdict.proofs.Verdicts.{verdict-stated}
+use Rattle.model.proofs.Closing.{zeros-same}
 use borrow.Author.Needs.{needs}
 use Rattle.verdict.proofs.answer_limit.Statement.{statement}
 use Rattle.verdict.proofs.answer_limit.Tie as tie
@@ -26,7 +27,7 @@ returns c =
     let a = c .before .before .before .before .before .before .before .before .before .before .before .before .before .args in
     let f = c .before .before .before .before .before .before .before .before .find in
     let given = verdict-stated (c .before .before .before .before .before .before .before .before .before .before .before .before .before .pre) (f .result) (f .last .1 .1 .1 .0) (f .ensures) in
-    (c .stated-verdict .ensures ∙ ap (λ (k : ℕ). stated (f .result) k (a .rounds)) (c .before .as-u32 .ensures) ∙ given, zeros-same (a .scratch .now) (f .last .1 .1 .1 .0) (c .before .before .before .before .clear .last .0) (f .kept .1 .1 .1 .0) (c .before .before .before .before .clear .ensures))
+    (c .stated-verdict .ensures ∙ ap (λ (k : ℕ). stated (f .result) k (a .rounds)) (c .before .as-u32 .ensures) ∙ given, c .before .before .before .before .clear .ensures ∙ zeros-same (f .last .1 .1 .1 .0) (a .scratch .now) (f .kept .1 .1 .1 .0))
 
 pub answer-limit-spec : {M : Type 1} → statement M
 answer-limit-spec =

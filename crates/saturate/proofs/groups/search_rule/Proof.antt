@@ -7,8 +7,8 @@ use Rattle.model.specs.Tables.{writtenPlaces}
 use Rattle.search.specs.Jobs.{placeList}
 use Rattle.search.specs.declared.Places.{Places}
 use Rattle.table.proofs.Layouts.{table-modest}
-use Rattle.model.proofs.Tests.{not-true}
-use Rattle.saturate.proofs.Stages.{not-false, rule-searchable, rule-standing, rule-offered, rule-passed, rule-taken, looked-at, no-places}
+use Rattle.model.proofs.Tests.{not-true, not-false}
+use Rattle.saturate.proofs.Stages.{rule-searchable, rule-standing, rule-offered, rule-passed, rule-taken, looked-at, no-places}
 use native.Mathlib.Omega.{arith}
 use lib.ListN.{length, length-set}
 use borrow.Author.Needs.{needs}
