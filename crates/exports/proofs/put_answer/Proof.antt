@@ -1,0 +1,71 @@
+use mathlib.Core.Path.{_≡_, ap, sym, _∙_}
+use Rattle.model.specs.Calls.{answerFigures}
+use Rattle.model.specs.declared.Answered.{Answered}
+use Rattle.exports.specs.Figures.{sixteen}
+use native.Mathlib.Omega.{arith}
+use lib.ListN.{length, length-set}
+use borrow.Author.Needs.{needs}
+use Rattle.exports.proofs.put_answer.Statement.{statement}
+use Rattle.exports.proofs.put_answer.Tie as tie
+use Rattle.exports.proofs.put_answer.Reads as reads
+use Rattle.exports.proofs.put_answer.Lts as lts
+use Rattle.exports.proofs.put.Reads as put-reads
+
+-- src/lib.rt:48:13
+enum-known-a : tie.Need-enum-known-a
+enum-known-a c = search needs
+
+-- src/lib.rt:52:13
+put-requires : tie.Need-put-requires
+put-requires c κs = search needs
+
+-- src/lib.rt:55:13
+enum-known-a-2 : tie.Need-enum-known-a-2
+enum-known-a-2 c = search needs
+
+-- src/lib.rt:58:13
+put-requires-2 : tie.Need-put-requires-2
+put-requires-2 c κs = search needs
+
+-- src/lib.rt:60:29
+enum-known-a-3 : tie.Need-enum-known-a-3
+enum-known-a-3 c = search needs
+
+-- src/lib.rt:61:13
+put-requires-3 : tie.Need-put-requires-3
+put-requires-3 c κs = search needs
+
+-- src/lib.rt:43:1
+returns : tie.Need-returns
+returns c =
+    let g = c .before .before .before .a .given in
+    let e : c .before .before .before .before .before .args .a ≡ Answered.Reachable (g .0 .0) (g .0 .1 .0) (g .0 .1 .1 .0) = g .1 in
+    c .put .ensures ∙ sym (ap (λ (a : Answered). sixteen (answerFigures a)) e)
+
+-- src/lib.rt:43:1
+returns-2 : tie.Need-returns-2
+returns-2 c =
+    let g = c .before .before .before .a2 .given in
+    let e : c .before .before .before .before .before .args .a ≡ Answered.Unreachable (g .0 .0) (g .0 .1 .0) = g .1 in
+    c .put2 .ensures ∙ sym (ap (λ (a : Answered). sixteen (answerFigures a)) e)
+
+-- src/lib.rt:43:1
+returns-3 : tie.Need-returns-3
+returns-3 c =
+    let g = c .before .before .before .a3 .given in
+    let e : c .before .before .before .before .before .args .a ≡ Answered.Refused (g .0 .0) (g .0 .1 .0) = g .1 in
+    c .put3 .ensures ∙ sym (ap (λ (a : Answered). sixteen (answerFigures a)) e)
+
+pub put-answer-spec : {M : Type 1} → statement M
+put-answer-spec =
+    tie.close
+    (tie.spec
+    enum-known-a
+    put-requires
+    enum-known-a-2
+    put-requires-2
+    enum-known-a-3
+    put-requires-3
+    returns
+    returns-2
+    returns-3)

@@ -1,0 +1,39 @@
+use mathlib.Core.Path.{ap, _∙_}
+use Rattle.model.specs.Calls.{answerFigures}
+use Rattle.model.specs.declared.Answered.{Answered}
+use Rattle.exports.specs.Figures.{sixteen}
+use native.Mathlib.Omega.{arith}
+use lib.ListN.{length, length-set}
+use borrow.Author.Needs.{needs}
+use Rattle.exports.proofs.roskavel_answer.Statement.{statement}
+use Rattle.exports.proofs.roskavel_answer.Tie as tie
+use Rattle.exports.proofs.roskavel_answer.Reads as reads
+use Rattle.exports.proofs.roskavel_answer.Lts as lts
+use Rattle.exports.proofs.put_answer.Reads as put-answer-reads
+use Rattle.reach.proofs.answer.Reads as answer-reads
+
+-- src/lib.rt:160:9
+answer-requires : tie.Need-answer-requires
+answer-requires c κs = search needs
+
+-- src/lib.rt:161:5
+put-answer-requires : tie.Need-put-answer-requires
+put-answer-requires c κs = search needs
+
+-- src/lib.rt:151:1
+same-length : tie.Need-same-length
+same-length c = search needs
+
+-- src/lib.rt:151:1
+same-length-2 : tie.Need-same-length-2
+same-length-2 c = search needs
+
+-- src/lib.rt:151:1
+returns : tie.Need-returns
+returns c =
+    let o = c .before .before .before .before .before .before .answer .ensures .0 in
+    record { figures = c .put-answer .ensures ∙ ap (λ (a : Answered). sixteen (answerFigures a)) (o .answer); log = o .log-left; scratch = o .scratch-left }
+
+pub roskavel-answer-spec : {M : Type 1} → statement M
+roskavel-answer-spec =
+    tie.close (tie.spec answer-requires put-answer-requires same-length same-length-2 returns)

@@ -1,0 +1,44 @@
+use mathlib.Core.Path.{ap, _∙_}
+use Rattle.model.specs.Calls.{runFigures}
+use Rattle.model.specs.declared.Ran.{Ran}
+use Rattle.exports.specs.Figures.{sixteen}
+use native.Mathlib.Omega.{arith}
+use lib.ListN.{length, length-set}
+use borrow.Author.Needs.{needs}
+use Rattle.exports.proofs.roskavel_run.Statement.{statement}
+use Rattle.exports.proofs.roskavel_run.Tie as tie
+use Rattle.exports.proofs.roskavel_run.Reads as reads
+use Rattle.exports.proofs.roskavel_run.Lts as lts
+use Rattle.exports.proofs.put_run.Reads as put-run-reads
+use Rattle.reach.proofs.run.Reads as run-reads
+
+-- src/lib.rt:175:9
+run-requires : tie.Need-run-requires
+run-requires c κs = search needs
+
+-- src/lib.rt:176:5
+put-run-requires : tie.Need-put-run-requires
+put-run-requires c κs = search needs
+
+-- src/lib.rt:165:1
+same-length : tie.Need-same-length
+same-length c = search needs
+
+-- src/lib.rt:165:1
+same-length-2 : tie.Need-same-length-2
+same-length-2 c = search needs
+
+-- src/lib.rt:165:1
+same-length-3 : tie.Need-same-length-3
+same-length-3 c = search needs
+
+-- src/lib.rt:165:1
+returns : tie.Need-returns
+returns c =
+    let o = c .before .before .before .before .before .before .before .before .run .ensures .0 in
+    record { figures = c .put-run .ensures ∙ ap (λ (a : Ran). sixteen (runFigures a)) (o .answer); log = o .log-left; scratch = o .scratch-left; page = o .page-left }
+
+pub roskavel-run-spec : {M : Type 1} → statement M
+roskavel-run-spec =
+    tie.close
+    (tie.spec run-requires put-run-requires same-length same-length-2 same-length-3 returns)

@@ -1,0 +1,153 @@
+// The three calls for C and Rust: slices as pointer and length, the answer as 16 numbers.
+use model::Answered;
+use model::Ran;
+ghost use mathlib.Core.Path.{_≡_};
+ghost use mathlib.Core.List.{_∷_, [], _++_};
+ghost use lib.ListN.{length};
+ghost use Rattle.model.specs.Calls.{answerCall, runCall, walkCall, answerFigures, runFigures};
+ghost use Rattle.exports.specs.Figures.{sixteen, AnswerLeaves, RunLeaves, WalkLeaves};
+
+// The figures of an answer or a run; a place that a case does not name is 0.
+fn put(
+    figures: &mut [u64; 16],
+    number: u8,
+    place: usize,
+    verdict: u64,
+    transitions: u32,
+    rounds: u32,
+    steps: u32,
+    peak: u32,
+)
+    ensures { λ _. ⌜ now (figures .exit) ≡ sixteen (number ∷ place ∷ verdict ∷ transitions ∷ rounds ∷ steps ∷ peak ∷ []) ⌝ }
+{
+    *figures = [
+        number as u64,
+        place as u64,
+        verdict,
+        transitions as u64,
+        rounds as u64,
+        steps as u64,
+        peak as u64,
+        0,
+        0,
+        0,
+        0,
+        0,
+        0,
+        0,
+        0,
+        0,
+    ];
+}
+
+fn put_answer(figures: &mut [u64; 16], a: Answered)
+    ensures { λ _. ⌜ now (figures .exit) ≡ sixteen (answerFigures a) ⌝ }
+{
+    match a {
+        Answered::Reachable {
+            transitions,
+            rounds,
+            steps,
+        } => {
+            put(figures, 0, 0, 1, transitions, rounds, steps, 0);
+        }
+        Answered::Unreachable {
+            transitions,
+            rounds,
+        } => {
+            put(figures, 0, 0, 0, transitions, rounds, 0, 0);
+        }
+        Answered::Refused { number, place } => {
+            put(figures, number, place, 0, 0, 0, 0, 0);
+        }
+    }
+}
+
+fn put_run(figures: &mut [u64; 16], r: Ran)
+    ensures { λ _. ⌜ now (figures .exit) ≡ sixteen (runFigures r) ⌝ }
+{
+    match r {
+        Ran::Reached {
+            transitions,
+            rounds,
+            steps,
+            peak,
+        } => {
+            put(figures, 0, 0, 1, transitions, rounds, steps, peak);
+        }
+        Ran::Refused { number, place } => {
+            put(figures, number, place, 0, 0, 0, 0, 0);
+        }
+    }
+}
+
+// The walk's eight figures, then where the part handed back begins.
+fn put_walk(figures: &mut [u64; 16], values: &[u64; 8], from: usize)
+    requires { ⌜ length (now values) ≡ 8 ⌝ }
+    ensures { λ _. ⌜ now (figures .exit) ≡ sixteen (now (values .entry) ++ (from ∷ [])) ⌝ }
+{
+    *figures = [
+        values[0],
+        values[1],
+        values[2],
+        values[3],
+        values[4],
+        values[5],
+        values[6],
+        values[7],
+        from as u64,
+        0,
+        0,
+        0,
+        0,
+        0,
+        0,
+        0,
+    ];
+}
+
+// Document 01, the answer call.
+#[no_mangle]
+pub extern "C" fn roskavel_answer(
+    table: &[u8],
+    log: &mut [u8],
+    scratch: &mut [u8],
+    figures: &mut [u64; 16],
+)
+    ensures { λ _. ⌜ AnswerLeaves (answerCall (now (table .entry)) (now (log .entry)) (now (scratch .entry))) (now (figures .exit)) (now (log .exit)) (now (scratch .exit)) ⌝ }
+{
+    let a = reach::answer(table, log, scratch);
+    put_answer(figures, a);
+}
+
+// Document 01, the run call.
+#[no_mangle]
+pub extern "C" fn roskavel_run(
+    table: &[u8],
+    log: &mut [u8],
+    scratch: &mut [u8],
+    page: &mut [u16],
+    figures: &mut [u64; 16],
+)
+    ensures { λ _. ⌜ RunLeaves (runCall (now (table .entry)) (now (log .entry)) (now (scratch .entry)) (now (page .entry))) (now (figures .exit)) (now (log .exit)) (now (scratch .exit)) (now (page .exit)) ⌝ }
+{
+    let r = reach::run(table, log, scratch, page);
+    put_run(figures, r);
+}
+
+// Document 01, the walk call.
+#[no_mangle]
+pub extern "C" fn roskavel_walk(
+    table: &[u8],
+    rules: &[u16],
+    pile: &mut [u8],
+    scratch: &mut [u8],
+    figures: &mut [u64; 16],
+)
+    ensures { λ _. ⌜ WalkLeaves (walkCall (now (table .entry)) (now (rules .entry)) (now (pile .entry)) (now (scratch .entry))) (length (now (rules .entry))) (now (figures .exit)) (now (pile .exit)) (now (scratch .exit)) ⌝ }
+{
+    let mut values = [0u64; 8];
+    let rest = walk::walk(table, rules, pile, scratch, &mut values);
+    let from = rules.len() - rest.len();
+    put_walk(figures, &values, from);
+}
