@@ -22,6 +22,7 @@ pub mod Rounds
 pub mod Reasons
 pub mod Tables
 pub mod Closing
+pub mod Prefixes
 pub mod Demands
 pub mod Theorems
 pub mod GreedyPath
