@@ -1,0 +1,243 @@
+//! Small tables, accepted and refused, and the calls that are made of them.
+
+use crate::equations::Equation;
+use second_engine::{Answer, Refusal, Run, Walk, answer, run, scratch_needed, walk};
+use tables::random::{self, Shape};
+use tables::{Rng, damage, named};
+
+/// How many random tables, and how many damaged ones.
+const EACH: usize = 150;
+
+/// Limits of more records and longer runs are left out: the checker computes them slowly.
+const RECORDS: usize = 24;
+const STEPS: usize = 24;
+
+/// What a lent buffer holds before.
+const DIRT: u8 = 7;
+
+/// A call with the lengths of its lent buffers.
+pub enum Call {
+    Answer {
+        log: usize,
+        scratch: usize,
+    },
+    Run {
+        log: usize,
+        scratch: usize,
+        page: usize,
+    },
+    Walk {
+        rules: Vec<u16>,
+        pile: usize,
+        scratch: usize,
+    },
+}
+
+pub struct Case {
+    table: Vec<u8>,
+    call: Call,
+}
+
+/// The small tables of document 01, random ones and damaged ones, each with one of the calls.
+pub fn all(seed: u64) -> Vec<Case> {
+    let mut rng = Rng::new(seed);
+    let mut tables: Vec<Vec<u8>> = Vec::new();
+    let named = named::all().into_iter().map(|(_, table)| table.bytes());
+    tables.extend(named.filter(|table| is_small(table)));
+    while tables.len() < EACH {
+        let table = random::table(&mut rng, &Shape::TINY).bytes();
+        if is_small(&table) {
+            tables.push(table);
+        }
+    }
+    while tables.len() < 2 * EACH {
+        let whole = random::table(&mut rng, &Shape::TINY);
+        let table = damage::damaged(&mut rng, &whole);
+        if is_small(&table) {
+            tables.push(table);
+        }
+    }
+    let calls = tables.into_iter().enumerate();
+    calls
+        .map(|(number, table)| Case {
+            call: call(&mut rng, number, &table),
+            table,
+        })
+        .collect()
+}
+
+/// The figures of a table with room for everything: its records, its run and the run's peak.
+struct Size {
+    records: usize,
+    run: Vec<u16>,
+    peak: usize,
+}
+
+fn size(table: &[u8]) -> Option<Size> {
+    let mut log = vec![0; 24 * (RECORDS + 1)];
+    let mut scratch = vec![0; scratch_needed(log.len())];
+    let mut page = vec![0; STEPS];
+    let (records, steps, peak) = match run(table, &mut log, &mut scratch, &mut page) {
+        Run::Reachable {
+            transitions,
+            steps,
+            peak,
+            ..
+        } => (transitions, steps as usize, peak as usize),
+        Run::Refused(Refusal {
+            number: 10 | 11, ..
+        }) => return None,
+        Run::Refused(_) => match answer(table, &mut log, &mut scratch) {
+            Answer::Unreachable { transitions, .. } => (transitions, 0, 0),
+            _ => (0, 0, 0),
+        },
+    };
+    page.truncate(steps);
+    Some(Size {
+        records: records as usize,
+        run: page,
+        peak,
+    })
+}
+
+fn is_small(table: &[u8]) -> bool {
+    table.len() <= 400 && size(table).is_some_and(|size| size.records <= RECORDS)
+}
+
+/// Each call in turn, its buffers about as long as it needs them.
+fn call(rng: &mut Rng, number: usize, table: &[u8]) -> Call {
+    let size = size(table).expect("a small table");
+    let log = (24 * size.records + *rng.pick(&[0, 0, 0, 1, 30])).saturating_sub(rng.below(8) / 7);
+    let needed = scratch_needed(log);
+    let scratch = needed + rng.below(2) - rng.below(12) / 11;
+    match number % 3 {
+        0 => Call::Answer { log, scratch },
+        1 => Call::Run {
+            log,
+            scratch,
+            page: (size.run.len() + rng.below(4)).saturating_sub(rng.below(5) / 4),
+        },
+        _ => Call::Walk {
+            rules: list(rng, size.run),
+            pile: (size.peak + rng.below(6)).saturating_sub(rng.below(3)),
+            scratch: 2_048 + rng.below(2) - rng.below(12) / 11,
+        },
+    }
+}
+
+/// A run, at times with a rule changed or more rules behind it.
+fn list(rng: &mut Rng, mut run: Vec<u16>) -> Vec<u16> {
+    if rng.chance(1, 2) {
+        let at = rng.below(run.len() + 1);
+        run.truncate(at);
+        for _ in 0..rng.below(5) {
+            run.push(rng.below(9) as u16);
+        }
+    }
+    run
+}
+
+impl Case {
+    /// What the second engine gives: the figures, and what is left in the buffers.
+    pub fn equation(&self) -> Equation {
+        let table = numbers(&self.table);
+        match &self.call {
+            &Call::Answer { log, scratch } => {
+                let (mut log, mut scratch) = (vec![DIRT; log], vec![DIRT; scratch]);
+                let left = format!("(answered {table} {} {})", log.len(), scratch.len());
+                let figures = answer_figures(answer(&self.table, &mut log, &mut scratch));
+                Equation::new(left, vec![figures, wide(&log), front(&scratch)])
+            }
+            &Call::Run { log, scratch, page } => {
+                let (mut log, mut scratch) = (vec![DIRT; log], vec![DIRT; scratch]);
+                let mut page = vec![u16::from(DIRT); page];
+                let lengths = [log.len(), scratch.len(), page.len()].map(|n| n.to_string());
+                let left = format!("(ran {table} {})", lengths.join(" "));
+                let figures = run_figures(run(&self.table, &mut log, &mut scratch, &mut page));
+                Equation::new(
+                    left,
+                    vec![figures, wide(&log), front(&scratch), wide(&page)],
+                )
+            }
+            Call::Walk {
+                rules,
+                pile,
+                scratch,
+            } => {
+                let (mut pile, mut scratch) = (vec![DIRT; *pile], vec![DIRT; *scratch]);
+                let list = numbers(rules);
+                let left = format!("(walked {table} {list} {} {})", pile.len(), scratch.len());
+                let (figures, rest) =
+                    walk_figures(walk(&self.table, rules, &mut pile, &mut scratch));
+                Equation::new(
+                    left,
+                    vec![figures, wide(&rules[rest..]), wide(&pile), front(&scratch)],
+                )
+            }
+        }
+    }
+}
+
+fn answer_figures(answer: Answer) -> Vec<u64> {
+    match answer {
+        Answer::Reachable {
+            transitions,
+            rounds,
+            steps,
+        } => wide(&[0, 0, 1, transitions, rounds, steps]),
+        Answer::Unreachable {
+            transitions,
+            rounds,
+        } => wide(&[0, 0, 0, transitions, rounds, 0]),
+        Answer::Refused(refusal) => refused(refusal, 6),
+    }
+}
+
+fn run_figures(run: Run) -> Vec<u64> {
+    match run {
+        Run::Reachable {
+            transitions,
+            rounds,
+            steps,
+            peak,
+        } => wide(&[0, 0, 1, transitions, rounds, steps, peak]),
+        Run::Refused(refusal) => refused(refusal, 7),
+    }
+}
+
+fn walk_figures(walk: Walk) -> (Vec<u64>, usize) {
+    match walk {
+        Walk::Walked {
+            states,
+            length,
+            watched,
+            rest,
+        } => {
+            let mut figures = vec![0, 0, u64::from(watched), length as u64];
+            figures.extend(states.map(u64::from));
+            (figures, rest)
+        }
+        Walk::Refused { refusal, rest } => (refused(refusal, 8), rest),
+    }
+}
+
+/// A refusal's figures: its number, its place, and zeros.
+fn refused(refusal: Refusal, length: usize) -> Vec<u64> {
+    let mut figures = vec![0; length];
+    figures[0] = u64::from(refusal.number);
+    figures[1] = refusal.place as u64;
+    figures
+}
+
+fn wide<N: Copy + Into<u64>>(list: &[N]) -> Vec<u64> {
+    list.iter().map(|&number| number.into()).collect()
+}
+
+/// The scratch is left as it was or zero, so that its first bytes tell.
+fn front(scratch: &[u8]) -> Vec<u64> {
+    wide(&scratch[..scratch.len().min(3)])
+}
+
+fn numbers<N: Copy + Into<u64>>(list: &[N]) -> String {
+    crate::equations::list(&wide(list))
+}

@@ -1,0 +1,73 @@
+//! Equations between what the definitions give and lists of numbers, as text for the checker.
+
+/// What stands before the equations: the calls' outcomes as lists of numbers.
+const HEAD: &str = "\
+-- What the definitions give for small tables, beside what the second engine gives.
+use mathlib.Core.Path.{_≡_, refl}
+use mathlib.Core.List.{List, [], _∷_}
+use Prim.Native.Nat.{ℕ}
+use lib.ListN.{take}
+use Rattle.model.specs.Groups.{sameGroup, restrict, merge}
+use Rattle.model.specs.Words.{tops}
+use Rattle.model.specs.Systems.{enabled, fire}
+use Rattle.model.specs.Tables.{isOutOfTurn, groupFits, transitionFits, writtenFit, valueFits, cooperates, leavesControl, isTwin, refusal, readFrom, read, systemOf}
+use Rattle.model.specs.Log.{readsAt, keyLess, sameKey, additions, logAt, firstSaturated, saturatedAt}
+use Rattle.model.specs.Unfolding.{acceptingPath, emittedBy}
+use Rattle.model.specs.Records.{recordBytes}
+use Rattle.model.specs.Calls.{recordsOf, runOf, scratchAfter, logAfter, pageAfter, answerGiven, answerCall, runCall, walkCall, answerFigures, runGiven, runFigures, walkGiven, walkFigures}
+use Rattle.model.specs.SmallTables.{used}
+
+abbrev answered : List ℕ → ℕ → ℕ → List (List ℕ)
+answered table log scratch =
+    let o = answerCall table (used log) (used scratch) in answerFigures (o .answer) ∷ o .log ∷ take 3 (o .scratch) ∷ []
+
+abbrev ran : List ℕ → ℕ → ℕ → ℕ → List (List ℕ)
+ran table log scratch page =
+    let o = runCall table (used log) (used scratch) (used page) in runFigures (o .answer) ∷ o .log ∷ take 3 (o .scratch) ∷ o .page ∷ []
+
+abbrev walked : List ℕ → List ℕ → ℕ → ℕ → List (List ℕ)
+walked table list pile scratch =
+    let o = walkCall table list (used pile) (used scratch) in walkFigures (o .answer) ∷ o .rest ∷ o .pile ∷ take 3 (o .scratch) ∷ []
+";
+
+/// The definitions that an equation may unfold.
+const UNFOLDING: &str = "unfolding sameGroup restrict merge tops enabled fire isOutOfTurn groupFits transitionFits writtenFit valueFits cooperates leavesControl isTwin refusal readFrom read systemOf readsAt keyLess sameKey additions logAt firstSaturated saturatedAt acceptingPath emittedBy recordBytes recordsOf runOf scratchAfter logAfter pageAfter answerGiven answerCall runGiven runCall walkGiven walkCall";
+
+/// A call's outcome by the definitions, and the lists that it shall be.
+pub struct Equation {
+    left: String,
+    right: Vec<Vec<u64>>,
+}
+
+impl Equation {
+    pub fn new(left: String, right: Vec<Vec<u64>>) -> Self {
+        Equation { left, right }
+    }
+
+    /// Makes the call's first figure wrong.
+    pub fn falsify(&mut self) {
+        self.right[0][0] += 1;
+    }
+}
+
+/// The equations, each with a name of its own.
+pub fn module(equations: &[Equation]) -> String {
+    let mut text = HEAD.to_string();
+    for (number, Equation { left, right }) in equations.iter().enumerate() {
+        let lists: Vec<String> = right.iter().map(|numbers| list(numbers)).collect();
+        let right = lists.join(" ∷ ");
+        text.push_str(&format!(
+            "\ncase-{number} : {left} ≡ ({right} ∷ [])\n{UNFOLDING}\ncase-{number} = refl\n"
+        ));
+    }
+    text
+}
+
+/// A list of numbers, in brackets.
+pub fn list(numbers: &[u64]) -> String {
+    let items: String = numbers
+        .iter()
+        .map(|number| format!("{number} ∷ "))
+        .collect();
+    format!("({items}[])")
+}
