@@ -26,8 +26,8 @@ use Rattle.saturate.specs.declared.groups.Stage.{Stage}
 use Rattle.table.specs.declared.Table.{Table}
 use Rattle.automaton.specs.StateNumbers.{Over, stateCount, stateNumber}
 use Rattle.records.specs.Entries.{Fits}
-use Rattle.saturate.specs.Ends.{HeldMarked, Placed, firstFor, heldEnd, hit, newBelow}
-use Rattle.saturate.specs.Heads.{isActive}
+use Rattle.ends.specs.Ends.{HeldMarked, Placed, firstFor, heldEnd, hit, newBelow}
+use Rattle.heads.specs.Heads.{isActive}
 use Rattle.saturate.specs.Rounds.{Cleared, Found, GroupAdded, GroupFull, InRound, Offered, Staged, earlierLog, filling, lookedAt, ruleCandidates, ruleOffers, stageAdditions, stageCandidates}
 use Rattle.search.specs.Jobs.{chainsAt, finishedAt, glances, marksOf, placeIn, placesAt, tailOf, visitIn}
 use Rattle.search.specs.Visits.{Visit, endNumber, offer, offerAll}
@@ -37,10 +37,10 @@ use Rattle.logs.proofs.Logs.{Keyed, candidates-over, log-fits, log-over}
 use Rattle.logs.proofs.Rules.{each-both, rule-drop}
 use Rattle.saturate.proofs.Arriving.{marks-law}
 use Rattle.saturate.proofs.Choosing.{InGroup, chosen-is, firstCandidate, picked}
-use Rattle.saturate.proofs.Chunks.{chunk}
+use Rattle.ends.proofs.Chunks.{chunk}
 use Rattle.saturate.proofs.Filling.{Fillable, fill-law, fill-length, fill-outside}
 use Rattle.saturate.proofs.Matching.{glances-keys}
-use Rattle.saturate.proofs.Ranks.{assembled, isNew, rank, rank-apart, rank-less}
+use Rattle.ends.proofs.Ranks.{assembled, isNew, rank, rank-apart, rank-less}
 use Rattle.saturate.proofs.Stages.{round-kept, staged-kept}
 use Rattle.table.proofs.Layouts.{rules-count}
 

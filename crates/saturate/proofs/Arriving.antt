@@ -12,7 +12,7 @@ use Rattle.model.specs.Lists.{Each}
 use Rattle.model.specs.Log.{Candidate, Record}
 use Rattle.model.proofs.Lists.{each-map}
 use Rattle.model.proofs.Tests.{by-test}
-use Rattle.saturate.specs.Ends.{hit}
+use Rattle.ends.specs.Ends.{hit}
 use Rattle.search.specs.Visits.{Visit, endNumber, fromMark, offer, offerAll, toMark}
 use Rattle.search.proofs.Searching.{joined}
 use Rattle.search.proofs.Visits.{length-offer}

@@ -25,10 +25,10 @@ use Rattle.model.proofs.Tests.{and-both, and-left, and-right, by-test, not-true
 use Rattle.model.proofs.UniqueRound.{chosen-collect}
 use Rattle.automaton.specs.StateNumbers.{Over, stateCount, stateNumber}
 use Rattle.automaton.specs.StateSets.{member}
-use Rattle.saturate.specs.Ends.{firstFor, heldEnd, hit, newBelow}
+use Rattle.ends.specs.Ends.{firstFor, heldEnd, hit, newBelow}
 use Rattle.search.specs.Visits.{endNumber}
 use Rattle.automaton.proofs.StateNumbers.{number-injective, number-order, stateNumber-below}
-use Rattle.saturate.proofs.Ranks.{below-each, isNew, new-member}
+use Rattle.ends.proofs.Ranks.{below-each, isNew, new-member}
 
 -- ---- lists of candidates
 first-all : (k : Transition) (cs : List Candidate) → firstOf k cs ≡ none → Each (λ (c : Candidate). sameKey (c .key) k ≡ false) cs

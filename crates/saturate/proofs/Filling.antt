@@ -18,10 +18,10 @@ use Rattle.model.proofs.Lists.{each-map}
 use Rattle.model.proofs.Tables.{passes}
 use Rattle.model.proofs.Tests.{by-test}
 use Rattle.records.specs.Entries.{HasRecord, recordEntry, withEntry}
-use Rattle.saturate.specs.Ends.{firstFor}
+use Rattle.ends.specs.Ends.{firstFor}
 use Rattle.search.specs.Visits.{Visit, endNumber, offer, offerAll}
 use Rattle.records.proofs.Entries.{length-with}
-use Rattle.saturate.proofs.Chunks.{chunk, chunk-other, chunk-same, with-byte}
+use Rattle.ends.proofs.Chunks.{chunk, chunk-other, chunk-same, with-byte}
 use Rattle.search.proofs.Visits.{length-offer, offer-visited, visited-kept}
 
 -- `place` gives the new ends places of their own among m from p₀ on

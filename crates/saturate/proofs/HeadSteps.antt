@@ -24,22 +24,22 @@ use Rattle.model.proofs.Skipping.{freshIn}
 use Rattle.model.proofs.Tests.{by-test, or-right}
 use Rattle.saturate.specs.declared.groups.Added.{Added}
 use Rattle.saturate.specs.declared.groups.Added.the-variants.{Full, Records}
-use Rattle.saturate.specs.declared.heads.Head.{Head}
-use Rattle.saturate.specs.declared.heads.Head.the-variants.{At, Outside}
+use Rattle.heads.specs.declared.Head.{Head}
+use Rattle.heads.specs.declared.Head.the-variants.{At, Outside}
 use Rattle.saturate.specs.declared.groups.Stage.{Stage}
 use Rattle.table.specs.declared.Table.{Table}
 use Rattle.chains.specs.Buckets.{ChainRoom, Chained, SameOutside}
-use Rattle.saturate.specs.Heads.{activeAt, activeIn, digitsOf, isActive, nextHead}
+use Rattle.heads.specs.Heads.{activeAt, activeIn, digitsOf, isActive, nextHead}
 use Rattle.saturate.specs.Limits.{AtHead, RoundAdded, RoundBegins, RoundDone, RoundFull, logUpTo, rulesAfter}
-use Rattle.saturate.specs.Marking.{Marked, activeBy, byteFor, freshEnd}
+use Rattle.heads.specs.Marking.{Marked, activeBy, byteFor, freshEnd}
 use Rattle.saturate.specs.Rounds.{GroupAdded, GroupDone, GroupFull, InRound, earlierLog, stageAdditions}
 use Rattle.search.specs.Jobs.{chainsAt}
 use Rattle.table.specs.Reading.{Holds, ruleIn, systemIn}
 use Rattle.chains.proofs.Buckets.{chained-scratch}
 use Rattle.logs.proofs.Logs.{log-fits, skip-stale}
 use Rattle.records.proofs.Entries.{log-append}
-use Rattle.saturate.proofs.Marking.{looked-at}
-use Rattle.saturate.proofs.NextHead.{IsNext, next-outside, next-at}
+use Rattle.heads.proofs.Marking.{looked-at}
+use Rattle.heads.proofs.NextHead.{IsNext, next-outside, next-at}
 use Rattle.table.proofs.Layouts.{rules-count}
 
 abbrev Passed : System → ℕ → ℕ → Rule → Type 0

@@ -1,16 +1,9 @@
 pub mod Arriving
-pub mod Chunks
 pub mod Filling
-pub mod Ranks
 pub mod Choosing
-pub mod HeadOrder
-pub mod EndLoops
 pub mod Matching
-pub mod NextHead
 pub mod Stages
 pub mod GroupParts
 pub mod Adding
-pub mod Marking
-pub mod Selecting
 pub mod HeadSteps
 pub mod Saturating

@@ -25,11 +25,11 @@ use Rattle.saturate.specs.declared.Saturated.the-variants.{Limit}
 use Rattle.saturate.specs.declared.Saturated.the-variants as Saturated
 use Rattle.table.specs.declared.Table.{Table}
 use Rattle.saturate.specs.Limits.{Logged, RoundBegins, RoundCounted, RoundDone, SaturatedDone, SaturatedFull, SaturatedLimit, countOrOver}
-use Rattle.saturate.specs.Selecting.{initialLog, withInitial}
+use Rattle.initial.specs.Selecting.{initialLog, withInitial}
 use Rattle.table.specs.Reading.{Holds, itemsIn, systemIn}
 use Rattle.logs.proofs.Rules.{transitions-distinct}
 use Rattle.records.proofs.Entries.{length-log}
-use Rattle.saturate.proofs.Selecting.{initial-length}
+use Rattle.initial.proofs.Selecting.{initial-length}
 use Rattle.table.proofs.Readings.{holds-complete}
 use Rattle.table.proofs.Layouts.{transitions-count}
 

@@ -25,7 +25,7 @@ use Rattle.table.specs.declared.Table.{Table}
 use Rattle.automaton.specs.StateNumbers.{Over, stateCount}
 use Rattle.automaton.specs.StateSets.{member}
 use Rattle.records.specs.Entries.{Fits, HasRecord, Reads, afterAt, letterAt}
-use Rattle.saturate.specs.Heads.{activeAt, activeIn}
+use Rattle.heads.specs.Heads.{activeAt, activeIn}
 use Rattle.saturate.specs.Rounds.{Cleared, InRound, Offered, StageJob, Staged, earlierLog, lookedAt, ruleCandidates, ruleOffers, stageCandidates}
 use Rattle.search.specs.Jobs.{Searchable, Searched, Standing, bitsOf, chainsAt, finishedAt, finishedEnd, glances, isFinished, jobLoc, jobWord, letterOf, marksOf, offers, placeIn, placeList, tailOf, visitIn}
 use Rattle.search.specs.Visits.{Visit, fromMark, offer, offerAll}

@@ -9,11 +9,11 @@ use Rattle.model.specs.Records.{recordLength, logBytes}
 use Rattle.model.proofs.RoundGroups.{filter, ruleHead, upTo}
 use Rattle.table.specs.declared.Table.{Table}
 use Rattle.table.specs.Reading.{Holds, systemIn}
-use Rattle.saturate.specs.Heads.{digitsOf}
+use Rattle.heads.specs.Heads.{digitsOf}
 use Rattle.saturate.specs.Rounds.{InRound, earlierLog}
 use Rattle.saturate.specs.declared.groups.Added.{Added}
 use Rattle.saturate.specs.declared.groups.Added.the-variants.{Records, Full}
-use Rattle.saturate.specs.declared.heads.Head.{Head}
+use Rattle.heads.specs.declared.Head.{Head}
 use Rattle.saturate.specs.declared.Saturated.{Saturated}
 use Rattle.saturate.specs.declared.Saturated.the-variants.{Limit}
 use Rattle.saturate.specs.declared.Saturated.the-variants as Saturated

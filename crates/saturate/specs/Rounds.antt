@@ -20,8 +20,8 @@ use Rattle.table.specs.Reading.{Holds, ruleIn, systemIn}
 use Rattle.search.specs.declared.Job.{Job}
 use Rattle.search.specs.Visits.{offerAll}
 use Rattle.search.specs.Jobs.{chainsAt, finishedEnd, letterOf, bitsOf, marksOf, placeIn, tailOf, visitIn}
-use Rattle.saturate.specs.Ends.{heldEnd, hit, newBelow}
-use Rattle.saturate.specs.Heads.{activeIn, isActive}
+use Rattle.ends.specs.Ends.{heldEnd, hit, newBelow}
+use Rattle.heads.specs.Heads.{activeIn, isActive}
 use Rattle.saturate.specs.declared.groups.Added.{Added}
 use Rattle.saturate.specs.declared.groups.Added.the-variants.{Records, Full}
 use Rattle.saturate.specs.declared.groups.Stage.{Stage}

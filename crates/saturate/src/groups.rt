@@ -1,11 +1,11 @@
 // The rules of one head, letter and before states: what a round adds for them.
-use crate::activity::wide;
-use crate::ends::count_new;
-use crate::ends::mark_held;
-use crate::ends::place_new;
-use crate::heads::ACTIVE;
 use automaton::groups;
 use automaton::sets;
+use ends::count_new;
+use ends::mark_held;
+use ends::place_new;
+use heads::ACTIVE;
+use heads::activity::wide;
 use model::Group;
 use search::FINISHED;
 use search::FINISHED_END;
@@ -21,7 +21,7 @@ ghost use Rattle.model.specs.Groups.{processesOf};
 ghost use Rattle.model.specs.Records.{recordLength};
 ghost use Rattle.model.proofs.RoundGroups.{isHead};
 ghost use Rattle.table.specs.Reading.{Holds, ruleIn, systemIn};
-ghost use Rattle.saturate.specs.Heads.{activeAt, activeIn};
+ghost use Rattle.heads.specs.Heads.{activeAt, activeIn};
 ghost use Rattle.saturate.specs.Rounds.{InRound, Staged, StageJob, Offered, Cleared, Found, GroupDone, filling, stageCandidates, ruleOffers};
 
 // The head, the round with the records it starts from and the log's capacity, and whether ends are marked or their records written.

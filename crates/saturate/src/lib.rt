@@ -1,7 +1,7 @@
 // Saturation: the log of the limit, round by round.
 use crate::groups::Added;
-use crate::initial::write_initial;
 use crate::rounds::add_round;
+use initial::write_initial;
 use table::Table;
 ghost use mathlib.Core.Path.{_≡_};
 ghost use mathlib.Core.Bool.{_&&_};
@@ -12,11 +12,7 @@ ghost use Rattle.model.specs.Records.{recordLength};
 ghost use Rattle.table.specs.Reading.{Holds};
 ghost use Rattle.saturate.specs.Limits.{RoundBegins, RoundCounted, SaturatedDone, countOrOver};
 
-pub mod activity;
-pub mod ends;
 pub mod groups;
-pub mod heads;
-pub mod initial;
 pub mod rounds;
 
 // The number of the limit's records and of the last round that adds one, or that the log has no room for the limit.

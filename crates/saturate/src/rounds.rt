@@ -1,11 +1,11 @@
 // Rounds: each adds what its rules add to the records of the rounds before it.
-use crate::activity::mark_active;
 use crate::groups::Added;
 use crate::groups::Stage;
 use crate::groups::add_group;
-use crate::heads::Head;
-use crate::heads::next_head;
 use chains::build;
+use heads::Head;
+use heads::activity::mark_active;
+use heads::next_head;
 use search::CHAINS;
 use table::Table;
 ghost use Rattle.saturate.specs.Limits.{AtHead, RoundBegins, RoundDone, rulesAfter};

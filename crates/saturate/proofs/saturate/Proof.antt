@@ -11,7 +11,7 @@ use Rattle.saturate.proofs.saturate.Tie as tie
 use Rattle.saturate.proofs.saturate.Reads as reads
 use Rattle.saturate.proofs.saturate.Lts as lts
 use Rattle.saturate.proofs.add_rounds.Reads as add-rounds-reads
-use Rattle.saturate.proofs.initial.write_initial.Reads as write-initial-reads
+use Rattle.initial.proofs.write_initial.Reads as write-initial-reads
 
 -- src/lib.rt:82:9
 write-initial-requires : tie.Need-write-initial-requires

@@ -6,7 +6,7 @@ use Rattle.saturate.proofs.groups.add_group.Statement.{statement}
 use Rattle.saturate.proofs.groups.add_group.Tie as tie
 use Rattle.saturate.proofs.groups.add_group.Reads as reads
 use Rattle.saturate.proofs.groups.add_group.Lts as lts
-use Rattle.saturate.proofs.ends.place_new.Reads as place-new-reads
+use Rattle.ends.proofs.place_new.Reads as place-new-reads
 use Rattle.saturate.proofs.groups.filled.Reads as filled-reads
 use Rattle.saturate.proofs.groups.find_new.Reads as find-new-reads
 use Rattle.saturate.proofs.groups.search_rules.Reads as search-rules-reads

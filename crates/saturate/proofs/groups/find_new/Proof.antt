@@ -6,8 +6,8 @@ use Rattle.saturate.proofs.groups.find_new.Statement.{statement}
 use Rattle.saturate.proofs.groups.find_new.Tie as tie
 use Rattle.saturate.proofs.groups.find_new.Reads as reads
 use Rattle.saturate.proofs.groups.find_new.Lts as lts
-use Rattle.saturate.proofs.ends.count_new.Reads as count-new-reads
-use Rattle.saturate.proofs.ends.mark_held.Reads as mark-held-reads
+use Rattle.ends.proofs.count_new.Reads as count-new-reads
+use Rattle.ends.proofs.mark_held.Reads as mark-held-reads
 use Rattle.saturate.proofs.groups.clear.Reads as clear-reads
 use Rattle.saturate.proofs.groups.search_rules.Reads as search-rules-reads
 

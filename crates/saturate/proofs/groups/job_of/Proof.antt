@@ -12,7 +12,7 @@ use Rattle.saturate.proofs.groups.job_of.Statement.{statement}
 use Rattle.saturate.proofs.groups.job_of.Tie as tie
 use Rattle.saturate.proofs.groups.job_of.Reads as reads
 use Rattle.saturate.proofs.groups.job_of.Lts as lts
-use Rattle.saturate.proofs.activity.wide.Reads as wide-reads
+use Rattle.heads.proofs.activity.wide.Reads as wide-reads
 use Rattle.saturate.proofs.groups.word_bits.Reads as word-bits-reads
 use Rattle.saturate.proofs.groups.word_letter.Reads as word-letter-reads
 use Rattle.table.proofs.letter_bits.Reads as letter-bits-reads

@@ -9,7 +9,7 @@ use Rattle.saturate.proofs.groups.word_bits.Statement.{statement}
 use Rattle.saturate.proofs.groups.word_bits.Tie as tie
 use Rattle.saturate.proofs.groups.word_bits.Reads as reads
 use Rattle.saturate.proofs.groups.word_bits.Lts as lts
-use Rattle.saturate.proofs.activity.wide.Reads as wide-reads
+use Rattle.heads.proofs.activity.wide.Reads as wide-reads
 use Rattle.table.proofs.letter_bits.Reads as letter-bits-reads
 use Rattle.table.proofs.written_count.Reads as written-count-reads
 use Rattle.table.proofs.written_letter.Reads as written-letter-reads

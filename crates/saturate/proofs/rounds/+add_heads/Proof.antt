@@ -12,7 +12,7 @@ use Rattle.saturate.proofs.rounds.add_heads.Reads as add-heads
 use Rattle.saturate.proofs.rounds.add_heads.Kinds as add-heads-kinds
 use Rattle.saturate.proofs.rounds.+add_heads.Lts-add_heads as add-heads-lts
 use Rattle.saturate.proofs.groups.add_group.Reads as add-group-reads
-use Rattle.saturate.proofs.heads.next_head.Reads as next-head-reads
+use Rattle.heads.proofs.next_head.Reads as next-head-reads
 use Rattle.saturate.proofs.rounds.+add_heads.{statement}
 use Rattle.saturate.proofs.rounds.+add_heads.Tie.{close}
 

@@ -8,7 +8,7 @@ use Rattle.saturate.proofs.rounds.add_round.Tie as tie
 use Rattle.saturate.proofs.rounds.add_round.Reads as reads
 use Rattle.saturate.proofs.rounds.add_round.Lts as lts
 use Rattle.chains.proofs.build.Reads as build-reads
-use Rattle.saturate.proofs.activity.mark_active.Reads as mark-active-reads
+use Rattle.heads.proofs.activity.mark_active.Reads as mark-active-reads
 use Rattle.saturate.proofs.rounds.add_heads.Reads as add-heads-reads
 
 -- src/rounds.rt:55:5

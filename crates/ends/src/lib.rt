@@ -1,0 +1,77 @@
+// The ends of a group of rules: which the log has, which are new, and the places of the new ones' records.
+use automaton::states;
+use chains::first_match;
+use chains::next_match;
+use chains::words::put_word;
+use model::Group;
+use search::CHAINS;
+use search::PLACES;
+ghost use mathlib.Core.Path.{_≡_};
+ghost use Prim.Native.Nat.{_+_, _*_, _<_, _≤_};
+ghost use lib.ListN.{length, getD};
+ghost use Rattle.chains.specs.Buckets.{ChainRoom, Chained};
+ghost use Rattle.search.specs.Jobs.{chainsAt, marksOf, placesAt};
+ghost use Rattle.automaton.specs.StateNumbers.{stateCount};
+ghost use Rattle.ends.specs.Ends.{newBelow, oneIfNew, withOwnPlace, HeldMarked, Placed};
+
+// Marks the ends of the log's transitions on a letter with the states g before.
+pub fn mark_held(log: &[u8], scratch: &mut [u8], n: usize, base: usize, letter: u8, g: Group)
+    requires { ⌜ ChainRoom (now log) base n chainsAt (now scratch) × Chained (now log) base n chainsAt (now scratch) ⌝ }
+    ensures { λ _. ⌜ HeldMarked (now (log .entry)) base letter g (now (scratch .entry)) (now (scratch .exit)) ⌝ }
+{
+    let mut r = first_match(log, scratch, CHAINS, n, base, letter, g);
+    while r < base {
+        let after = records::after_at(log, r);
+        let x = states::number(after);
+        scratch[x] = 1;
+        r = next_match(log, scratch, CHAINS, n, base, r, letter, g);
+    }
+}
+
+fn one_if_new(mark: u8) -> usize
+    ensures { λ r. ⌜ (r ≡ oneIfNew mark) × (r ≤ 1) ⌝ }
+{
+    if mark == 2 {
+        return 1;
+    }
+    0
+}
+
+// How many ends are new.
+pub fn count_new(scratch: &[u8]) -> usize
+    requires { ⌜ stateCount ≤ length (now scratch) ⌝ }
+    ensures { λ r. ⌜ r ≡ length (newBelow (marksOf (now (scratch .entry))) stateCount) ⌝ }
+{
+    let mut m = 0;
+    let mut x = 0;
+    while x < 4096 {
+        m += one_if_new(scratch[x]);
+        x += 1;
+    }
+    m
+}
+
+// Gives the end x the place, where it is new. Returns the next end's place.
+fn place_one(scratch: &mut [u8], x: usize, place: usize) -> usize
+    requires { ⌜ (x < stateCount) × (placesAt + 2 * stateCount ≤ length (now scratch)) × (getD (now scratch) x 0 ≡ 2 → place < 65536) ⌝ }
+    ensures { λ r. ⌜ (now (scratch .exit) ≡ withOwnPlace (now (scratch .entry)) x place) × (r ≡ place + oneIfNew (getD (now (scratch .entry)) x 0)) ⌝ }
+{
+    if scratch[x] == 2 {
+        put_word(scratch, PLACES + 2 * x, place as u16);
+        return place + 1;
+    }
+    place
+}
+
+// Gives the new ends places from `first` on, in rising order.
+pub fn place_new(scratch: &mut [u8], first: usize)
+    requires { ⌜ (first + length (newBelow (marksOf (now scratch)) stateCount) ≤ 65536) × (placesAt + 2 * stateCount ≤ length (now scratch)) ⌝ }
+    ensures { λ _. ⌜ Placed first (now (scratch .entry)) (now (scratch .exit)) ⌝ }
+{
+    let mut place = first;
+    let mut x = 0;
+    while x < 4096 {
+        place = place_one(scratch, x, place);
+        x += 1;
+    }
+}

@@ -1,0 +1,3 @@
+pub mod HeadOrder
+pub mod NextHead
+pub mod Marking

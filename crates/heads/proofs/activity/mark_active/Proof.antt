@@ -1,0 +1,56 @@
+use native.Mathlib.Omega.{arith}
+use borrow.Author.Needs.{needs}
+use Rattle.table.specs.Reading.{ruleIn}
+use Rattle.table.proofs.Layouts.{table-modest, written-letter-in}
+use Rattle.heads.proofs.Marking.{first-round, later-round}
+use Rattle.heads.proofs.activity.mark_active.Statement.{statement}
+use Rattle.heads.proofs.activity.mark_active.Tie as tie
+
+fill-requires : tie.Need-fill-requires
+fill-requires c κs = let s = c .before .before .before .before .before in omega (arith, s .pre .2, table-modest (s .args .table .now) (s .args .t) (s .pre .0) .rules)
+
+same-length : tie.Need-same-length
+same-length c = search needs
+
+returns : tie.Need-returns
+returns c = let s = c .before .before .before .before .before .before .before .before in
+    first-round (s .args .log .now) (s .args .base) (s .args .round) (ruleIn (s .args .table .now)) (s .args .t .rules) (table-modest (s .args .table .now) (s .args .t) (s .pre .0) .rules) (s .args .scratch .now) (c .before .before .fill .last .0) (c .before .before .before .before .if1 .taken) (c .before .before .fill .ensures)
+
+fill-requires-2 : tie.Need-fill-requires-2
+fill-requires-2 c κs = search needs
+
+sub-note-records : tie.Need-sub-note-records
+sub-note-records c = search needs
+
+cast-note-records : tie.Need-cast-note-records
+cast-note-records c = omega (arith, c .before .before .before .before .before .before .before .before .before .pre .4)
+
+note-records-requires : tie.Need-note-records-requires
+note-records-requires c κs = search needs
+
+mark-rules-requires : tie.Need-mark-rules-requires
+mark-rules-requires c κs = search needs
+
+same-length-2 : tie.Need-same-length-2
+same-length-2 c = search needs
+
+returns-2 : tie.Need-returns-2
+returns-2 c = let s = c .before .before .before .before .before .before .before .before .before .before .before .before .before .before .before .before in
+    later-round (s .args .log .now) (s .args .base) (s .args .round) (ruleIn (s .args .table .now)) (s .args .t .rules) (table-modest (s .args .table .now) (s .args .t) (s .pre .0) .rules) (s .args .scratch .now) (c .before .before .before .before .before .before .before .before .before .before .fill2 .last .0) (c .before .before .before .before .before .before .note-records .last .1 .0) (c .before .before .mark-rules .last .1 .1 .0)
+    (c .before .before .before .before .before .before .before .before .before .before .before .before .if1 .left) (c .before .before .before .before .before .before .before .before .before .before .fill2 .ensures) (c .before .before .before .before .before .before .note-records .ensures) (c .before .before .mark-rules .ensures)
+    (λ k h j l. omega (arith, written-letter-in (s .args .table .now) (s .args .t) (s .pre .0) k j h l, table-modest (s .args .table .now) (s .args .t) (s .pre .0) .letters))
+
+pub mark-active-spec : {M : Type 1} → statement M
+mark-active-spec =
+    tie.close
+    (tie.spec
+    fill-requires
+    same-length
+    returns
+    fill-requires-2
+    sub-note-records
+    cast-note-records
+    note-records-requires
+    mark-rules-requires
+    same-length-2
+    returns-2)
