@@ -16,6 +16,14 @@ const CALLS: usize = 9;
 const ROUNDS: u32 = 10_000;
 /// The first argument of this program when valgrind counts its instructions.
 const COUNT: &str = "count";
+/// Lets the C library fill and copy without instructions that repeat, which valgrind would count
+/// once for each byte.
+const NO_REPEATS: &str = "glibc.cpu.x86_rep_stosb_threshold=100000000:\
+                          glibc.cpu.x86_rep_movsb_threshold=100000000";
+
+/// What is said of the buffers.
+const LENT: &str =
+    "log and page just long enough; no buffer is cleared before a call: all are dirty";
 
 /// A call of an engine on a table and buffers.
 type Call = fn(&[u8], &mut Buffers);
@@ -92,7 +100,7 @@ fn main() -> ExitCode {
 /// Both engines side by side.
 fn print_runs() {
     println!("run call: median time of {CALLS} calls, and instructions of one by valgrind");
-    println!("log and page just long enough; random bytes in all buffers before each call");
+    println!("{LENT}");
     println!(
         "{:32}{:>11}{:>11}{:>7}{:>14}{:>14}{:>7}",
         "table", "ours ms", "second ms", "ratio", "ours instr.", "second instr.", "ratio"
@@ -112,8 +120,8 @@ fn print_runs() {
 
 /// The proved engine's answer call.
 fn print_answers() {
-    println!("answer call: median time of {CALLS} calls, log just long enough");
-    println!("random bytes in all buffers before each call");
+    println!("answer call: median time of {CALLS} calls");
+    println!("{LENT}");
     for bench in benches() {
         let time = milliseconds(&bench, answer_ours);
         println!("{:32}{time:11.3} ms", bench.name);
@@ -167,6 +175,7 @@ fn instructions(bench: &Bench, engine: &str) -> Option<u64> {
     let count = |calls: usize| {
         let numbers = [bench.number, bench.records, bench.steps, calls];
         let output = Command::new("valgrind")
+            .env("GLIBC_TUNABLES", NO_REPEATS)
             .args(["--tool=callgrind", "--callgrind-out-file=/dev/null"])
             .arg(&program)
             .args([COUNT, engine])
