@@ -11,6 +11,6 @@ fn main() {
         println!("cargo::rustc-link-lib=static=exports");
     } else {
         let missing = archive.display();
-        println!("cargo::error={missing} is missing: run `rt staticlib exports` first");
+        println!("cargo::error={missing} is missing: run `rt staticlib exports` at the root");
     }
 }

@@ -54,8 +54,8 @@ impl Pool {
         let mut scratch = self.bytes(rng, "scratch", lengths[1]);
         let ours = roskavel::answer(table, log.ours(), scratch.ours());
         let second = second_engine::answer(table, log.second(), scratch.second());
-        let faults = [log.fault(), scratch.fault()];
-        judge("answer", ours, answer_of(second), &faults)
+        let buffers = [log.left(), scratch.left()];
+        judge("answer", ours, answer_of(second), &buffers)
     }
 
     /// The run call with a log, a scratch and a page of these lengths.
@@ -65,8 +65,8 @@ impl Pool {
         let mut page = self.numbers(rng, "page", lengths[2]);
         let ours = roskavel::run(table, log.ours(), scratch.ours(), page.ours());
         let second = second_engine::run(table, log.second(), scratch.second(), page.second());
-        let faults = [log.fault(), scratch.fault(), page.fault()];
-        judge("run", ours, run_of(second), &faults)
+        let buffers = [log.left(), scratch.left(), page.left()];
+        judge("run", ours, run_of(second), &buffers)
     }
 
     /// The walk call with a pile and a scratch of these lengths.
@@ -81,8 +81,8 @@ impl Pool {
         let mut scratch = self.bytes(rng, "scratch", lengths[1]);
         let ours = roskavel::walk(table, list, pile.ours(), scratch.ours());
         let second = second_engine::walk(table, list, pile.second(), scratch.second());
-        let faults = [pile.fault(), scratch.fault()];
-        let judged = judge("walk", ours, walk_of(second, list), &faults);
+        let buffers = [pile.left(), scratch.left()];
+        let judged = judge("walk", ours, walk_of(second, list), &buffers);
         judged.map_err(|text| format!("{text}list {list:?}\n"))
     }
 }
@@ -109,8 +109,8 @@ impl<T: Copy + PartialEq + Debug> Pair<T> {
         &mut self.second[self.lent.clone()]
     }
 
-    /// Tells the length, and where the two differ first.
-    fn fault(&self) -> Fault {
+    /// The length, and where the two differ first.
+    fn left(&self) -> Left {
         let length = self.lent.len();
         let mut text = format!("{} of length {length}", self.name);
         let differs = self.ours != self.second;
@@ -121,12 +121,12 @@ impl<T: Copy + PartialEq + Debug> Pair<T> {
             let (ours, second) = (self.ours[index], self.second[index]);
             text += &format!(" differs at {place}: ours {ours:?}, second {second:?}");
         }
-        Fault { text, differs }
+        Left { text, differs }
     }
 }
 
-/// A buffer's length, and whether it differs afterwards.
-struct Fault {
+/// What the engines left in a buffer: its length, and whether and where they differ.
+struct Left {
     text: String,
     differs: bool,
 }
@@ -136,14 +136,14 @@ fn judge<T: PartialEq + Debug>(
     call: &str,
     ours: T,
     second: T,
-    faults: &[Fault],
+    buffers: &[Left],
 ) -> Result<T, String> {
-    if ours == second && faults.iter().all(|fault| !fault.differs) {
+    if ours == second && buffers.iter().all(|buffer| !buffer.differs) {
         return Ok(ours);
     }
     let mut text = format!("{call}\nours   {ours:?}\nsecond {second:?}\n");
-    for fault in faults {
-        text += &format!("{}\n", fault.text);
+    for buffer in buffers {
+        text += &format!("{}\n", buffer.text);
     }
     Err(text)
 }

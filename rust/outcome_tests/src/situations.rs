@@ -14,6 +14,25 @@ const COUNTED: usize = 60;
 const ACCEPTED: &str = "random tables accepted";
 pub const REFUSED: &str = "damaged tables refused";
 
+/// Outcomes of calls and features of limits.
+const OUTCOMES: [&str; 15] = [
+    "answer reachable",
+    "answer unreachable",
+    "run reachable",
+    "run too long for any page",
+    "walk watched at once",
+    "walk watched after steps",
+    "walk not watched",
+    "walk refused 14 for the start pile",
+    "walk refused 12 after steps",
+    "walk refused 13 after steps",
+    "walk refused 14 after steps",
+    "limits of 100 rounds or more",
+    "limits above 65,535 records",
+    "limits with several rules for a record",
+    "limits with several paths for a record",
+];
+
 /// Counts a random accepted table and what is special about it.
 pub fn note_shape(table: &Table, facts: &Facts, counts: &mut Counts) {
     counts.meet(ACCEPTED);
@@ -64,23 +83,7 @@ fn all() -> Vec<(String, usize)> {
     names.extend((1..=4).map(|count| format!("tables of {count} processes")));
     let kinds = [1, 2, 3, 4, 5, 7];
     names.extend(kinds.map(|kind| format!("tables with kind {kind} at its ceiling")));
-    let others = [
-        "answer reachable",
-        "answer unreachable",
-        "run reachable",
-        "run too long for any page",
-        "walk watched at once",
-        "walk watched after steps",
-        "walk not watched",
-        "walk refused 12 after steps",
-        "walk refused 13 after steps",
-        "walk refused 14 after steps",
-        "limits of 100 rounds or more",
-        "limits above 65,535 records",
-        "limits with several rules for a record",
-        "limits with several paths for a record",
-    ];
-    names.extend(others.map(str::to_string));
+    names.extend(OUTCOMES.map(str::to_string));
     names.extend(bounds::names());
     names.extend(lists::NAMES.map(str::to_string));
     let mut situations: Vec<_> = names.into_iter().map(|name| (name, 1)).collect();

@@ -71,7 +71,7 @@ impl Trials<'_> {
             Run::Reachable { .. } => self.meet("run reachable", &names),
             Run::Refused(refusal) => {
                 if refusal.cause == Cause::LongRun && page.value > STEP_CEILING {
-                    self.counts.meet("run too long for any page");
+                    self.meet("run too long for any page", &[]);
                 }
                 self.refused("run", refusal, &names);
             }
@@ -96,9 +96,11 @@ impl Trials<'_> {
             Walk::Walked { .. } => self.meet("walk not watched", &names),
             Walk::Refused { refusal, rest } => {
                 let number = refusal.cause.number();
-                if refusal.place > 0 && !rest.is_empty() {
-                    self.counts
-                        .meet(format!("walk refused {number} after steps"));
+                let at_step = !rest.is_empty();
+                if at_step && refusal.place > 0 {
+                    self.meet(&format!("walk refused {number} after steps"), &[]);
+                } else if !at_step && refusal.cause == Cause::FullPile {
+                    self.meet("walk refused 14 for the start pile", &[]);
                 }
                 self.refused("walk", refusal, &names);
             }
