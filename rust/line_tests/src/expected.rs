@@ -18,15 +18,7 @@ pub struct Engine {
 /// The lines for a table, and the outcome that they tell.
 pub struct Listing {
     pub lines: String,
-    pub outcome: Outcome,
-}
-
-#[derive(Clone, Copy, PartialEq, Eq, PartialOrd, Ord)]
-pub enum Outcome {
-    Reachable,
-    Unreachable,
-    LongRun,
-    Refused(u8),
+    pub outcome: String,
 }
 
 impl Engine {
@@ -42,14 +34,14 @@ impl Engine {
         match answer(table, &mut self.log, &mut self.scratch) {
             Answer::Refused(Refusal { number, place }) => Listing {
                 lines: format!("refused {number} at {place}\n"),
-                outcome: Outcome::Refused(number),
+                outcome: format!("refused {number}"),
             },
             Answer::Unreachable {
                 transitions,
                 rounds,
             } => Listing {
                 lines: head("unreachable", transitions, rounds),
-                outcome: Outcome::Unreachable,
+                outcome: "unreachable".to_string(),
             },
             Answer::Reachable {
                 transitions,
@@ -58,14 +50,14 @@ impl Engine {
             } => {
                 let mut lines = head("reachable", transitions, rounds);
                 lines += &format!("steps {steps}\n");
-                let outcome = self.add_run(table, &mut lines);
+                let outcome = self.add_run(table, &mut lines).to_string();
                 Listing { lines, outcome }
             }
         }
     }
 
-    /// The lines after the steps of a reachable table.
-    fn add_run(&mut self, table: &[u8], lines: &mut String) -> Outcome {
+    /// Adds the lines after the steps of a reachable table; gives the outcome.
+    fn add_run(&mut self, table: &[u8], lines: &mut String) -> &'static str {
         match run(table, &mut self.log, &mut self.scratch, &mut self.page) {
             Run::Reachable { steps, peak, .. } => {
                 *lines += &format!("peak {peak}\nrun");
@@ -73,12 +65,12 @@ impl Engine {
                     write!(lines, " {rule}").expect("a string takes all");
                 }
                 *lines += "\n";
-                Outcome::Reachable
+                "reachable"
             }
             Run::Refused(refusal) => {
                 assert_eq!((refusal.number, refusal.place), (LONG_RUN, 0));
                 *lines += "run refused 11\n";
-                Outcome::LongRun
+                "run refused 11"
             }
         }
     }

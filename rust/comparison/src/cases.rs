@@ -3,35 +3,71 @@
 use tables::random::{self, Shape};
 use tables::{Rng, Table, bench, damage, named};
 
-/// How many random tables, and how many damaged ones.
-const EACH: usize = 2_000;
-
-/// A table's bytes and what it is.
+/// A table's bytes, what it is, and the seed of all that is random about it.
+#[derive(Clone)]
 pub struct Case {
     pub name: String,
-    pub table: Vec<u8>,
+    pub make: Make,
+    pub bytes: Vec<u8>,
+    pub seed: u64,
+}
+
+/// Where a table comes from.
+#[derive(Clone)]
+pub enum Make {
+    Named,
+    Random(Table),
+    Damaged,
 }
 
 /// All cases of a seed, each random one with a seed of its own.
-pub fn all(seed: u64) -> Vec<Case> {
-    let mut cases = named_cases();
-    let mut seeds = Rng::new(seed);
-    for number in 0..EACH {
-        let own = seeds.draw();
-        cases.push(Case {
-            name: format!("random table {number}, seed {own}"),
-            table: random_table(&mut Rng::new(own), number).bytes(),
-        });
+pub struct Cases {
+    named: Vec<Case>,
+    seeds: Vec<u64>,
+    full: Table,
+}
+
+impl Cases {
+    /// The named tables, `each` random ones and as many damaged ones.
+    pub fn new(seed: u64, each: usize) -> Self {
+        let mut rng = Rng::new(seed);
+        Cases {
+            named: named_cases(),
+            seeds: (0..2 * each).map(|_| rng.draw()).collect(),
+            full: bench::full_table(),
+        }
     }
-    let full = bench::full_table();
-    for number in 0..EACH {
-        let own = seeds.draw();
-        cases.push(Case {
-            name: format!("damaged table {number}, seed {own}"),
-            table: damaged_table(&mut Rng::new(own), number, &full),
-        });
+
+    pub fn count(&self) -> usize {
+        self.named.len() + self.seeds.len()
     }
-    cases
+
+    /// The case of a number below the count.
+    pub fn get(&self, number: usize) -> Option<Case> {
+        let Some(index) = number.checked_sub(self.named.len()) else {
+            return Some(self.named[number].clone());
+        };
+        let seed = *self.seeds.get(index)?;
+        let mut rng = Rng::new(seed);
+        let each = self.seeds.len() / 2;
+        Some(match index.checked_sub(each) {
+            None => {
+                let table = random_table(&mut rng, index);
+                Case {
+                    name: format!("random table {index}, seed {seed}"),
+                    bytes: table.bytes(),
+                    make: Make::Random(table),
+                    seed,
+                }
+            }
+            Some(index) => Case {
+                name: format!("damaged table {index}, seed {seed}"),
+                bytes: damaged_table(&mut rng, index, &self.full),
+                make: Make::Damaged,
+                seed,
+            },
+        })
+    }
 }
 
 /// Each shape in turn, long runs at times, and in almost half of the tables any make.
@@ -78,9 +114,13 @@ fn random_bytes(rng: &mut Rng) -> Vec<u8> {
 /// The small tables, the benchmark tables, the refused specimens and the edges of `line`.
 fn named_cases() -> Vec<Case> {
     let mut cases = Vec::new();
-    let mut push = |name: &str, table: Vec<u8>| {
-        let name = name.to_string();
-        cases.push(Case { name, table });
+    let mut push = |name: &str, bytes: Vec<u8>| {
+        cases.push(Case {
+            name: name.to_string(),
+            make: Make::Named,
+            bytes,
+            seed: cases.len() as u64,
+        });
     };
     push("empty file", Vec::new());
     push("sound", damage::sound().bytes());

@@ -1,0 +1,148 @@
+/*
+ * Roskavel: reachability of cooperating multi-pushdown systems, for C and C++.
+ *
+ * A table is a string of bytes. It lists processes, letters, rules, an automaton for the set of
+ * configurations to watch, and a start. Three calls work on it:
+ *
+ *   roskavel_answer  says whether some run leads from the start into the watched set,
+ *   roskavel_run     gives such a run as well,
+ *   roskavel_walk    follows a list of rules from the start and says where it ends.
+ *
+ * Link with libexports.a, which `rt staticlib exports` writes to target/staticlib/.
+ *
+ * Buffers. The calls allocate nothing and keep nothing: all memory is the caller's. Each array
+ * is passed as a pointer and a length in elements. It may have any length, and what it holds
+ * before is of no account. A pointer must not be null, not even where the length is 0: pass the
+ * address of any object then. The arrays of one call, the figures among them, must not overlap.
+ *
+ * Refusals. Any bytes may be given as a table and any length as a buffer: what does not serve is
+ * refused with a number and a place, and no other figure. Refusals 1 to 9 and 15 change no
+ * buffer; every other return leaves the scratch zero.
+ */
+#ifndef ROSKAVEL_H
+#define ROSKAVEL_H
+
+#include <stddef.h>
+#include <stdint.h>
+
+#ifdef __cplusplus
+extern "C" {
+#endif
+
+/* How many figures each call gives. */
+#define ROSKAVEL_FIGURES 16
+/* The bytes of one record of the log. */
+#define ROSKAVEL_RECORD_BYTES 24
+/* The most records that a log is used for. */
+#define ROSKAVEL_RECORD_CEILING 65535
+/* The bytes of scratch that a walk needs. */
+#define ROSKAVEL_WALK_SCRATCH 2048
+/* The most steps of a run that is written; a count above it is given as one more than it. */
+#define ROSKAVEL_STEP_CEILING 1000000
+
+/*
+ * What stands at each place of the figures. A place that the call or its outcome does not name
+ * here is 0; so after a refusal are all places but the first two and ROSKAVEL_REST.
+ */
+enum roskavel_figure {
+    ROSKAVEL_REFUSAL = 0, /* the number of the refusal, or 0 */
+    ROSKAVEL_PLACE = 1,   /* where: an offset in the table, a step of the list, or 0 */
+
+    /* roskavel_answer and roskavel_run */
+    ROSKAVEL_REACHABLE = 2,   /* 1 reachable, 0 unreachable */
+    ROSKAVEL_TRANSITIONS = 3, /* records of the limit automaton */
+    ROSKAVEL_ROUNDS = 4,      /* the highest round of a record */
+    ROSKAVEL_STEPS = 5,       /* rules of the run; 0 if unreachable */
+    ROSKAVEL_PEAK = 6,        /* roskavel_run: the greatest length of the pile along the run */
+
+    /* roskavel_walk */
+    ROSKAVEL_WATCHED = 2,     /* 1 if the configuration at the end is watched, else 0 */
+    ROSKAVEL_PILE_LENGTH = 3, /* letters of the pile at the end */
+    ROSKAVEL_STATES = 4,      /* 4 to 7: the state of each process, 255 if the table lacks it */
+    ROSKAVEL_REST = 8         /* where the part of the list that is handed back begins */
+};
+
+/* The refusals. The place of 1 to 9 is an offset in the table, of an item's first byte. */
+enum roskavel_refusal {
+    ROSKAVEL_CUT = 1,            /* the table ends in an item (its place) or before the end item
+                                    (the table's length) */
+    ROSKAVEL_STRANGER = 2,       /* no such kind of item */
+    ROSKAVEL_TURN = 3,           /* an item out of turn */
+    ROSKAVEL_CROWD = 4,          /* more items of the kind than its ceiling */
+    ROSKAVEL_VALUE = 5,          /* a byte outside its bounds */
+    ROSKAVEL_STRAY = 6,          /* a rule that does not cooperate */
+    ROSKAVEL_RE_ENTRY = 7,       /* a watch transition into a state of the system */
+    ROSKAVEL_TWIN = 8,           /* a rule, watch transition or accepting group seen before */
+    ROSKAVEL_LEFTOVER = 9,       /* bytes after the end item; the first of them */
+    ROSKAVEL_SHORT_LOG = 10,     /* the limit automaton has more records than the log has room
+                                    for; 0 */
+    ROSKAVEL_LONG_RUN = 11,      /* more steps than the page has places, or than 1,000,000; 0 */
+    ROSKAVEL_IDLE_RULE = 12,     /* a rule of the list does not fire; its step, from 0 */
+    ROSKAVEL_NO_RULE = 13,       /* the table has no rule of this number; its step */
+    ROSKAVEL_FULL_PILE = 14,     /* the pile outgrows its buffer; its step, 0 for the start */
+    ROSKAVEL_SHORT_SCRATCH = 15, /* see roskavel_scratch_bytes, ROSKAVEL_WALK_SCRATCH; 0 */
+    ROSKAVEL_NO_RUN = 16         /* a run is asked for, but none leads there; 0 */
+};
+
+/* How many records a log of this many bytes has room for. */
+static inline size_t roskavel_log_records(size_t log_bytes)
+{
+    size_t records = log_bytes / ROSKAVEL_RECORD_BYTES;
+    return records < ROSKAVEL_RECORD_CEILING ? records : ROSKAVEL_RECORD_CEILING;
+}
+
+/* The bytes of scratch that answer and run need beside a log of this many bytes. */
+static inline size_t roskavel_scratch_bytes(size_t log_bytes)
+{
+    return 34000 + 6 * roskavel_log_records(log_bytes);
+}
+
+/*
+ * Says whether the watched set can be reached. Refused by 1 to 9, 15 and 10.
+ *
+ * log      holds the transitions of the limit automaton, then zeros; all zeros after refusal 10.
+ *          A record has 24 bytes, little-endian: letter 1, states before 4, states after 4,
+ *          round 2, rule 2, path 4 times 2, steps 3. FF is a process that has no part in the
+ *          letter, FFFF no rule or no place of a path.
+ * scratch  work memory, at least roskavel_scratch_bytes(log_length) bytes.
+ */
+void roskavel_answer(const uint8_t *table, size_t table_length,
+                     uint8_t *log, size_t log_length,
+                     uint8_t *scratch, size_t scratch_length,
+                     uint64_t figures[ROSKAVEL_FIGURES]);
+
+/*
+ * Answers and writes a run. Refused as roskavel_answer is, then by 16 and 11.
+ *
+ * log, scratch  as in roskavel_answer; the log holds its records after 16 and 11 too.
+ * page          holds the numbers of the run's rules, then zeros; unchanged if refused.
+ */
+void roskavel_run(const uint8_t *table, size_t table_length,
+                  uint8_t *log, size_t log_length,
+                  uint8_t *scratch, size_t scratch_length,
+                  uint16_t *page, size_t page_length,
+                  uint64_t figures[ROSKAVEL_FIGURES]);
+
+/*
+ * Follows a list of rules from the start. Refused by 1 to 9, 15, by 14 for the start, and at
+ * each step by 13, 12 and 14.
+ *
+ * rules    the list, numbers of the table's rules from 0.
+ * pile     holds the pile at the end, top first, then zeros; refused at a step, the pile before
+ *          that step, then zeros; unchanged if the start pile has no room.
+ * scratch  work memory, at least ROSKAVEL_WALK_SCRATCH bytes.
+ *
+ * Refused at a step, the part of the list from that step on is handed back: figures
+ * [ROSKAVEL_REST] is the step. Else the empty part is: it is rules_length.
+ */
+void roskavel_walk(const uint8_t *table, size_t table_length,
+                   const uint16_t *rules, size_t rules_length,
+                   uint8_t *pile, size_t pile_length,
+                   uint8_t *scratch, size_t scratch_length,
+                   uint64_t figures[ROSKAVEL_FIGURES]);
+
+#ifdef __cplusplus
+}
+#endif
+
+#endif

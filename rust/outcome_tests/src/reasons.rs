@@ -1,0 +1,90 @@
+//! Whether a limit has records with several reasons, so that their choice matters.
+
+use tables::{Group, Rule, Table, Transition, restrict};
+
+/// The most paths followed at once; tables with more of them are not judged.
+const PATHS: usize = 500;
+
+/// Some record's first round has several rules that add it, or several paths of one rule.
+#[derive(Default)]
+pub struct Several {
+    pub rules: bool,
+    pub paths: bool,
+}
+
+/// A record of the log, without its reason.
+struct Record {
+    transition: Transition,
+    round: u16,
+}
+
+impl Several {
+    /// By all paths of all rules of the table to each record of the log.
+    pub fn of(table: &Table, log: &[u8]) -> Several {
+        let records: Vec<Record> = log.chunks_exact(24).map(Record::read).collect();
+        let mut several = Several::default();
+        for record in records.iter().filter(|record| record.round > 0) {
+            let earlier = |other: &&Record| other.round < record.round;
+            let known: Vec<Transition> = records
+                .iter()
+                .filter(earlier)
+                .map(|other| other.transition)
+                .collect();
+            let of_head = |rule: &&Rule| {
+                rule.letter == record.transition.letter && rule.before == record.transition.before
+            };
+            let counts = table.rules.iter().filter(of_head).map(|rule| {
+                let ends = path_ends(table, &known, rule);
+                ends.iter()
+                    .filter(|&&end| end == record.transition.after)
+                    .count()
+            });
+            let counts: Vec<usize> = counts.filter(|&count| count > 0).collect();
+            several.rules |= counts.len() > 1;
+            several.paths |= counts.iter().any(|&count| count > 1);
+        }
+        several
+    }
+}
+
+impl Record {
+    fn read(bytes: &[u8]) -> Record {
+        let group = |from: usize| std::array::from_fn(|process| bytes[from + process]);
+        Record {
+            transition: Transition {
+                letter: bytes[0],
+                before: group(1),
+                after: group(5),
+            },
+            round: u16::from_le_bytes([bytes[9], bytes[10]]),
+        }
+    }
+}
+
+/// The ends of all paths of known transitions that read the rule's written letters from its
+/// after states, each as often as there are paths to it.
+fn path_ends(table: &Table, known: &[Transition], rule: &Rule) -> Vec<Group> {
+    let mut ends = vec![rule.after];
+    for &letter in &rule.written {
+        let bits = table.letters[usize::from(letter)];
+        let from = ends.iter().flat_map(|&end| {
+            let reads = move |next: &&Transition| {
+                next.letter == letter && next.before == restrict(end, bits)
+            };
+            known
+                .iter()
+                .filter(reads)
+                .map(move |next| overlay(end, next.after))
+        });
+        ends = from.take(PATHS).collect();
+    }
+    ends
+}
+
+/// The states with those of `part` where it has any.
+fn overlay(states: Group, part: Group) -> Group {
+    std::array::from_fn(|process| match part[process] {
+        tables::NO_PART => states[process],
+        state => state,
+    })
+}

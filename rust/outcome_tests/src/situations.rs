@@ -1,0 +1,106 @@
+//! The situations that the comparison is for: all of them must be met.
+
+use crate::facts::Facts;
+use crate::reasons::Several;
+use crate::{bounds, lists};
+use comparison::Counts;
+use tables::Table;
+
+/// How many random tables must be accepted, and how many damaged ones refused.
+const LEAST: usize = 20_000;
+/// The most records of a limit whose reasons are counted.
+const COUNTED: usize = 60;
+
+const ACCEPTED: &str = "random tables accepted";
+pub const REFUSED: &str = "damaged tables refused";
+
+/// Outcomes of calls and features of limits.
+const OUTCOMES: [&str; 15] = [
+    "answer reachable",
+    "answer unreachable",
+    "run reachable",
+    "run too long for any page",
+    "walk watched at once",
+    "walk watched after steps",
+    "walk not watched",
+    "walk refused 14 for the start pile",
+    "walk refused 12 after steps",
+    "walk refused 13 after steps",
+    "walk refused 14 after steps",
+    "limits of 100 rounds or more",
+    "limits above 65,535 records",
+    "limits with several rules for a record",
+    "limits with several paths for a record",
+];
+
+/// Counts a random accepted table and what is special about it.
+pub fn note_shape(table: &Table, facts: &Facts, counts: &mut Counts) {
+    counts.meet(ACCEPTED);
+    counts.meet(format!("tables of {} processes", table.processes.len()));
+    let ceilings = [
+        (1, table.processes.len(), 4),
+        (2, table.letters.len(), 32),
+        (3, table.rules.len(), 200),
+        (4, table.watch.len(), 200),
+        (5, table.accepting.len(), 64),
+        (7, table.pile.len(), 64),
+    ];
+    for (kind, _, _) in ceilings
+        .iter()
+        .filter(|(_, count, ceiling)| count == ceiling)
+    {
+        counts.meet(format!("tables with kind {kind} at its ceiling"));
+    }
+    if facts.rounds >= 100 {
+        counts.meet("limits of 100 rounds or more");
+    }
+    if facts.records > roskavel::RECORD_CEILING {
+        counts.meet("limits above 65,535 records");
+    }
+    if facts.records <= COUNTED {
+        let several = Several::of(table, &facts.log);
+        if several.rules {
+            counts.meet("limits with several rules for a record");
+        }
+        if several.paths {
+            counts.meet("limits with several paths for a record");
+        }
+    }
+}
+
+/// Every situation that must be met, and how often at least.
+fn all() -> Vec<(String, usize)> {
+    let refusals = [
+        ("answer", &[10, 15][..]),
+        ("run", &[10, 11, 15, 16]),
+        ("walk", &[12, 13, 14, 15]),
+    ];
+    let mut names: Vec<String> = Vec::new();
+    for (call, later) in refusals {
+        let numbers = (1..=9).chain(later.iter().copied());
+        names.extend(numbers.map(|number| format!("{call} refused {number}")));
+    }
+    names.extend((1..=4).map(|count| format!("tables of {count} processes")));
+    let kinds = [1, 2, 3, 4, 5, 7];
+    names.extend(kinds.map(|kind| format!("tables with kind {kind} at its ceiling")));
+    names.extend(OUTCOMES.map(str::to_string));
+    names.extend(bounds::names());
+    names.extend(lists::NAMES.map(str::to_string));
+    let mut situations: Vec<_> = names.into_iter().map(|name| (name, 1)).collect();
+    situations.push((ACCEPTED.to_string(), LEAST));
+    situations.push((REFUSED.to_string(), LEAST));
+    situations
+}
+
+/// Prints how often each situation was met; gives how many were not met often enough.
+pub fn print(counts: &Counts) -> usize {
+    let mut missing = 0;
+    for (name, least) in all() {
+        let count = counts.of(&name);
+        let enough = count >= least;
+        missing += usize::from(!enough);
+        let note = if enough { "" } else { ", which is too few" };
+        println!("{count:8} {name}{note}");
+    }
+    missing
+}

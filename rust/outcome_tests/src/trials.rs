@@ -1,0 +1,138 @@
+//! The calls made on one table, and the situations that they meet.
+
+use crate::bounds::{Length, around};
+use crate::engines::Pool;
+use crate::facts::Facts;
+use crate::lists;
+use comparison::Counts;
+use roskavel::{Answer, Cause, Refusal, Run, STEP_CEILING, Walk};
+use second_engine::{RECORD_BYTES, WALK_SCRATCH, scratch_needed};
+use tables::Rng;
+
+/// From this product of records and rounds on a call takes seconds.
+const DEAR: usize = 1 << 30;
+
+/// A table, and what is used in all calls on it.
+pub struct Trials<'t> {
+    pub pool: &'t Pool,
+    pub table: &'t [u8],
+    pub facts: &'t Facts,
+    /// How many rules the table has, or a guess.
+    pub rules: usize,
+    pub rng: Rng,
+    pub counts: &'t mut Counts,
+}
+
+impl Trials<'_> {
+    /// Makes all calls, fewer where they cost more, up to the first difference.
+    pub fn all(&mut self) -> Result<(), String> {
+        let often = match self.facts.records * (8 + self.facts.rounds) {
+            _ if !self.facts.accepted => 1,
+            0..4_000 => 6,
+            4_000..40_000 => 3,
+            40_000..DEAR => 1,
+            _ => return self.exact_run(),
+        };
+        for _ in 0..often {
+            self.answer()?;
+            self.run()?;
+            self.walk()?;
+            self.walk()?;
+        }
+        Ok(())
+    }
+
+    fn answer(&mut self) -> Result<(), String> {
+        let [log, scratch] = self.log_and_scratch();
+        let lengths = [log.value, scratch.value];
+        let names = [&scratch.name[..], &log.name];
+        match self.pool.answer(&mut self.rng, self.table, lengths)? {
+            Answer::Reachable { .. } => self.meet("answer reachable", &names),
+            Answer::Unreachable { .. } => self.meet("answer unreachable", &names),
+            Answer::Refused(refusal) => self.refused("answer", refusal, &names),
+        }
+        Ok(())
+    }
+
+    /// The run call with buffers that just serve.
+    fn exact_run(&mut self) -> Result<(), String> {
+        let log = RECORD_BYTES * self.facts.records;
+        let lengths = [log, scratch_needed(log), self.facts.steps];
+        self.pool.run(&mut self.rng, self.table, lengths)?;
+        Ok(())
+    }
+
+    fn run(&mut self) -> Result<(), String> {
+        let [log, scratch] = self.log_and_scratch();
+        let page = around(&mut self.rng, "page", self.facts.steps);
+        let lengths = [log.value, scratch.value, page.value];
+        let names = [&scratch.name[..], &log.name, &page.name];
+        match self.pool.run(&mut self.rng, self.table, lengths)? {
+            Run::Reachable { .. } => self.meet("run reachable", &names),
+            Run::Refused(refusal) => {
+                if refusal.cause == Cause::LongRun && page.value > STEP_CEILING {
+                    self.meet("run too long for any page", &[]);
+                }
+                self.refused("run", refusal, &names);
+            }
+        }
+        Ok(())
+    }
+
+    fn walk(&mut self) -> Result<(), String> {
+        let (list_name, list) = lists::any(&mut self.rng, self.table, self.facts, self.rules);
+        let pile = match self.rng.below(2) {
+            0 => around(&mut self.rng, "start pile", self.facts.start),
+            _ => around(&mut self.rng, "peak pile", self.facts.peak),
+        };
+        let scratch = around(&mut self.rng, "walk scratch", WALK_SCRATCH);
+        let lengths = [pile.value, scratch.value];
+        let names = [&scratch.name[..], &pile.name, list_name];
+        match self.pool.walk(&mut self.rng, self.table, &list, lengths)? {
+            Walk::Walked { watched: true, .. } if !list.is_empty() => {
+                self.meet("walk watched after steps", &names);
+            }
+            Walk::Walked { watched: true, .. } => self.meet("walk watched at once", &names),
+            Walk::Walked { .. } => self.meet("walk not watched", &names),
+            Walk::Refused { refusal, rest } => {
+                let number = refusal.cause.number();
+                let at_step = !rest.is_empty();
+                if at_step && refusal.place > 0 {
+                    self.meet(&format!("walk refused {number} after steps"), &[]);
+                } else if !at_step && refusal.cause == Cause::FullPile {
+                    self.meet("walk refused 14 for the start pile", &[]);
+                }
+                self.refused("walk", refusal, &names);
+            }
+        }
+        Ok(())
+    }
+
+    fn log_and_scratch(&mut self) -> [Length; 2] {
+        let log = around(&mut self.rng, "log", RECORD_BYTES * self.facts.records);
+        let needed = scratch_needed(log.value);
+        let scratch = around(&mut self.rng, "scratch", needed);
+        [log, scratch]
+    }
+
+    /// Counts a refusal and, of the names of lengths, those that the call came to look at. They
+    /// are given in the order in which it does.
+    fn refused(&mut self, call: &str, refusal: Refusal, names: &[&str]) {
+        let seen = match refusal.cause {
+            Cause::ShortScratch => 1,
+            Cause::ShortLog | Cause::NoRun => 2,
+            Cause::FullPile if refusal.place == 0 => 2,
+            Cause::LongRun | Cause::FullPile | Cause::IdleRule | Cause::NoRule => 3,
+            _ => 0,
+        };
+        let refused = format!("{call} refused {}", refusal.cause.number());
+        self.meet(&refused, &names[..seen]);
+    }
+
+    fn meet(&mut self, outcome: &str, names: &[&str]) {
+        self.counts.meet(outcome.to_string());
+        for name in names {
+            self.counts.meet(name.to_string());
+        }
+    }
+}

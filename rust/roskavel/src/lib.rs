@@ -1,0 +1,271 @@
+//! Reachability of cooperating multi-pushdown systems: the proved engine, for Rust.
+//!
+//! A table is a string of bytes. It lists processes, letters, rules, an automaton for the set of
+//! configurations to watch, and a start. [`answer`] says whether some run leads from the start
+//! into the watched set, [`run`] gives such a run, and [`walk`] follows a list of rules.
+//!
+//! The calls work in buffers that the caller lends, of any length and with anything in them;
+//! they allocate nothing. What does not serve is refused, with a cause and a place. Refusals by
+//! the table (causes 1 to 9) or by [`Cause::ShortScratch`] change no buffer; every other return
+//! leaves the scratch zero.
+//!
+//! # Example
+//!
+//! Two processes with one pile: rule 0 replaces the letter 0 of both by a letter of each, and
+//! rules 1 and 2 remove these. Is the configuration reached in which both are in state 1?
+//!
+//! ```
+//! use roskavel::{Answer, Run, Walk};
+//!
+//! let table = [
+//!     1, 2, 2, 1, 2, 2, // two processes of two states
+//!     2, 0b11, 2, 0b01, 2, 0b10, // a letter of both, one of the first, one of the second
+//!     3, 0, 0, 0, 255, 255, 0, 0, 255, 255, 2, 1, 2, 255, 255, // rule 0 writes 1 2
+//!     3, 1, 0, 255, 255, 255, 1, 255, 255, 255, 0, 255, 255, 255, 255, // rule 1: state 0 to 1
+//!     3, 2, 255, 0, 255, 255, 255, 1, 255, 255, 0, 255, 255, 255, 255, // rule 2: the same
+//!     5, 1, 1, 255, 255, // accepting
+//!     6, 0, 0, 255, 255, // start
+//!     7, 0, // start pile
+//!     8, // end
+//! ];
+//! let mut log = vec![0; roskavel::log_bytes(2_000)];
+//! let mut scratch = vec![0; roskavel::scratch_bytes(log.len())];
+//! let mut page = [0; 10];
+//!
+//! let given = roskavel::answer(&table, &mut log, &mut scratch);
+//! assert_eq!(given, Answer::Reachable { transitions: 3, rounds: 2, steps: 3 });
+//!
+//! let given = roskavel::run(&table, &mut log, &mut scratch, &mut page);
+//! assert_eq!(given, Run::Reachable { transitions: 3, rounds: 2, steps: 3, peak: 2 });
+//! assert_eq!(page[..3], [0, 1, 2]);
+//!
+//! let mut pile = [0; 2];
+//! let given = roskavel::walk(&table, &page[..3], &mut pile, &mut scratch);
+//! let states = [1, 1, 255, 255];
+//! assert_eq!(given, Walk::Walked { states, length: 0, watched: true, rest: &[] });
+//! ```
+
+mod calls;
+
+use calls::Figures;
+use std::error::Error;
+use std::fmt::{self, Display, Formatter};
+
+/// The bytes of one record of the log.
+pub const RECORD_BYTES: usize = 24;
+/// The most records that a log is used for.
+pub const RECORD_CEILING: usize = 65_535;
+/// The most steps of a run that is written; a count above it is given as one more than it.
+pub const STEP_CEILING: usize = 1_000_000;
+/// The scratch that a walk needs.
+pub const WALK_SCRATCH: usize = 2_048;
+
+/// The bytes of a log with room for `records` records.
+pub const fn log_bytes(records: usize) -> usize {
+    RECORD_BYTES * records
+}
+
+/// How many records a log of `log_length` bytes has room for.
+pub const fn log_records(log_length: usize) -> usize {
+    let records = log_length / RECORD_BYTES;
+    if records < RECORD_CEILING {
+        records
+    } else {
+        RECORD_CEILING
+    }
+}
+
+/// The scratch that answer and run need beside a log of `log_length` bytes.
+pub const fn scratch_bytes(log_length: usize) -> usize {
+    34_000 + 6 * log_records(log_length)
+}
+
+/// Why a call is refused, with document 01's number. Where nothing else is said, the place is
+/// the offset of an item in the table.
+#[derive(Clone, Copy, PartialEq, Eq, Debug)]
+pub enum Cause {
+    /// The table ends in an item, or before the end item (place: the table's length).
+    Cut = 1,
+    /// No such kind of item.
+    Stranger = 2,
+    /// An item out of turn.
+    Turn = 3,
+    /// More items of the kind than its ceiling.
+    Crowd = 4,
+    /// A byte outside its bounds.
+    Value = 5,
+    /// A rule that does not cooperate.
+    Stray = 6,
+    /// A watch transition into a state of the system.
+    ReEntry = 7,
+    /// A rule, watch transition or accepting group seen before.
+    Twin = 8,
+    /// Bytes after the end item; the first of them.
+    Leftover = 9,
+    /// The limit automaton has more records than the log has room for; 0.
+    ShortLog = 10,
+    /// The run has more steps than the page has places, or than [`STEP_CEILING`]; 0.
+    LongRun = 11,
+    /// A rule of the list does not fire; its step, from 0.
+    IdleRule = 12,
+    /// The table has no rule of this number; its step.
+    NoRule = 13,
+    /// The pile outgrows its buffer; its step, or 0 for the start pile.
+    FullPile = 14,
+    /// The scratch is too short; 0.
+    ShortScratch = 15,
+    /// A run is asked for, but none leads into the watched set; 0.
+    NoRun = 16,
+}
+
+impl Cause {
+    /// All causes by number, from 1.
+    pub const ALL: [Cause; 16] = [
+        Cause::Cut,
+        Cause::Stranger,
+        Cause::Turn,
+        Cause::Crowd,
+        Cause::Value,
+        Cause::Stray,
+        Cause::ReEntry,
+        Cause::Twin,
+        Cause::Leftover,
+        Cause::ShortLog,
+        Cause::LongRun,
+        Cause::IdleRule,
+        Cause::NoRule,
+        Cause::FullPile,
+        Cause::ShortScratch,
+        Cause::NoRun,
+    ];
+
+    /// The number of the cause, from 1 to 16.
+    pub const fn number(self) -> u8 {
+        self as u8
+    }
+}
+
+/// A refusal: its cause and its place.
+#[derive(Clone, Copy, PartialEq, Eq, Debug)]
+pub struct Refusal {
+    pub cause: Cause,
+    pub place: usize,
+}
+
+impl Refusal {
+    /// The refusal that the figures tell, if they tell one.
+    fn of(figures: &Figures) -> Option<Refusal> {
+        let index = figures[calls::REFUSAL].checked_sub(1)?;
+        Some(Refusal {
+            cause: Cause::ALL[index as usize],
+            place: figures[calls::PLACE] as usize,
+        })
+    }
+}
+
+impl Display for Refusal {
+    fn fmt(&self, to: &mut Formatter) -> fmt::Result {
+        write!(to, "refused {} at {}", self.cause.number(), self.place)
+    }
+}
+
+impl Error for Refusal {}
+
+/// What [`answer`] gives.
+#[derive(Clone, Copy, PartialEq, Eq, Debug)]
+pub enum Answer {
+    /// Some run of `steps` rules leads into the watched set.
+    Reachable {
+        transitions: usize,
+        rounds: usize,
+        steps: usize,
+    },
+    /// No run does, of whatever length.
+    Unreachable {
+        transitions: usize,
+        rounds: usize,
+    },
+    Refused(Refusal),
+}
+
+/// What [`run`] gives.
+#[derive(Clone, Copy, PartialEq, Eq, Debug)]
+pub enum Run {
+    /// The first `steps` numbers of the page are a run; its pile grows to `peak` letters.
+    Reachable {
+        transitions: usize,
+        rounds: usize,
+        steps: usize,
+        peak: usize,
+    },
+    Refused(Refusal),
+}
+
+/// What [`walk`] gives. The rest is the part of the caller's list that begins at the step that
+/// was refused, and else empty.
+#[derive(Clone, Copy, PartialEq, Eq, Debug)]
+pub enum Walk<'l> {
+    /// The end of the list: the state of each process (255 where the table lacks it), the
+    /// pile's length, and whether the configuration is watched.
+    Walked {
+        states: [u8; 4],
+        length: usize,
+        watched: bool,
+        rest: &'l [u16],
+    },
+    Refused {
+        refusal: Refusal,
+        rest: &'l [u16],
+    },
+}
+
+/// Says whether the watched set can be reached from the start. The log then holds the records of
+/// the limit automaton, then zeros; only zeros if refused by [`Cause::ShortLog`].
+pub fn answer(table: &[u8], log: &mut [u8], scratch: &mut [u8]) -> Answer {
+    let figures = calls::answer(table, log, scratch);
+    let [transitions, rounds, steps] =
+        [calls::TRANSITIONS, calls::ROUNDS, calls::STEPS].map(|place| figures[place] as usize);
+    match Refusal::of(&figures) {
+        Some(refusal) => Answer::Refused(refusal),
+        None if figures[calls::REACHABLE] == 0 => Answer::Unreachable {
+            transitions,
+            rounds,
+        },
+        None => Answer::Reachable {
+            transitions,
+            rounds,
+            steps,
+        },
+    }
+}
+
+/// Answers and writes a run: the page then holds its rules, then zeros. The log is left as by
+/// [`answer`]; a refusal leaves the page as it was.
+pub fn run(table: &[u8], log: &mut [u8], scratch: &mut [u8], page: &mut [u16]) -> Run {
+    let figures = calls::run(table, log, scratch, page);
+    match Refusal::of(&figures) {
+        Some(refusal) => Run::Refused(refusal),
+        None => Run::Reachable {
+            transitions: figures[calls::TRANSITIONS] as usize,
+            rounds: figures[calls::ROUNDS] as usize,
+            steps: figures[calls::STEPS] as usize,
+            peak: figures[calls::PEAK] as usize,
+        },
+    }
+}
+
+/// Follows a list of rules from the start. The pile buffer then holds the pile, top first, then
+/// zeros; refused at a step, the pile before it. It is unchanged if the start pile has no room.
+pub fn walk<'l>(table: &[u8], rules: &'l [u16], pile: &mut [u8], scratch: &mut [u8]) -> Walk<'l> {
+    let figures = calls::walk(table, rules, pile, scratch);
+    let rest = &rules[figures[calls::REST] as usize..];
+    match Refusal::of(&figures) {
+        Some(refusal) => Walk::Refused { refusal, rest },
+        None => Walk::Walked {
+            states: std::array::from_fn(|process| figures[calls::STATES + process] as u8),
+            length: figures[calls::PILE_LENGTH] as usize,
+            watched: figures[calls::WATCHED] == 1,
+            rest,
+        },
+    }
+}
