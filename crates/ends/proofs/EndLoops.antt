@@ -6,10 +6,11 @@ use mathlib.Core.List.{List}
 use Prim.Native.Nat.{_*_, _+_, _-_, _<_, _≤_, suc, zero, ℕ}
 use native.Mathlib.Omega.{arith}
 use native.Mathlib.Numerals.{add-one}
-use lib.Dec.{eqb}
+use native.Mathlib.Nat.{add-zero}
+use lib.Dec.{eqb, ltb}
 use lib.ListN.{drop, drop-of-length-le, getD, length, length-set, set}
 use lib.Seq.{drop-cons, getD-set-other, getD-set-same, getD-take}
-use borrow.Author.Tests.{eq-eqb, eqb-false, eqb-true, ne-eqb}
+use borrow.Author.Tests.{eq-eqb, eqb-false, eqb-true, ltb-false, ltb-true, ne-eqb}
 use Rattle.model.specs.declared.Group.{Group}
 use Rattle.model.specs.Groups.{sameGroup}
 use Rattle.model.specs.Log.{Record, noRecord}
@@ -25,8 +26,8 @@ use Rattle.chains.proofs.Buckets.{chained-scratch}
 use Rattle.chains.proofs.WordBytes.{byte-other, length-word, word-back, word-other}
 use Rattle.search.specs.Jobs.{chainsAt, glances, marksOf, placeIn, placesAt}
 use Rattle.search.proofs.Searching.{glances-at, length-glances}
-use Rattle.ends.specs.Ends.{HeldMarked, Placed, heldEnd, oneIfNew, withOwnPlace}
-use Rattle.ends.proofs.Ranks.{rank, rank-less, rank-suc}
+use Rattle.ends.specs.Ends.{HeldMarked, NoneNew, Placed, block, heldEnd, oneIfNew, withOwnPlace}
+use Rattle.ends.proofs.Ranks.{isNew, rank, rank-less, rank-more, rank-same, rank-suc}
 
 -- ---- the ends that the log has
 module _ (log : List ℕ) (base letter : ℕ) (g : Group) where
@@ -142,31 +143,69 @@ pub one-old : (mark : ℕ) → (mark ≡ 2 → ⊥) → oneIfNew mark ≡ 0
 unfolding oneIfNew
 one-old mark n = rw (ne-eqb mark 2 n)
 
--- the ends below x are counted
-pub record Counting (s : List ℕ) (m x : ℕ) : Type 0 where
-  pub within : x ≤ stateCount
-  pub few : m ≤ x
-  pub count : m ≡ rank (marksOf s) x
-
-pub counting-start : (s : List ℕ) → Counting s 0 0
-counting-start s = record { within = omega arith; few = omega arith; count = refl }
-
 -- the next end adds its one
 rank-next : (s : List ℕ) (x : ℕ) → x < stateCount → rank (marksOf s) (x + 1) ≡ rank (marksOf s) x + oneIfNew (getD s x 0)
 unfolding oneIfNew
 rank-next s x h = ap (rank (marksOf s)) (add-one x) ∙ rank-suc (marksOf s) x ∙ ap (λ (k : ℕ). rank (marksOf s) x + cond (eqb k 2) 1 0) (getD-take stateCount s x 0 h)
 
-pub counting-turn : (s : List ℕ) (m x one : ℕ) → x < stateCount → one ≡ oneIfNew (getD s x 0) → one ≤ 1 → Counting s m x → Counting s (m + one) (x + 1)
-counting-turn s m x one h e l w = record {
-  within = omega arith;
-  few = omega (arith, w .few);
-  count = omega (arith, w .count, rank-next s x h);
-}
+-- i ends of a block are counted
+pub record Counting (s : List ℕ) (at m i : ℕ) : Type 0 where
+  pub within : i ≤ block
+  pub few : m ≤ i
+  pub count : rank (marksOf s) at + m ≡ rank (marksOf s) (at + i)
 
-pub counting-end : (s : List ℕ) (m x : ℕ) → stateCount ≤ x → Counting s m x → m ≡ rank (marksOf s) stateCount
-counting-end s m x h w =
-    let e : x ≡ stateCount = omega (arith, w .within) in
+pub counting-start : (s : List ℕ) (at : ℕ) → Counting s at 0 0
+counting-start s at = record { within = omega arith; few = omega arith; count = omega (arith, ap (rank (marksOf s)) (add-zero at)) }
+
+pub counting-turn : (s : List ℕ) (at m i one : ℕ) → at + block ≤ stateCount → i < block → one ≡ oneIfNew (getD s (at + i) 0) → one ≤ 1 → Counting s at m i → Counting s at (m + one) (i + 1)
+counting-turn s at m i one l h e o w =
+    let next : at + i + 1 ≡ at + (i + 1) = omega arith in
+    record {
+      within = omega arith;
+      few = omega (arith, w .few);
+      count = omega (arith, w .count, rank-next s (at + i) (omega arith), ap (rank (marksOf s)) next);
+    }
+
+pub counting-end : (s : List ℕ) (at m i : ℕ) → block ≤ i → Counting s at m i → (rank (marksOf s) at + m ≡ rank (marksOf s) (at + block)) × (m ≤ block)
+counting-end s at m i h w =
+    let e : i ≡ block = omega (arith, w .within) in
+    (w .count ∙ ap (λ (k : ℕ). rank (marksOf s) (at + k)) e, omega (arith, w .few, e))
+
+-- b blocks are counted
+pub record Blocks (s : List ℕ) (m b : ℕ) : Type 0 where
+  pub within : b ≤ 32
+  pub few : m ≤ block * b
+  pub count : m ≡ rank (marksOf s) (block * b)
+
+pub blocks-start : (s : List ℕ) → Blocks s 0 0
+blocks-start s = record { within = omega arith; few = omega arith; count = refl }
+
+pub blocks-turn : (s : List ℕ) (m b more : ℕ) → b < 32 → (rank (marksOf s) (block * b) + more ≡ rank (marksOf s) (block * b + block)) × (more ≤ block) → Blocks s m b → Blocks s (m + more) (b + 1)
+blocks-turn s m b more h e w =
+    let next : block * b + block ≡ block * (b + 1) = omega arith in
+    record {
+      within = omega arith;
+      few = omega (arith, w .few, e .1);
+      count = omega (arith, w .count, e .0, ap (rank (marksOf s)) next);
+    }
+
+pub blocks-end : (s : List ℕ) (m b : ℕ) → 32 ≤ b → Blocks s m b → m ≡ rank (marksOf s) stateCount
+blocks-end s m b h w =
+    let e : block * b ≡ stateCount = omega (arith, w .within) in
     w .count ∙ ap (rank (marksOf s)) e
+
+-- a block whose count is 0 has no new end
+new-at : (s : List ℕ) (y : ℕ) → y < stateCount → getD s y 0 ≡ 2 → isNew (marksOf s) y ≡ true
+new-at s y h e = eq-eqb (getD (marksOf s) y 0) 2 (getD-take stateCount s y 0 h ∙ e)
+
+pub none-in-block : (s : List ℕ) (x m : ℕ) → x + block ≤ stateCount → rank (marksOf s) x + m ≡ rank (marksOf s) (x + block) → m ≡ 0 → NoneNew s x (x + block)
+none-in-block s x m h e z = record {
+  later = omega arith;
+  within = h;
+  none = λ y l k n.
+      let up : y - x + x ≡ y = omega arith in
+      omega (arith, rank-less (marksOf s) y (x + block) (new-at s y (omega arith) n) k, rank-more (marksOf s) x (y - x), ap (rank (marksOf s)) up);
+}
 
 -- ---- the places of the new ends
 module _ (s : List ℕ) (x place : ℕ) where
@@ -237,6 +276,20 @@ module _ (first : ℕ) (s₀ s : List ℕ) (place x : ℕ) (w : Placing first s�
       before = λ i l. own-byte s x place i (λ q. omega arith) (λ q. omega arith) ∙ w .before i l;
       behind = λ i l. own-byte s x place i (λ q. omega arith) (λ q. omega arith) ∙ w .behind i l;
     }
+
+  -- ends that are not new have no place
+  pub placing-past : (r : ℕ) → placesAt + 2 * stateCount ≤ length s₀ → NoneNew s x r → Placing first s₀ s place r
+  placing-past r long n = record {
+    within = n .within;
+    next = w .next ∙ ap (λ (k : ℕ). first + k) (rank-same (marksOf s₀) x r (n .later) (λ y l m. by-test (isNew (marksOf s₀) y) (λ t. absurd (old y l m (sym (getD-take stateCount s₀ y 0 (omega (arith, n .within))) ∙ eqb-true (getD (marksOf s₀) y 0) 2 t))) (λ e. e)));
+    size = w .size;
+    places = λ y l e. by-test (ltb y x) (λ t. w .places y (ltb-true y x t) e) (λ t. absurd (old y (ltb-false y x t) l e));
+    before = w .before;
+    behind = w .behind;
+  }
+    where
+      old : (y : ℕ) → x ≤ y → y < r → getD s₀ y 0 ≡ 2 → ⊥
+      old y l m e = n .none y l m (w .before y (omega (arith, n .within)) ∙ e)
 
   pub placing-end : stateCount ≤ x → Placed first s₀ s
   placing-end h = record {

@@ -44,6 +44,12 @@ module _ (marks : List ℕ) where
   rank-more x zero = omega (arith, ap rank (zero-add x))
   rank-more x (suc d) = omega (arith, rank-more x d, rank-step (d + x), ap rank (suc-add d x))
 
+  -- where no end is new the rank stays
+  pub rank-same : (x y : ℕ) → x ≤ y → ((z : ℕ) → x ≤ z → z < y → isNew z ≡ false) → rank x ≡ rank y
+  rank-same x zero h f = ap rank (let e : x ≡ 0 = omega arith in e)
+  rank-same x (suc y) h f = by-test (eqb x (suc y)) (λ e. ap rank (eqb-true x (suc y) e))
+      (λ n. let le : x ≤ y = (let ne : x ≢ suc y = eqb-false x (suc y) n in omega arith) in rank-same x y le (λ z l m. f z l (omega arith)) ∙ sym (rank-old y (f y le (omega arith))))
+
   pub rank-less : (x y : ℕ) → isNew x ≡ true → x < y → rank x < rank y
   rank-less x y t h =
       let at : y - suc x + suc x ≡ y = omega arith in

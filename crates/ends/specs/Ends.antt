@@ -28,6 +28,16 @@ abbrev pub newBelow : List ℕ → ℕ → List ℕ
 newBelow marks zero = []
 newBelow marks (suc y) = newBelow marks y ++ cond (eqb (getD marks y 0) 2) (y ∷ []) []
 
+-- the ends of one block
+abbrev pub block : ℕ
+block = 128
+
+-- r is x or later, with no new end between
+pub record NoneNew (s : List ℕ) (x r : ℕ) : Type 0 where
+  pub later : x ≤ r
+  pub within : r ≤ stateCount
+  pub none : (y : ℕ) → x ≤ y → y < r → getD s y 0 ≡ 2 → ⊥
+
 -- 1 for the mark of a new end, 0 for any other
 unfoldable pub oneIfNew : ℕ → ℕ
 oneIfNew mark = cond (eqb mark 2) 1 0

@@ -12,7 +12,12 @@ ghost use lib.ListN.{length, getD};
 ghost use Rattle.chains.specs.Buckets.{ChainRoom, Chained};
 ghost use Rattle.search.specs.Jobs.{chainsAt, marksOf, placesAt};
 ghost use Rattle.automaton.specs.StateNumbers.{stateCount};
-ghost use Rattle.ends.specs.Ends.{newBelow, oneIfNew, withOwnPlace, HeldMarked, Placed};
+ghost use Rattle.ends.specs.Ends.{block, newBelow, oneIfNew, withOwnPlace, HeldMarked, NoneNew, Placed};
+
+// The 4096 ends are looked through in blocks.
+const BLOCK: usize = 128;
+
+const BLOCKS: usize = 32;
 
 // Marks the ends of the log's transitions on a letter with the states g before.
 pub fn mark_held(log: &[u8], scratch: &mut [u8], n: usize, base: usize, letter: u8, g: Group)
@@ -28,7 +33,7 @@ pub fn mark_held(log: &[u8], scratch: &mut [u8], n: usize, base: usize, letter: 
     }
 }
 
-fn one_if_new(mark: u8) -> usize
+fn one_if_new(mark: u8) -> u8
     ensures { λ r. ⌜ (r ≡ oneIfNew mark) × (r ≤ 1) ⌝ }
 {
     if mark == 2 {
@@ -37,18 +42,52 @@ fn one_if_new(mark: u8) -> usize
     0
 }
 
+// How many of the ends of one block, from `at` on, are new. A count of one byte lets the machine count many ends at a time.
+fn count_block(scratch: &[u8], at: usize) -> u8
+    requires { ⌜ (at + block ≤ stateCount) × (stateCount ≤ length (now scratch)) ⌝ }
+    ensures { λ r. ⌜ (length (newBelow (marksOf (now (scratch .entry))) at) + r ≡ length (newBelow (marksOf (now (scratch .entry))) (at + block))) × (r ≤ block) ⌝ }
+{
+    let mut m = 0;
+    let mut i = 0;
+    while i < BLOCK {
+        m += one_if_new(scratch[at + i]);
+        i += 1;
+    }
+    m
+}
+
+fn wide(x: u8) -> usize
+    ensures { λ r. ⌜ r ≡ x ⌝ }
+{
+    x as usize
+}
+
 // How many ends are new.
 pub fn count_new(scratch: &[u8]) -> usize
     requires { ⌜ stateCount ≤ length (now scratch) ⌝ }
     ensures { λ r. ⌜ r ≡ length (newBelow (marksOf (now (scratch .entry))) stateCount) ⌝ }
 {
     let mut m = 0;
-    let mut x = 0;
-    while x < 4096 {
-        m += one_if_new(scratch[x]);
-        x += 1;
+    let mut b = 0;
+    while b < BLOCKS {
+        m += wide(count_block(scratch, BLOCK * b));
+        b += 1;
     }
     m
+}
+
+// Past the block that begins at the end x, if it has no new end.
+fn past_block(scratch: &[u8], x: usize) -> usize
+    requires { ⌜ (x < stateCount) × (stateCount ≤ length (now scratch)) ⌝ }
+    ensures { λ r. ⌜ NoneNew (now (scratch .entry)) x r ⌝ }
+{
+    if x % BLOCK == 0 {
+        if count_block(scratch, x) == 0 {
+            return x + BLOCK;
+        }
+        return x;
+    }
+    x
 }
 
 // Gives the end x the place, where it is new. Returns the next end's place.
@@ -71,7 +110,12 @@ pub fn place_new(scratch: &mut [u8], first: usize)
     let mut place = first;
     let mut x = 0;
     while x < 4096 {
-        place = place_one(scratch, x, place);
-        x += 1;
+        let next = past_block(scratch, x);
+        if next == x {
+            place = place_one(scratch, x, place);
+            x += 1;
+        } else {
+            x = next;
+        }
     }
 }
