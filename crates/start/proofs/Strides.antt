@@ -1,13 +1,14 @@
 -- Laws of the numbers of the states of the first processes: they lie a stride apart.
-use mathlib.Core.Path.{_≡_, refl}
-use mathlib.Core.Bool.{Bool, cond}
+use mathlib.Core.Path.{_≡_, refl, sym, _∙_}
+use mathlib.Core.Bool.{Bool, true, cond, true≢false}
 use mathlib.Core.List.{List}
 use Prim.Native.Nat.{ℕ, zero, suc, _+_, _-_, _*_, _/_, _%_, _^_, _<_, _≤_}
 use native.Mathlib.Nat.{zero-mod}
 use native.Mathlib.Omega.{arith}
 use lib.ListN.{length}
-use Rattle.model.specs.Groups.{Processes}
+use Rattle.model.specs.Groups.{Process, Processes, p0, p1, p2, p3, has}
 use Rattle.automaton.specs.StateNumbers.{stateCount, stateNumber, groupNumbered}
+use Rattle.automaton.proofs.StateNumbers.{number-numbered}
 use Rattle.start.specs.declared.Letter.{Letter}
 use Rattle.start.specs.Regions.{setAt, withState, chainsPlace}
 use Rattle.start.specs.RestSets.{firstProcesses, stride, continues, EmptySet}
@@ -48,6 +49,25 @@ between : (p : ℕ) → p ≤ 4 → (n y : ℕ) → n % stride p ≡ 0 → n ≤
 unfolding stride stateNumber groupNumbered
 between = up-to-4 (λ (p : ℕ). (n y : ℕ) → n % stride p ≡ 0 → n ≤ y → y + 1 < n + stride p → stateNumber (groupNumbered (firstProcesses p) y) ≡ y → ⊥)
     (λ n y m l h e. omega arith) (λ n y m l h e. omega arith) (λ n y m l h e. omega arith) (λ n y m l h e. omega arith) (λ n y m l h e. omega arith)
+
+-- with all processes every number is that of a state
+whole : (x : ℕ) → x < stateCount → stateNumber (groupNumbered (firstProcesses 4) x) ≡ x
+whole x l = number-numbered (firstProcesses 4) x (record { below = l; outside = λ i h. absurd (true≢false (sym (all i) ∙ h)) })
+  where
+    all : (i : Process) → has (firstProcesses 4) i ≡ true
+    all p0 = refl
+    all p1 = refl
+    all p2 = refl
+    all p3 = refl
+
+-- with fewer processes those on the stride are
+fewer : (p : ℕ) → p ≤ 4 → (x : ℕ) → (x + 1) % stride p ≡ 0 → stateNumber (groupNumbered (firstProcesses 4) x) ≡ x → stateNumber (groupNumbered (firstProcesses p) x) ≡ x
+unfolding stride stateNumber groupNumbered
+fewer = up-to-4 (λ (p : ℕ). (x : ℕ) → (x + 1) % stride p ≡ 0 → stateNumber (groupNumbered (firstProcesses 4) x) ≡ x → stateNumber (groupNumbered (firstProcesses p) x) ≡ x)
+    (λ x h e. omega arith) (λ x h e. omega arith) (λ x h e. omega arith) (λ x h e. omega arith) (λ x h e. e)
+
+pub on-stride : (p x : ℕ) → p ≤ 4 → x < stateCount → (x + 1) % stride p ≡ 0 → stateNumber (groupNumbered (firstProcesses p) x) ≡ x
+on-stride p x few l h = fewer p few x h (whole x l)
 
 -- ---- the loop over the numbers of states: those below x are in, and x is the next one
 pub record Striding (test : ℕ → Bool) (p k x : ℕ) (s t : List ℕ) : Type 0 where

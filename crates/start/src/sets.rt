@@ -15,7 +15,7 @@ ghost use mathlib.Core.Bool.{cond};
 ghost use Prim.Native.Nat.{ℕ, _+_, _*_, _<_, _≤_};
 ghost use lib.ListN.{length};
 ghost use Rattle.model.specs.Groups.{processesOf};
-ghost use Rattle.automaton.specs.StateNumbers.{stateCount, stateNumber};
+ghost use Rattle.automaton.specs.StateNumbers.{stateCount, stateNumber, groupNumbered};
 ghost use Rattle.table.specs.Reading.{Holds, acceptingIn, systemIn};
 ghost use Rattle.stack.specs.LimitLog.{LimitLog};
 ghost use Rattle.start.specs.Regions.{setAt, setsEnd, withState, chainsPlace, Linked, SameBut, OnlySet};
@@ -39,7 +39,7 @@ fn insert_state(scratch: &mut [u8], k: usize, x: usize)
     insert(&mut scratch[at..at + SET_LENGTH], x);
 }
 
-// Whether x is the number of a state of the processes in bits from which the letter leads into set k.
+// Whether the letter leads into set k from the state of the processes in bits that has the number x.
 fn is_continued(
     log: &[u8],
     scratch: &[u8],
@@ -50,13 +50,10 @@ fn is_continued(
     bits: u8,
     x: usize,
 ) -> bool
-    requires { ⌜ Linked (now log) count n (now scratch) × (k ≤ 64) ⌝ }
+    requires { ⌜ Linked (now log) count n (now scratch) × (k ≤ 64) × (stateNumber (groupNumbered (processesOf bits) x) ≡ x) ⌝ }
     ensures { λ b. ⌜ b ≡ continues (now (log .entry)) count (setAt (now (scratch .entry)) k) a (processesOf bits) x ⌝ }
 {
     let g = numbered(bits, x);
-    if number(g) != x {
-        return false;
-    }
     first_lead(log, scratch, n, count, k, a, g) < count
 }
 
@@ -71,7 +68,7 @@ fn add_state(
     bits: u8,
     x: usize,
 )
-    requires { ⌜ Linked (now log) count n (now scratch) × (k < 64) × (x < stateCount) ⌝ }
+    requires { ⌜ Linked (now log) count n (now scratch) × (k < 64) × (x < stateCount) × (stateNumber (groupNumbered (processesOf bits) x) ≡ x) ⌝ }
     ensures { λ _. ⌜ now (scratch .exit) ≡ cond (continues (now (log .entry)) count (setAt (now (scratch .entry)) (k + 1)) a (processesOf bits) x) (withState (now (scratch .entry)) k x) (now (scratch .entry)) ⌝ }
 {
     if is_continued(log, scratch, n, count, k + 1, a, bits, x) {

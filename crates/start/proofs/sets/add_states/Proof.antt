@@ -1,13 +1,11 @@
-use mathlib.Core.Path.{_≡_, sym, _∙_}
-use Prim.Native.Nat.{_+_, _-_, _<_, _≤_}
-use lib.ListN.{length}
+use Prim.Native.Nat.{_+_, _-_}
 use native.Mathlib.Omega.{arith}
 use Rattle.model.specs.Groups.{processesOf}
 use Rattle.automaton.specs.StateNumbers.{stateCount}
-use Rattle.start.specs.Regions.{setAt, chainsPlace}
+use Rattle.start.specs.Regions.{setAt}
 use Rattle.start.specs.RestSets.{firstProcesses, continues}
 use Rattle.start.proofs.Filling.{filling-linked, filling-end}
-use Rattle.start.proofs.Strides.{Striding, striding-start, striding-turn}
+use Rattle.start.proofs.Strides.{on-stride, Striding, striding-start, striding-turn}
 use Rattle.start.proofs.sets.add_states.Statement.{statement}
 use Rattle.start.proofs.sets.add_states.Tie as tie
 
@@ -35,8 +33,11 @@ loop-holds c =
 
 add-state-requires : tie.Need-add-state-requires Inv-loop μ-loop
 add-state-requires c κs =
+    let a = c .before .before .before .before .before .before .before .args in
     let p = c .before .before .before .before .before .before .before .pre in
-    (filling-linked (p .1) (p .0) (c .before .before .loop .inv .filling), p .1, c .before .loop-test .taken)
+    let m = c .before .before .loop in
+    let x-is = on-stride (a .processes) (m .x) (p .2) (c .before .loop-test .taken) (m .inv .on) in
+    (filling-linked (p .1) (p .0) (m .inv .filling), p .1, c .before .loop-test .taken, rw (c .before .before .before .before .process-bits .ensures) x-is)
 
 add-x : tie.Need-add-x Inv-loop μ-loop
 add-x c = omega arith
