@@ -1,5 +1,5 @@
 -- Laws of the loops that fill a set with the states that pass a test.
-use mathlib.Core.Path.{_≡_, ap, sym, _∙_}
+use mathlib.Core.Path.{_≡_, refl, ap, sym, _∙_}
 use mathlib.Core.Bool.{Bool, true, false, cond, _&&_, _||_}
 use mathlib.Core.Logic.{inr}
 use mathlib.Core.List.{List, _∷_}
@@ -14,7 +14,7 @@ use Rattle.model.specs.declared.Group.{Group}
 use Rattle.model.proofs.Tests.{by-test}
 use Rattle.automaton.specs.StateNumbers.{stateCount, stateNumber}
 use Rattle.automaton.specs.StateSets.{setLength, member}
-use Rattle.automaton.proofs.StateSets.{member-inserted}
+use Rattle.automaton.proofs.StateSets.{Fails, member-inserted}
 use Rattle.start.specs.Regions.{setPlace, setAt, withState, chainsPlace, Linked, OnlySet}
 use Rattle.start.specs.RestSets.{EmptySet, Filled, isNumberOf}
 use Rattle.start.proofs.ScratchRegions.{same-none, same-join, linked-same, length-set-at, set-same, set-state, only-state}
@@ -26,13 +26,11 @@ member-state s k x y room h =
 
 -- ---- all states in turn: those below n that pass the test are in
 pub record Filling (test : ℕ → Bool) (k n : ℕ) (s t : List ℕ) : Type 0 where
-  pub few : n ≤ stateCount
   pub same : OnlySet k s t
   pub members : (x : ℕ) → x < stateCount → member (setAt t k) x ≡ ltb x n && test x
 
 pub filling-start : (test : ℕ → Bool) (k : ℕ) (s : List ℕ) → EmptySet s k → Filling test k 0 s s
 filling-start test k s e = record {
-  few = omega arith;
   same = same-none (setPlace k) (setPlace k + setLength) s;
   members = λ x h. e x ∙ sym (ap (λ (b : Bool). b && test x) (le-ltb x 0 (omega arith)));
 }
@@ -52,7 +50,6 @@ module _ (test : ℕ → Bool) (k n : ℕ) (s t : List ℕ) (room : setPlace k +
 
   passed : test n ≡ true → Filling test k (n + 1) s (withState t k n)
   passed y = record {
-    few = omega arith;
     same = same-join (f .same) (only-state t k n room-t);
     members = λ x h. member-state t k n x room-t less ∙ by-test (eqb x n)
         (λ e. rw e (sym (at-n x (eqb-true x n e))))
@@ -64,7 +61,6 @@ module _ (test : ℕ → Bool) (k n : ℕ) (s t : List ℕ) (room : setPlace k +
 
   failed : test n ≡ false → Filling test k (n + 1) s t
   failed y = record {
-    few = omega arith;
     same = f .same;
     members = λ x h. f .members x h ∙ by-test (eqb x n)
         (λ e. at-n x (eqb-true x n e))
@@ -76,6 +72,19 @@ module _ (test : ℕ → Bool) (k n : ℕ) (s t : List ℕ) (room : setPlace k +
 
   pub filling-turn : Filling test k (n + 1) s (cond (test n) (withState t k n) t)
   filling-turn = by-test (test n) (λ y. rw y (passed y)) (λ y. rw y (failed y))
+
+-- numbers that fail the test may be passed over
+pub filling-skip : (test : ℕ → Bool) (k n m : ℕ) (s t : List ℕ) → n ≤ m → Fails test n m → Filling test k n s t → Filling test k m s t
+filling-skip test k n m s t h fails f = record {
+  same = f .same;
+  members = λ x l. f .members x l ∙ elim (decLt x n) [
+    | yes q ↦ ap (λ (b : Bool). b && test x) (lt-ltb x n q ∙ sym (lt-ltb x m (omega arith)))
+    | no q ↦ rw (le-ltb x n (omega arith)) (elim (decLt x m) [
+      | yes r ↦ rw (lt-ltb x m r) (sym (fails x (omega arith) r))
+      | no r ↦ rw (le-ltb x m (omega arith)) refl
+    ])
+  ];
+}
 
 -- the next set stays, and so do the chains
 pub filling-next : {test : ℕ → Bool} {k n : ℕ} {s t : List ℕ} → k < 64 → chainsPlace ≤ length s → Filling test k n s t → setAt t (k + 1) ≡ setAt s (k + 1)

@@ -1,6 +1,7 @@
 pub mod ScratchRegions
 pub mod Leading
 pub mod Filling
+pub mod Strides
 pub mod Grounds
 pub mod RestRight
 pub mod Tracing

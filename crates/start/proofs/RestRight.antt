@@ -21,7 +21,7 @@ use Rattle.model.proofs.Groups.{sameGroup-true, sameGroup-of}
 use Rattle.model.proofs.Lists.{any-of, each-map, getD-mem}
 use Rattle.model.proofs.LogPaths.{reads-letter}
 use Rattle.model.proofs.Tests.{by-test, same-test}
-use Rattle.automaton.specs.StateNumbers.{stateNumber, groupNumbered, Over}
+use Rattle.automaton.specs.StateNumbers.{stateNumber, Over}
 use Rattle.automaton.specs.StateSets.{member, firstFrom}
 use Rattle.automaton.proofs.StateNumbers.{stateNumber-below, numbered-number, number-injective}
 use Rattle.automaton.proofs.StateSets.{first-of}
@@ -135,13 +135,12 @@ module _ {table : List ℕ} {t : Table} {log : List ℕ} {count : ℕ} (lent : L
         ∙ sym (ap (λ (w : List ℕ). accepts (sys .loc) (keys records) (sys .accepting) w g) word-from ∙ accepts-first sys records (pileIn table i) (drop (i + 1) (sys .start .word)) g)
 
   -- set i from set i + 1
-  pub set-before : (s s′ : List ℕ) (L : Processes) → L ≡ processesOfTable t → SetRight table t s (i + 1) → Filled (continues log count (setAt s (i + 1)) a L) i s s′ → SetRight table t s′ i
+  pub set-before : (s s′ : List ℕ) → SetRight table t s (i + 1) → Filled (continues log count (setAt s (i + 1)) a (processesOfTable t)) i s s′ → SetRight table t s′ i
   unfolding continues
-  set-before s s′ L e next f g o =
+  set-before s s′ next f g o =
       let x = stateNumber g in
-      let same : groupNumbered L x ≡ g = ap (λ (M : Processes). groupNumbered M x) e ∙ numbered-number (processesOfTable t) g o in
       f .members x (stateNumber-below g)
-      ∙ ap (λ (h : Group). eqb (stateNumber h) x && ltb (firstLead log count (setAt s (i + 1)) a h) count) same
+      ∙ ap (λ (h : Group). eqb (stateNumber h) x && ltb (firstLead log count (setAt s (i + 1)) a h) count) (numbered-number (processesOfTable t) g o)
       ∙ ap (λ (b : Bool). b && ltb (firstLead log count (setAt s (i + 1)) a g) count) (eq-eqb x x refl)
       ∙ lead-accepts s next g o
 

@@ -2,7 +2,7 @@
 use mathlib.Core.Path.{_≡_}
 use mathlib.Core.Bool.{Bool, false, _&&_}
 use mathlib.Core.List.{List}
-use Prim.Native.Nat.{ℕ, _<_}
+use Prim.Native.Nat.{ℕ, _/_, _^_, _<_}
 use lib.Dec.{eqb, ltb}
 use lib.ListN.{drop}
 use Rattle.model.specs.declared.Group.{Group}
@@ -25,6 +25,10 @@ firstProcesses n = record { b0 = ltb 0 n; b1 = ltb 1 n; b2 = ltb 2 n; b3 = ltb 3
 
 abbrev pub processesOfTable : Table → Processes
 processesOfTable t = firstProcesses (t .processes)
+
+-- how far apart the numbers of the states of the first n processes are: the three bits of each other process are set
+unfoldable pub stride : ℕ → ℕ
+stride n = stateCount / 8 ^ n
 
 -- letter i of the start word, with its processes
 pub record LetterAt (table : List ℕ) (i : ℕ) (a : Letter) : Type 0 where

@@ -15,11 +15,11 @@ ghost use mathlib.Core.Bool.{cond};
 ghost use Prim.Native.Nat.{ℕ, _+_, _*_, _<_, _≤_};
 ghost use lib.ListN.{length};
 ghost use Rattle.model.specs.Groups.{processesOf};
-ghost use Rattle.automaton.specs.StateNumbers.{stateCount, stateNumber};
+ghost use Rattle.automaton.specs.StateNumbers.{stateCount, stateNumber, groupNumbered};
 ghost use Rattle.table.specs.Reading.{Holds, acceptingIn, systemIn};
 ghost use Rattle.stack.specs.LimitLog.{LimitLog};
 ghost use Rattle.start.specs.Regions.{setAt, setsEnd, withState, chainsPlace, Linked, SameBut, OnlySet};
-ghost use Rattle.start.specs.RestSets.{continues, EmptySet, Filled, isNumberOf, SetRight};
+ghost use Rattle.start.specs.RestSets.{firstProcesses, stride, continues, EmptySet, Filled, isNumberOf, SetRight};
 
 const STATES: usize = 4096;
 
@@ -39,7 +39,7 @@ fn insert_state(scratch: &mut [u8], k: usize, x: usize)
     insert(&mut scratch[at..at + SET_LENGTH], x);
 }
 
-// Whether x is the number of a state of the processes in bits from which the letter leads into set k.
+// Whether the letter leads into set k from the state of the processes in bits that has the number x.
 fn is_continued(
     log: &[u8],
     scratch: &[u8],
@@ -50,13 +50,10 @@ fn is_continued(
     bits: u8,
     x: usize,
 ) -> bool
-    requires { ⌜ Linked (now log) count n (now scratch) × (k ≤ 64) ⌝ }
+    requires { ⌜ Linked (now log) count n (now scratch) × (k ≤ 64) × (stateNumber (groupNumbered (processesOf bits) x) ≡ x) ⌝ }
     ensures { λ b. ⌜ b ≡ continues (now (log .entry)) count (setAt (now (scratch .entry)) k) a (processesOf bits) x ⌝ }
 {
     let g = numbered(bits, x);
-    if number(g) != x {
-        return false;
-    }
     first_lead(log, scratch, n, count, k, a, g) < count
 }
 
@@ -71,7 +68,7 @@ fn add_state(
     bits: u8,
     x: usize,
 )
-    requires { ⌜ Linked (now log) count n (now scratch) × (k < 64) × (x < stateCount) ⌝ }
+    requires { ⌜ Linked (now log) count n (now scratch) × (k < 64) × (x < stateCount) × (stateNumber (groupNumbered (processesOf bits) x) ≡ x) ⌝ }
     ensures { λ _. ⌜ now (scratch .exit) ≡ cond (continues (now (log .entry)) count (setAt (now (scratch .entry)) (k + 1)) a (processesOf bits) x) (withState (now (scratch .entry)) k x) (now (scratch .entry)) ⌝ }
 {
     if is_continued(log, scratch, n, count, k + 1, a, bits, x) {
@@ -80,14 +77,33 @@ fn add_state(
     }
 }
 
-fn add_states(log: &[u8], scratch: &mut [u8], n: usize, count: usize, k: usize, a: Letter, bits: u8)
-    requires { ⌜ Linked (now log) count n (now scratch) × (k < 64) × EmptySet (now scratch) k ⌝ }
-    ensures { λ _. ⌜ Filled (continues (now (log .entry)) count (setAt (now (scratch .entry)) (k + 1)) a (processesOf bits)) k (now (scratch .entry)) (now (scratch .exit)) ⌝ }
+// How far apart the numbers of the states of the first processes are: each other process has its three bits set.
+fn stride(processes: usize) -> usize
+    requires { ⌜ processes ≤ 4 ⌝ }
+    ensures { λ r. ⌜ (r ≡ stride processes) × (0 < r) × (r ≤ stateCount) ⌝ }
 {
-    let mut x = 0;
+    STATES >> (3 * processes)
+}
+
+// Puts the states of the first processes from which the letter leads into set k + 1 into set k.
+fn add_states(
+    log: &[u8],
+    scratch: &mut [u8],
+    n: usize,
+    count: usize,
+    k: usize,
+    a: Letter,
+    processes: usize,
+)
+    requires { ⌜ Linked (now log) count n (now scratch) × (k < 64) × (processes ≤ 4) × EmptySet (now scratch) k ⌝ }
+    ensures { λ _. ⌜ Filled (continues (now (log .entry)) count (setAt (now (scratch .entry)) (k + 1)) a (firstProcesses processes)) k (now (scratch .entry)) (now (scratch .exit)) ⌝ }
+{
+    let bits = process_bits(processes);
+    let step = stride(processes);
+    let mut x = step - 1;
     while x < STATES {
         add_state(log, scratch, n, count, k, a, bits, x);
-        x += 1;
+        x += step;
     }
 }
 
@@ -105,9 +121,8 @@ fn fill_set(
     ensures { λ _. ⌜ OnlySet i (now (scratch .entry)) (now (scratch .exit)) × SetRight (now (table .entry)) t (now (scratch .exit)) i ⌝ }
 {
     let a = letter_at(table, t, i);
-    let bits = process_bits(t.processes);
     clear_set(scratch, i);
-    add_states(log, scratch, n, count, i, a, bits);
+    add_states(log, scratch, n, count, i, a, t.processes);
 }
 
 // The sets before the last one, from the back.

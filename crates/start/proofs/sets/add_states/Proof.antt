@@ -1,33 +1,43 @@
-use mathlib.Core.Path.{ap, _∙_}
-use mathlib.Core.Bool.{Bool, cond}
-use mathlib.Core.List.{List}
-use Prim.Native.Nat.{ℕ, _+_, _-_, _≤_}
-use lib.ListN.{length}
+use Prim.Native.Nat.{_+_, _-_}
 use native.Mathlib.Omega.{arith}
 use Rattle.model.specs.Groups.{processesOf}
 use Rattle.automaton.specs.StateNumbers.{stateCount}
-use Rattle.start.specs.Regions.{setAt, withState, chainsPlace}
-use Rattle.start.specs.RestSets.{continues}
-use Rattle.start.proofs.Filling.{Filling, filling-start, filling-turn, filling-next, filling-linked, filling-end}
+use Rattle.start.specs.Regions.{setAt}
+use Rattle.start.specs.RestSets.{firstProcesses, continues}
+use Rattle.start.proofs.Filling.{filling-linked, filling-end}
+use Rattle.start.proofs.Strides.{on-stride, Striding, striding-start, striding-turn}
 use Rattle.start.proofs.sets.add_states.Statement.{statement}
 use Rattle.start.proofs.sets.add_states.Tie as tie
 
 abbrev Inv-loop : tie.InvT-loop
-Inv-loop log scratch₀ n count k a bits x₀ scratch x = Filling (continues log count (setAt scratch₀ (k + 1)) a (processesOf bits)) k x scratch₀ scratch
+Inv-loop log scratch₀ n count k a processes bits step x₀ scratch x =
+    Striding (continues log count (setAt scratch₀ (k + 1)) a (firstProcesses processes)) processes k x scratch₀ scratch
 
 abbrev μ-loop : tie.MeasureT-loop
-μ-loop log scratch₀ n count k a bits x₀ scratch x = stateCount - x
+μ-loop log scratch₀ n count k a processes bits step x₀ scratch x = stateCount - x
+
+process-bits-requires : tie.Need-process-bits-requires Inv-loop μ-loop
+process-bits-requires c κs = c .before .before .pre .2
+
+stride-requires : tie.Need-stride-requires Inv-loop μ-loop
+stride-requires c κs = c .before .before .before .pre .2
+
+sub-x : tie.Need-sub-x Inv-loop μ-loop
+sub-x c = omega arith
 
 loop-holds : tie.Need-loop-holds Inv-loop μ-loop
 loop-holds c =
-    let a = c .before .before .args in
-    filling-start (continues (a .log .now) (a .count) (setAt (a .scratch .now) (a .k + 1)) (a .a) (processesOf (a .bits))) (a .k) (a .scratch .now) (c .before .before .pre .2)
+    let a = c .before .before .before .before .args in
+    let p = c .before .before .before .before .pre in
+    striding-start (a .log .now) (a .count) (a .a) (a .processes) (a .k) (a .scratch .now) (p .2) (c .stride .result) (c .stride .ensures .0) (p .3)
 
 add-state-requires : tie.Need-add-state-requires Inv-loop μ-loop
 add-state-requires c κs =
-    let p = c .before .before .before .before .before .pre in
+    let a = c .before .before .before .before .before .before .before .args in
+    let p = c .before .before .before .before .before .before .before .pre in
     let m = c .before .before .loop in
-    (filling-linked (p .1) (p .0) (m .inv), p .1, c .before .loop-test .taken)
+    let x-is = on-stride (a .processes) (m .x) (p .2) (c .before .loop-test .taken) (m .inv .on) in
+    (filling-linked (p .1) (p .0) (m .inv .filling), p .1, c .before .loop-test .taken, rw (c .before .before .before .before .process-bits .ensures) x-is)
 
 add-x : tie.Need-add-x Inv-loop μ-loop
 add-x c = omega arith
@@ -37,22 +47,22 @@ loop-less c = omega arith
 
 loop-again : tie.Need-loop-again Inv-loop μ-loop
 loop-again c =
-    let a = c .before .before .before .before .before .before .before .before .args in
-    let p = c .before .before .before .before .before .before .before .before .pre in
+    let a = c .before .before .before .before .before .before .before .before .before .before .args in
+    let p = c .before .before .before .before .before .before .before .before .before .before .pre in
     let m = c .before .before .before .before .before .loop in
-    let room : chainsPlace ≤ length (a .scratch .now) = omega (arith, p .0 .room .room) in
-    let test : ℕ → Bool = continues (a .log .now) (a .count) (setAt (a .scratch .now) (a .k + 1)) (a .a) (processesOf (a .bits)) in
-    rw (c .before .before .add-state .ensures ∙ ap (λ (l : List ℕ). cond (continues (a .log .now) (a .count) l (a .a) (processesOf (a .bits)) (m .x)) (withState (m .scratch) (a .k) (m .x)) (m .scratch)) (filling-next (p .1) room (m .inv)))
-    (filling-turn test (a .k) (m .x) (a .scratch .now) (m .scratch) (omega (arith, p .1)) (c .before .before .before .before .loop-test .taken) (m .inv))
+    let s = c .before .before .before .before .before .before .stride in
+    striding-turn (a .log .now) (a .count) (a .a) (a .processes) (a .k) (a .scratch .now) (p .2)
+    (processesOf (c .before .before .before .before .before .before .before .process-bits .result)) (m .x) (s .result) (m .scratch) (c .before .before .add-state .last .1 .0)
+    (c .before .before .before .before .before .before .before .process-bits .ensures) (s .ensures .0) (p .1) (omega (arith, p .0 .room .room)) (c .before .before .before .before .loop-test .taken) (m .inv) (c .before .before .add-state .ensures)
 
 same-length : tie.Need-same-length Inv-loop μ-loop
-same-length c = c .before .loop .inv .same .size
+same-length c = c .before .loop .inv .filling .same .size
 
 returns : tie.Need-returns Inv-loop μ-loop
 returns c =
-    let a = c .before .before .before .before .args in
+    let a = c .before .before .before .before .before .before .args in
     let m = c .before .loop in
-    filling-end (continues (a .log .now) (a .count) (setAt (a .scratch .now) (a .k + 1)) (a .a) (processesOf (a .bits))) (a .k) (m .x) (a .scratch .now) (m .scratch) (c .loop-test .left) (m .inv)
+    filling-end (continues (a .log .now) (a .count) (setAt (a .scratch .now) (a .k + 1)) (a .a) (firstProcesses (a .processes))) (a .k) (m .x) (a .scratch .now) (m .scratch) (c .loop-test .left) (m .inv .filling)
 
 pub add-states-spec : {M : Type 1} → statement M
 add-states-spec =
@@ -60,6 +70,9 @@ add-states-spec =
     (tie.spec
     Inv-loop
     μ-loop
+    process-bits-requires
+    stride-requires
+    sub-x
     loop-holds
     add-state-requires
     add-x
