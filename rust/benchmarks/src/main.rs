@@ -3,12 +3,14 @@
 //! - No argument: the run call of both engines, its median time and, where valgrind is present,
 //!   its instructions.
 //! - `answer`: the answer call of the proved engine, its median time.
+//! - `walk`: the walk call of both engines over a high pile, its median time.
 
+use roskavel::Walk;
 use second_engine::Run;
-use std::env;
 use std::process::{Command, ExitCode};
 use std::time::{Duration, Instant};
-use tables::{Rng, bench};
+use std::{env, iter};
+use tables::{Rng, Table, bench};
 
 /// How many calls a median is taken of.
 const CALLS: usize = 9;
@@ -88,9 +90,10 @@ fn main() -> ExitCode {
     match words[..] {
         [] => print_runs(),
         ["answer"] => print_answers(),
+        ["walk"] => print_walks(),
         [COUNT, engine, ref numbers @ ..] => be_counted(engine, numbers),
         _ => {
-            eprintln!("usage: benchmarks [answer]");
+            eprintln!("usage: benchmarks [answer | walk]");
             return ExitCode::from(2);
         }
     }
@@ -128,6 +131,33 @@ fn print_answers() {
     }
 }
 
+/// Both engines' walk: a pile is grown to 50,000 letters, and then rules fire on top of it.
+fn print_walks() {
+    let mut table = Table::new(1, 1, 1);
+    let letter = table.letter(1);
+    table.rule(letter, [0; 4], [0; 4], &[letter, letter]);
+    table.rule(letter, [0; 4], [0; 4], &[]);
+    table.pile.push(letter);
+    let table = table.bytes();
+    let mut rules = vec![0; 50_000];
+    rules.extend([1, 0].repeat(25_000));
+    let mut pile = vec![0; 50_001];
+    let mut scratch = vec![0; roskavel::WALK_SCRATCH];
+    let ours = median_of(|| {
+        time_of(|| {
+            let walked = roskavel::walk(&table, &rules, &mut pile, &mut scratch);
+            assert!(matches!(walked, Walk::Walked { length: 50_001, .. }));
+        })
+    });
+    let second = median_of(|| {
+        time_of(|| {
+            second_engine::walk(&table, &rules, &mut pile, &mut scratch);
+        })
+    });
+    println!("walk call: median time of {CALLS} calls");
+    println!("100,000 rules, a pile of 50,000  ours {ours:.3} ms, second {second:.3} ms");
+}
+
 /// The benchmark tables that have a run, in not too many rounds.
 fn benches() -> Vec<Bench> {
     let mut lent = Buffers::new(roskavel::RECORD_CEILING, roskavel::STEP_CEILING);
@@ -154,17 +184,24 @@ fn benches() -> Vec<Bench> {
     benches
 }
 
-/// The median time of a call.
+/// The median time of a call, in dirty buffers.
 fn milliseconds(bench: &Bench, call: Call) -> f64 {
     let mut lent = Buffers::new(bench.records, bench.steps);
-    let mut times: Vec<Duration> = (0..CALLS)
-        .map(|_| {
-            lent.make_dirty();
-            let begin = Instant::now();
-            call(&bench.table, &mut lent);
-            begin.elapsed()
-        })
-        .collect();
+    median_of(|| {
+        lent.make_dirty();
+        time_of(|| call(&bench.table, &mut lent))
+    })
+}
+
+fn time_of(call: impl FnOnce()) -> Duration {
+    let begin = Instant::now();
+    call();
+    begin.elapsed()
+}
+
+/// The median of times, in milliseconds.
+fn median_of(time: impl FnMut() -> Duration) -> f64 {
+    let mut times: Vec<Duration> = iter::repeat_with(time).take(CALLS).collect();
     times.sort();
     times[CALLS / 2].as_secs_f64() * 1_000.0
 }
