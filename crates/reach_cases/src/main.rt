@@ -393,12 +393,16 @@ fn run_in_parts(
     }
 }
 
-// On the first p places of the page.
-fn run_on_part(table: &[u8], page: &mut [u16], l: usize, s: usize, p: usize) {
+fn run_on(table: &[u8], page: &mut [u16], l: usize, s: usize) {
     let mut log = [7u8; 600];
     let mut scratch = [7u8; 34200];
+    run_in_parts(table, &mut log, &mut scratch, page, l, s);
+}
+
+// On the first p places of the page.
+fn run_on_part(table: &[u8], page: &mut [u16], l: usize, s: usize, p: usize) {
     if p <= page.len() {
-        run_in_parts(table, &mut log, &mut scratch, &mut page[0..p], l, s);
+        run_on(table, &mut page[0..p], l, s);
     }
 }
 
