@@ -574,30 +574,28 @@ fn show_ends() {
     show_both(&T);
 }
 
+// A table of 70 bytes in three pieces.
+fn show_pieces(front: &[u8], middle: &[u8], back: &[u8]) {
+    let mut out = [0u8; 70];
+    let first = append(&mut out, 0, front);
+    let second = append(&mut out, first, middle);
+    append(&mut out, second, back);
+    show_both(&out);
+}
+
 // 2 and 3: kinds 0 and 2 in the first place.
 fn show_first_kind(kind: u8) {
-    let mut t = T;
-    t[0] = kind;
-    show_both(&t[0..70]);
+    show_pieces(&[kind], &[2u8], &T[2..70]);
 }
 
 // 6: rule 1 writes task 0.
 fn show_stray() {
-    let mut t = T;
-    t[37] = 1;
-    t[38] = 0;
-    show_both(&t[0..70]);
+    show_pieces(&T[0..37], &[1u8, 0], &T[39..70]);
 }
 
-// 8: rule 2 is rule 1.
+// 8: rule 1 stands in the place of rule 2, too.
 fn show_twin() {
-    let mut t = T;
-    t[43] = 1;
-    t[44] = 0;
-    t[45] = 255;
-    t[48] = 1;
-    t[49] = 255;
-    show_both(&t[0..70]);
+    show_pieces(&T[0..42], &T[27..42], &T[57..70]);
 }
 
 fn show_refused() {
