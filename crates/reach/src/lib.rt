@@ -24,6 +24,11 @@ ghost use Rattle.reach.specs.Outcomes.{Roomy, LogLeft, Answers, Runs};
 
 const MOST_RECORDS: usize = 65535;
 
+// What check 15 asks of the scratch: so many bytes, and more for each record that the log can hold.
+const SCRATCH_BASE: usize = 34000;
+
+const SCRATCH_PER_RECORD: usize = 6;
+
 // The number of whole records that a log of this length can hold, at most 65,535.
 fn records_in(size: usize) -> usize
     ensures { λ r. ⌜ (r ≡ capacity size) × (r ≤ 65535) × (r * recordLength ≤ size) ⌝ }
@@ -59,7 +64,7 @@ fn answer_table(table: &[u8], t: Table, log: &mut [u8], scratch: &mut [u8]) -> A
     ensures { λ r. ⌜ Answers (answerCall (now (table .entry)) (now (log .entry)) (now (scratch .entry))) r (now (log .exit)) (now (scratch .exit)) ⌝ }
 {
     let n = records_in(log.len());
-    if scratch.len() < 34000 + 6 * n {
+    if scratch.len() < SCRATCH_BASE + SCRATCH_PER_RECORD * n {
         return Answered::Refused {
             number: 15,
             place: 0,
@@ -88,7 +93,7 @@ fn run_table(table: &[u8], t: Table, log: &mut [u8], scratch: &mut [u8], page: &
     ensures { λ r. ⌜ Runs (runCall (now (table .entry)) (now (log .entry)) (now (scratch .entry)) (now (page .entry))) r (now (log .exit)) (now (scratch .exit)) (now (page .exit)) ⌝ }
 {
     let n = records_in(log.len());
-    if scratch.len() < 34000 + 6 * n {
+    if scratch.len() < SCRATCH_BASE + SCRATCH_PER_RECORD * n {
         return Ran::Refused {
             number: 15,
             place: 0,
