@@ -12,6 +12,7 @@ use table::letter_bits;
 use table::transition_after;
 use table::transition_before;
 use table::transition_letter;
+use table::wide;
 ghost use mathlib.Core.Path.{_≡_};
 ghost use mathlib.Core.Bool.{_&&_};
 ghost use mathlib.Core.List.{List, [], _∷_};
@@ -27,12 +28,6 @@ ghost use Rattle.automaton.specs.StateSets.{setLength, inserted, nextMember};
 ghost use Rattle.table.specs.Reading.{Holds, systemIn, transitionIn};
 ghost use Rattle.shapes.specs.Shapes.{presentIn};
 ghost use Rattle.acceptance.specs.Sets.{acceptsFrom, someAccepts, leads, Extends, here, there};
-
-fn wide(x: u8) -> usize
-    ensures { λ r. ⌜ r ≡ x ⌝ }
-{
-    x as usize
-}
 
 // Transition k reads the letter in g.
 fn is_read(table: &[u8], t: Table, letter: u8, g: Group, k: usize) -> bool

@@ -3,6 +3,7 @@
 pub mod words;
 
 use crate::words::put_word;
+use crate::words::wide;
 use crate::words::word_at;
 use automaton::groups;
 use automaton::states;
@@ -19,12 +20,6 @@ ghost use Rattle.chains.specs.Buckets.{bucketOf, recordBucket, recordRea
 ghost use Rattle.chains.specs.Buckets.{ChainRoom, Chained, SameOutside, Emptied};
 
 const NO_LINK: u16 = 65535;
-
-fn as_usize(x: u16) -> usize
-    ensures { λ r. ⌜ r ≡ x ⌝ }
-{
-    x as usize
-}
 
 // The bucket of a letter and the states before.
 pub fn bucket(n: usize, letter: u8, g: Group) -> usize
@@ -101,7 +96,7 @@ fn link_at(scratch: &[u8], at: usize, k: usize) -> usize
     requires { ⌜ linkPlace at k + 2 ≤ length (now scratch) ⌝ }
     ensures { λ r. ⌜ r ≡ linkAt (now (scratch .entry)) at k ⌝ }
 {
-    as_usize(word_at(scratch, at + 2 * k))
+    wide(word_at(scratch, at + 2 * k))
 }
 
 // The first record of a chain from `start` on that reads the letter with the states g before, or base. A link at or above base is none.

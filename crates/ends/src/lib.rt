@@ -43,7 +43,7 @@ fn one_if_new(mark: u8) -> u8
 }
 
 // How many of the ends of one block, from `at` on, are new. A count of one byte lets the machine count many ends at a time.
-fn count_block(scratch: &[u8], at: usize) -> u8
+fn count_block(scratch: &[u8], at: usize) -> usize
     requires { ⌜ (at + block ≤ stateCount) × (stateCount ≤ length (now scratch)) ⌝ }
     ensures { λ r. ⌜ (length (newBelow (marksOf (now (scratch .entry))) at) + r ≡ length (newBelow (marksOf (now (scratch .entry))) (at + block))) × (r ≤ block) ⌝ }
 {
@@ -53,13 +53,7 @@ fn count_block(scratch: &[u8], at: usize) -> u8
         m += one_if_new(scratch[at + i]);
         i += 1;
     }
-    m
-}
-
-fn wide(x: u8) -> usize
-    ensures { λ r. ⌜ r ≡ x ⌝ }
-{
-    x as usize
+    m as usize
 }
 
 // How many ends are new.
@@ -70,7 +64,7 @@ pub fn count_new(scratch: &[u8]) -> usize
     let mut m = 0;
     let mut b = 0;
     while b < BLOCKS {
-        m += wide(count_block(scratch, BLOCK * b));
+        m += count_block(scratch, BLOCK * b);
         b += 1;
     }
     m

@@ -6,6 +6,7 @@ use table::letter_bits;
 use table::rule_after;
 use table::rule_before;
 use table::rule_letter;
+use table::wide;
 use table::written_count;
 use table::written_letter;
 ghost use mathlib.Core.Path.{_≡_};
@@ -30,12 +31,6 @@ pub enum Firing {
     Idle,
     Full,
     Done(Placed),
-}
-
-fn wide(x: u8) -> usize
-    ensures { λ r. ⌜ r ≡ x ⌝ }
-{
-    x as usize
 }
 
 // Letter b shares no process with those in bits.

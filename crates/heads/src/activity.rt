@@ -1,6 +1,7 @@
 // The rules that a round looks at: those that write a letter of the last round's records.
 use crate::ACTIVE;
 use table::Table;
+use table::wide;
 ghost use mathlib.Core.Path.{_≡_};
 ghost use Prim.Native.Nat.{_+_, _*_, _<_, _≤_};
 ghost use lib.ListN.{length, set};
@@ -13,12 +14,6 @@ ghost use Rattle.heads.specs.Marking.{freshAt, freshEnd, letterCeiling, 
 const FRESH: usize = 16640;
 
 const LETTER_CEILING: usize = 32;
-
-pub fn wide(x: u8) -> usize
-    ensures { λ r. ⌜ r ≡ x ⌝ }
-{
-    x as usize
-}
 
 // Writes x to n bytes from `at` on.
 fn fill(scratch: &mut [u8], at: usize, n: usize, x: u8)

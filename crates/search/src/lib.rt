@@ -4,6 +4,7 @@ use automaton::sets;
 use automaton::states;
 use chains::first_match;
 use chains::next_match;
+use chains::words::wide;
 use chains::words::word_at;
 use model::Group;
 use records::Entry;
@@ -127,12 +128,6 @@ fn with_place(p: Places, level: usize, r: usize) -> Places
     }
 }
 
-fn as_usize(x: u16) -> usize
-    ensures { λ r. ⌜ (r ≡ x) × (r < 65536) ⌝ }
-{
-    x as usize
-}
-
 fn capped(x: u32) -> u32
     ensures { λ r. ⌜ r ≡ min x stepsCap ⌝ }
 {
@@ -150,7 +145,7 @@ fn steps_of(log: &[u8], x: u16) -> u32
     if x == 65535 {
         return 0;
     }
-    capped(records::steps_at(log, as_usize(x)))
+    capped(records::steps_at(log, wide(x)))
 }
 
 // One more than the steps of the path's records, capped.
@@ -183,7 +178,7 @@ fn write_end(log: &mut [u8], scratch: &mut [u8], job: Job, after: Group, x: usiz
     if scratch[x] != 2 {
         return;
     }
-    let place = as_usize(word_at(scratch, PLACES + 2 * x));
+    let place = wide(word_at(scratch, PLACES + 2 * x));
     let before = job.before;
     let e = Entry {
         letter: job.letter,

@@ -1,5 +1,6 @@
 // The stack of record numbers in scratch.
 use chains::words::put_word;
+use chains::words::wide;
 use chains::words::word_at;
 ghost use mathlib.Core.Path.{_≡_};
 ghost use Prim.Native.Nat.{_+_, _≤_};
@@ -9,17 +10,11 @@ ghost use Rattle.stack.specs.StackNumbers.{stackPlace};
 
 const STACK_BASE: usize = 33872;
 
-fn as_usize(x: u16) -> usize
-    ensures { λ r. ⌜ r ≡ x ⌝ }
-{
-    x as usize
-}
-
 pub fn number_at(scratch: &[u8], k: usize) -> usize
     requires { ⌜ stackPlace k + 2 ≤ length (now scratch) ⌝ }
     ensures { λ r. ⌜ r ≡ wordAt (now (scratch .entry)) (stackPlace k) ⌝ }
 {
-    as_usize(word_at(scratch, STACK_BASE + 2 * k))
+    wide(word_at(scratch, STACK_BASE + 2 * k))
 }
 
 pub fn put_number(scratch: &mut [u8], k: usize, x: u16)

@@ -13,6 +13,7 @@ use records::after_at;
 use table::Table;
 use table::letter_bits;
 use table::pile_letter;
+use table::wide;
 ghost use mathlib.Core.Path.{_≡_};
 ghost use Prim.Native.Nat.{_+_, _*_, _<_, _≤_};
 ghost use lib.ListN.{length};
@@ -23,12 +24,6 @@ ghost use Rattle.records.specs.Entries.{HasRecord, afterAt};
 ghost use Rattle.table.specs.Reading.{Holds};
 ghost use Rattle.start.specs.Regions.{setPlace, setAt, Linked};
 ghost use Rattle.start.specs.RestSets.{firstProcesses, LetterAt, firstLead};
-
-fn as_usize(x: u8) -> usize
-    ensures { λ r. ⌜ r ≡ x ⌝ }
-{
-    x as usize
-}
 
 // The first processes as bits.
 pub fn process_bits(processes: usize) -> u8
@@ -56,7 +51,7 @@ pub fn letter_at(table: &[u8], t: Table, i: usize) -> Letter
     ensures { λ r. ⌜ LetterAt (now (table .entry)) i r ⌝ }
 {
     let number = pile_letter(table, t, i);
-    let bits = letter_bits(table, t, as_usize(number));
+    let bits = letter_bits(table, t, wide(number));
     Letter { number, bits }
 }
 

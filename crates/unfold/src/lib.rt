@@ -1,5 +1,6 @@
 // The unfolding of a path of the limit into a run, with a stack of record numbers in scratch: the record on top goes; unless it is of round 0,
 // its rule is written to the page, and its path takes its place.
+use chains::words::wide;
 use records::place_at;
 use records::round_at;
 use records::rule_at;
@@ -28,12 +29,6 @@ pub struct Work {
     pub rules: usize,
     pub length: usize,
     pub highest: usize,
-}
-
-fn as_usize(x: u16) -> usize
-    ensures { λ r. ⌜ r ≡ x ⌝ }
-{
-    x as usize
 }
 
 fn greater(a: usize, b: usize) -> usize
@@ -85,7 +80,7 @@ fn replace(
     let rules = w.rules;
     page[rules] = rule;
     let top = push_path(log, scratch, w.top - 1, x);
-    let length = w.length + written_count(table, t, as_usize(rule)) - 1;
+    let length = w.length + written_count(table, t, wide(rule)) - 1;
     Work {
         top,
         rules: rules + 1,

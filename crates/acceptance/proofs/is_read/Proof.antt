@@ -19,7 +19,7 @@ wide-requires : tie.Need-wide-requires
 wide-requires c κs = search needs
 
 letter-bits-requires : tie.Need-letter-bits-requires
-letter-bits-requires c κs = (c .before .before .before .before .pre .0, (let l = transition-letter-in (c .before .before .before .before .args .table .now) (c .before .before .before .before .args .t) (c .before .before .before .before .pre .0) (c .before .before .before .before .args .k) (c .before .before .before .before .pre .1) in omega (arith, c .wide .ensures, c .before .before .transition-letter .ensures)))
+letter-bits-requires c κs = (c .before .before .before .before .pre .0, (let l = transition-letter-in (c .before .before .before .before .args .table .now) (c .before .before .before .before .args .t) (c .before .before .before .before .pre .0) (c .before .before .before .before .args .k) (c .before .before .before .before .pre .1) in omega (arith, c .wide .ensures .0, c .before .before .transition-letter .ensures)))
 
 transition-before-requires : tie.Need-transition-before-requires
 transition-before-requires c κs = search needs
@@ -31,7 +31,7 @@ returns-2 : tie.Need-returns-2
 returns-2 c =
     let s = c .before .before .before .before .before .before .before .args in
     let loc = systemIn (s .table .now) .loc in
-    let l : processesOf (c .before .before .letter-bits .result) ≡ loc (s .letter) = c .before .before .letter-bits .ensures .same ∙ ap loc (c .before .before .before .wide .ensures ∙ c .before .before .before .before .if1 .left) in
+    let l : processesOf (c .before .before .letter-bits .result) ≡ loc (s .letter) = c .before .before .letter-bits .ensures .same ∙ ap loc (c .before .before .before .wide .ensures .0 ∙ c .before .before .before .before .if1 .left) in
     c .reads .ensures ∙ ap₂ (λ (L : Processes) (b : Group). sameGroup (restrict L (s .g)) b) l (c .before .transition-before .ensures)
     ∙ rw (← c .before .before .before .before .before .transition-letter .ensures, eq-eqb _ _ (c .before .before .before .before .if1 .left)) refl
 

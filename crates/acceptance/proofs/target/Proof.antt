@@ -16,7 +16,7 @@ wide-requires : tie.Need-wide-requires
 wide-requires c κs = search needs
 
 letter-bits-requires : tie.Need-letter-bits-requires
-letter-bits-requires c κs = (c .before .before .before .pre .0, (let l = transition-letter-in (c .before .before .before .args .table .now) (c .before .before .before .args .t) (c .before .before .before .pre .0) (c .before .before .before .args .k) (c .before .before .before .pre .1) in omega (arith, c .wide .ensures, c .before .transition-letter .ensures)))
+letter-bits-requires c κs = (c .before .before .before .pre .0, (let l = transition-letter-in (c .before .before .before .args .table .now) (c .before .before .before .args .t) (c .before .before .before .pre .0) (c .before .before .before .args .k) (c .before .before .before .pre .1) in omega (arith, c .wide .ensures .0, c .before .transition-letter .ensures)))
 
 transition-after-requires : tie.Need-transition-after-requires
 transition-after-requires c κs = search needs
@@ -32,7 +32,7 @@ returns c =
     let s = c .before .before .before .before .before .before .before .args in
     let loc = systemIn (s .table .now) .loc in
     let x = transitionIn (s .table .now) (s .k) in
-    let l : processesOf (c .before .before .before .letter-bits .result) ≡ loc (x .letter) = c .before .before .before .letter-bits .ensures .same ∙ ap loc (c .before .before .before .before .wide .ensures ∙ c .before .before .before .before .before .transition-letter .ensures) in
+    let l : processesOf (c .before .before .before .letter-bits .result) ≡ loc (x .letter) = c .before .before .before .letter-bits .ensures .same ∙ ap loc (c .before .before .before .before .wide .ensures .0 ∙ c .before .before .before .before .before .transition-letter .ensures) in
     (c .number .ensures .0 ∙ ap stateNumber (c .before .merged .ensures ∙ ap₂ (λ (L : Processes) (y : Group). merge L y (s .g)) l (c .before .before .transition-after .ensures)), c .number .ensures .1)
 
 pub target-spec : {M : Type 1} → statement M

@@ -55,6 +55,10 @@ loop-again c =
     let t = c .before .before .before .loop in
     counting-turn (a .scratch .now) (a .at) (t .m) (t .i) _ (c .before .before .before .before .before .pre .0) (c .before .before .loop-test .taken) (c .one-if-new .ensures .0) (c .one-if-new .ensures .1) (t .inv)
 
+-- src/lib.rt:56:5
+cast-result : tie.Need-cast-result Inv-loop μ-loop
+cast-result c = omega arith
+
 -- src/lib.rt:46:1
 returns : tie.Need-returns Inv-loop μ-loop
 returns c =
@@ -76,4 +80,5 @@ count-block-spec =
     add-i
     loop-less
     loop-again
+    cast-result
     returns)

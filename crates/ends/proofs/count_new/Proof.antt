@@ -8,7 +8,6 @@ use Rattle.ends.proofs.count_new.Tie as tie
 use Rattle.ends.proofs.count_new.Reads as reads
 use Rattle.ends.proofs.count_new.Lts as lts
 use Rattle.ends.proofs.count_block.Reads as count-block-reads
-use Rattle.ends.proofs.wide.Reads as wide-reads
 
 abbrev Inv-loop : tie.InvT-loop
 Inv-loop scratch m₀ b₀ m b =
@@ -32,11 +31,6 @@ count-block-requires : tie.Need-count-block-requires Inv-loop μ-loop
 count-block-requires c κs =
     (omega (arith, c .loop-test .taken), c .before .before .before .pre)
 
--- src/lib.rt:73:14
-wide-requires : tie.Need-wide-requires Inv-loop μ-loop
-wide-requires c κs =
-    search needs
-
 -- src/lib.rt:73:9
 add-m : tie.Need-add-m Inv-loop μ-loop
 add-m c = omega arith
@@ -52,9 +46,8 @@ loop-less c = omega arith
 -- src/lib.rt:72:5
 loop-again : tie.Need-loop-again Inv-loop μ-loop
 loop-again c =
-    let t = c .before .before .before .loop in
-    let e = c .before .count-block .ensures in
-    blocks-turn (c .before .before .before .before .before .args .scratch .now) (t .m) (t .b) _ (c .before .before .loop-test .taken) (omega (arith, c .wide .ensures, e .0), omega (arith, c .wide .ensures, e .1)) (t .inv)
+    let t = c .before .before .loop in
+    blocks-turn (c .before .before .before .before .args .scratch .now) (t .m) (t .b) _ (c .before .loop-test .taken) (c .count-block .ensures) (t .inv)
 
 -- src/lib.rt:66:1
 returns : tie.Need-returns Inv-loop μ-loop
@@ -71,7 +64,6 @@ count-new-spec =
     loop-holds
     mul-count-block
     count-block-requires
-    wide-requires
     add-m
     add-b
     loop-less

@@ -43,7 +43,7 @@ returns-2 : tie.Need-returns-2 Inv-loop μ-loop
 returns-2 c =
     let s = c .before .before .before .before .before .before .before .before .before .before .before .args in
     let m = c .before .before .before .before .before .before .loop in
-    finding-blocked (systemIn (s .table .now) .loc) (s .a) (s .pile .now) (s .top) (m .p) (m .inv) (c .before .before .before .before .before .loop-test .taken) (c .before .before .before .if1 .left) (apart-known (systemIn (s .table .now) .loc) (s .a) (c .before .before .before .before .before .before .before .before .wide .result) (getD (s .pile .now) (m .p) 0) (processesOf (c .before .before .before .before .before .before .before .letter-bits .result)) (c .before .is-apart .result) false (c .before .is-apart .ensures) (c .before .before .before .before .before .before .before .letter-bits .ensures .same) (c .before .before .before .before .before .before .before .before .wide .ensures) (c .if2 .left))
+    finding-blocked (systemIn (s .table .now) .loc) (s .a) (s .pile .now) (s .top) (m .p) (m .inv) (c .before .before .before .before .before .loop-test .taken) (c .before .before .before .if1 .left) (apart-known (systemIn (s .table .now) .loc) (s .a) (c .before .before .before .before .before .before .before .before .wide .result) (getD (s .pile .now) (m .p) 0) (processesOf (c .before .before .before .before .before .before .before .letter-bits .result)) (c .before .is-apart .result) false (c .before .is-apart .ensures) (c .before .before .before .before .before .before .before .letter-bits .ensures .same) (c .before .before .before .before .before .before .before .before .wide .ensures .0) (c .if2 .left))
 
 add-p : tie.Need-add-p Inv-loop μ-loop
 add-p c = omega arith
@@ -55,7 +55,7 @@ loop-again : tie.Need-loop-again Inv-loop μ-loop
 loop-again c =
     let s = c .before .before .before .before .before .before .before .before .before .before .before .args in
     let m = c .before .before .before .before .before .before .loop in
-    finding-turn (systemIn (s .table .now) .loc) (s .a) (s .pile .now) (s .top) (m .p) (m .inv) (c .before .before .before .before .before .loop-test .taken) (c .before .before .before .if1 .left) (apart-known (systemIn (s .table .now) .loc) (s .a) (c .before .before .before .before .before .before .before .before .wide .result) (getD (s .pile .now) (m .p) 0) (processesOf (c .before .before .before .before .before .before .before .letter-bits .result)) (c .before .is-apart .result) true (c .before .is-apart .ensures) (c .before .before .before .before .before .before .before .letter-bits .ensures .same) (c .before .before .before .before .before .before .before .before .wide .ensures) (c .if2 .taken))
+    finding-turn (systemIn (s .table .now) .loc) (s .a) (s .pile .now) (s .top) (m .p) (m .inv) (c .before .before .before .before .before .loop-test .taken) (c .before .before .before .if1 .left) (apart-known (systemIn (s .table .now) .loc) (s .a) (c .before .before .before .before .before .before .before .before .wide .result) (getD (s .pile .now) (m .p) 0) (processesOf (c .before .before .before .before .before .before .before .letter-bits .result)) (c .before .is-apart .result) true (c .before .is-apart .ensures) (c .before .before .before .before .before .before .before .letter-bits .ensures .same) (c .before .before .before .before .before .before .before .before .wide .ensures .0) (c .if2 .taken))
 
 returns-3 : tie.Need-returns-3 Inv-loop μ-loop
 returns-3 c =

@@ -17,7 +17,7 @@ wide-requires : tie.Need-wide-requires
 wide-requires c κs = search needs
 
 letter-bits-requires : tie.Need-letter-bits-requires
-letter-bits-requires c κs = (c .before .before .before .before .pre .0, let l = rule-letter-in (c .before .before .before .before .args .table .now) (c .before .before .before .before .args .t) (c .before .before .before .before .pre .0) (c .before .before .before .before .args .k) (c .before .before .before .before .pre .1) in omega (arith, c .wide .ensures, c .before .rule-letter .ensures))
+letter-bits-requires c κs = (c .before .before .before .before .pre .0, let l = rule-letter-in (c .before .before .before .before .args .table .now) (c .before .before .before .before .args .t) (c .before .before .before .before .pre .0) (c .before .before .before .before .args .k) (c .before .before .before .before .pre .1) in omega (arith, c .wide .ensures .0, c .before .rule-letter .ensures))
 
 rule-before-requires : tie.Need-rule-before-requires
 rule-before-requires c κs = search needs
@@ -36,7 +36,7 @@ returns c =
     let s = c .before .before .before .before .before .before .before .before .before .before .args in
     let loc = systemIn (s .table .now) .loc in
     let r = ruleIn (s .table .now) (s .k) in
-    let l : processesOf (c .before .before .before .before .before .letter-bits .result) ≡ loc (r .letter) = c .before .before .before .before .before .letter-bits .ensures .same ∙ ap loc (c .before .before .before .before .before .before .wide .ensures ∙ c .before .before .before .before .before .before .before .rule-letter .ensures) in
+    let l : processesOf (c .before .before .before .before .before .letter-bits .result) ≡ loc (r .letter) = c .before .before .before .before .before .letter-bits .ensures .same ∙ ap loc (c .before .before .before .before .before .before .wide .ensures .0 ∙ c .before .before .before .before .before .before .before .rule-letter .ensures) in
     let e = test-known loc r (s .c .states) (processesOf (c .before .before .before .before .before .letter-bits .result)) (c .before .before .before .before .rule-before .result) (c .before .before .reads .result) true (c .before .before .reads .ensures) l (c .before .before .before .before .rule-before .ensures) (c .before .if1 .taken) in
     place-found loc r (s .pile .now) (s .c) (c .before .before .before .before .before .before .before .rule-letter .result) (c .find .result) e (c .before .before .before .before .before .before .before .rule-letter .ensures) (c .find .ensures)
 
@@ -45,7 +45,7 @@ returns-2 c =
     let s = c .before .before .before .before .before .before .before .before .before .args in
     let loc = systemIn (s .table .now) .loc in
     let r = ruleIn (s .table .now) (s .k) in
-    let l : processesOf (c .before .before .before .before .letter-bits .result) ≡ loc (r .letter) = c .before .before .before .before .letter-bits .ensures .same ∙ ap loc (c .before .before .before .before .before .wide .ensures ∙ c .before .before .before .before .before .before .rule-letter .ensures) in
+    let l : processesOf (c .before .before .before .before .letter-bits .result) ≡ loc (r .letter) = c .before .before .before .before .letter-bits .ensures .same ∙ ap loc (c .before .before .before .before .before .wide .ensures .0 ∙ c .before .before .before .before .before .before .rule-letter .ensures) in
     place-none loc r (s .pile .now) (s .c) (test-known loc r (s .c .states) (processesOf (c .before .before .before .before .letter-bits .result)) (c .before .before .before .rule-before .result) (c .before .reads .result) false (c .before .reads .ensures) l (c .before .before .before .rule-before .ensures) (c .if1 .left))
 
 pub firing-place-spec : {M : Type 1} → statement M

@@ -17,7 +17,7 @@ returns : tie.Need-returns
 returns c =
     let s = c .before .before .before in
     let l = c .letter-bits .ensures in
-    apart-bits (s .args .bits) (c .letter-bits .result) (s .pre .2) (l .small) ∙ ap (apartTest (processesOf (s .args .bits))) (l .same ∙ ap (systemIn (s .args .table .now) .loc) (c .before .wide .ensures))
+    apart-bits (s .args .bits) (c .letter-bits .result) (s .pre .2) (l .small) ∙ ap (apartTest (processesOf (s .args .bits))) (l .same ∙ ap (systemIn (s .args .table .now) .loc) (c .before .wide .ensures .0))
 
 pub is-apart-spec : {M : Type 1} → statement M
 is-apart-spec = tie.close (tie.spec wide-requires letter-bits-requires returns)

@@ -15,7 +15,7 @@ wide-requires : tie.Need-wide-requires
 wide-requires c κs = search needs
 
 letter-bits-requires : tie.Need-letter-bits-requires
-letter-bits-requires c κs = (c .before .before .before .pre .0, let l = rule-letter-in (c .before .before .before .args .table .now) (c .before .before .before .args .t) (c .before .before .before .pre .0) (c .before .before .before .args .k) (c .before .before .before .pre .1) in omega (arith, c .wide .ensures, c .before .rule-letter .ensures))
+letter-bits-requires c κs = (c .before .before .before .pre .0, let l = rule-letter-in (c .before .before .before .args .table .now) (c .before .before .before .args .t) (c .before .before .before .pre .0) (c .before .before .before .args .k) (c .before .before .before .pre .1) in omega (arith, c .wide .ensures .0, c .before .rule-letter .ensures))
 
 rule-after-requires : tie.Need-rule-after-requires
 rule-after-requires c κs = search needs
@@ -27,7 +27,7 @@ returns : tie.Need-returns
 returns c =
     let s = c .before .before .before .before .before .before .args in
     let loc = systemIn (s .table .now) .loc in
-    let l : processesOf (c .before .before .letter-bits .result) ≡ loc (ruleIn (s .table .now) (s .k) .letter) = c .before .before .letter-bits .ensures .same ∙ ap loc (c .before .before .before .wide .ensures ∙ c .before .before .before .before .rule-letter .ensures) in
+    let l : processesOf (c .before .before .letter-bits .result) ≡ loc (ruleIn (s .table .now) (s .k) .letter) = c .before .before .letter-bits .ensures .same ∙ ap loc (c .before .before .before .wide .ensures .0 ∙ c .before .before .before .before .rule-letter .ensures) in
     c .merged .ensures ∙ ap₂ (λ (L : Processes) (g : Group). merge L g (s .states)) l (c .before .rule-after .ensures)
 
 pub states-after-spec : {M : Type 1} → statement M

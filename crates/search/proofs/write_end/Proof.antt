@@ -12,7 +12,7 @@ use Rattle.search.proofs.write_end.Reads as reads
 use Rattle.search.proofs.write_end.Lts as lts
 use Rattle.chains.proofs.words.word_at.Reads as word-at-reads
 use Rattle.records.proofs.put_record.Reads as put-record-reads
-use Rattle.search.proofs.as_usize.Reads as as-usize-reads
+use Rattle.chains.proofs.words.wide.Reads as wide-reads
 use Rattle.search.proofs.path_steps.Reads as path-steps-reads
 
 -- src/lib.rt:161:8
@@ -37,8 +37,8 @@ word-at-requires : tie.Need-word-at-requires
 word-at-requires c κs = search needs
 
 -- src/lib.rt:164:9
-as-usize-requires : tie.Need-as-usize-requires
-as-usize-requires c κs = search needs
+wide-requires : tie.Need-wide-requires
+wide-requires c κs = search needs
 
 -- src/lib.rt:176:16
 path-steps-requires : tie.Need-path-steps-requires
@@ -51,7 +51,7 @@ add-put-record c = search needs
 -- src/lib.rt:178:5
 put-record-requires : tie.Need-put-record-requires
 put-record-requires c κs =
-    let same : c .before .before .before .before .before .as-usize .result ≡ placeIn (c .before .before .before .before .before .before .before .before .before .before .before .before .args .scratch .now) (c .before .before .before .before .before .before .before .before .before .before .before .before .args .x) = c .before .before .before .before .before .as-usize .ensures .0 ∙ c .before .before .before .before .before .before .word-at .ensures in
+    let same : c .before .before .before .before .before .wide .result ≡ placeIn (c .before .before .before .before .before .before .before .before .before .before .before .before .args .scratch .now) (c .before .before .before .before .before .before .before .before .before .before .before .before .args .x) = c .before .before .before .before .before .wide .ensures .0 ∙ c .before .before .before .before .before .before .word-at .ensures in
     subst (λ (n : ℕ). HasRecord (c .before .before .before .before .before .before .before .before .before .before .before .before .args .log .now) (c .before .before .before .before .before .before .before .before .before .before .before .before .args .job .base + n)) (sym same) (c .before .before .before .before .before .before .before .before .before .before .before .before .pre .place (c .before .before .before .before .before .before .before .before .if1 .left))
 
 -- src/lib.rt:179:5
@@ -70,7 +70,7 @@ same-length-2 c = search needs
 returns-2 : tie.Need-returns-2
 unfolding marked written
 returns-2 c =
-    let same : c .before .before .before .before .before .before .before .before .as-usize .result ≡ placeIn (c .before .before .before .before .before .before .before .before .before .before .before .before .before .before .before .args .scratch .now) (c .before .before .before .before .before .before .before .before .before .before .before .before .before .before .before .args .x) = c .before .before .before .before .before .before .before .before .as-usize .ensures .0 ∙ c .before .before .before .before .before .before .before .before .before .word-at .ensures in
+    let same : c .before .before .before .before .before .before .before .before .wide .result ≡ placeIn (c .before .before .before .before .before .before .before .before .before .before .before .before .before .before .before .args .scratch .now) (c .before .before .before .before .before .before .before .before .before .before .before .before .before .before .before .args .x) = c .before .before .before .before .before .before .before .before .wide .ensures .0 ∙ c .before .before .before .before .before .before .before .before .before .word-at .ensures in
     (c .before .before .put-record .ensures ∙ rw (same, c .before .before .before .before .before .path-steps .ensures, eq-eqb _ _ (c .before .before .before .before .before .before .before .before .before .before .before .if1 .left)), rw (eq-eqb _ _ (c .before .before .before .before .before .before .before .before .before .before .before .if1 .left)))
 
 pub write-end-spec : {M : Type 1} → statement M
@@ -82,7 +82,7 @@ write-end-spec =
     mul-word-at
     add-word-at
     word-at-requires
-    as-usize-requires
+    wide-requires
     path-steps-requires
     add-put-record
     put-record-requires

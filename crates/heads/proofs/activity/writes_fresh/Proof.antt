@@ -37,12 +37,12 @@ add-if1 c = omega arith
 shared-slice-read-if1 : tie.Need-shared-slice-read-if1 Inv-loop μ-loop
 shared-slice-read-if1 c = let s = c .before .before .before .before .before .before .before .before in
     let l : c .before .before .written-letter .result < s .args .t .letters = subst (λ (x : ℕ). x < s .args .t .letters) (sym (c .before .before .written-letter .ensures)) (written-letter-in (s .args .table .now) (s .args .t) (s .pre .0) (s .args .k) (c .before .before .before .before .loop .j) (s .pre .1) (omega (arith, c .before .before .before .loop-test .taken, c .before .before .before .before .before .written-count .ensures))) in
-    omega (arith, l, table-modest (s .args .table .now) (s .args .t) (s .pre .0) .letters, c .before .wide .ensures, s .pre .2)
+    omega (arith, l, table-modest (s .args .table .now) (s .args .t) (s .pre .0) .letters, c .before .wide .ensures .0, s .pre .2)
 
 returns : tie.Need-returns Inv-loop μ-loop
 returns c = let s = c .before .before .before .before .before .before .before .before .before in
     sym (c .before .before .before .before .before .loop .inv .1 ∙ any-here (λ (a : ℕ). eqb (getD (s .args .scratch .now) (freshAt + a) 0) 1) (ruleIn (s .args .table .now) (s .args .k) .written) (c .before .before .before .before .before .loop .j) (c .before .before .wide .result)
-    (omega (arith, c .before .before .before .before .loop-test .taken, c .before .before .before .before .before .before .written-count .ensures)) (c .before .before .wide .ensures ∙ c .before .before .before .written-letter .ensures) (eq-eqb _ _ (c .if1 .taken)))
+    (omega (arith, c .before .before .before .before .loop-test .taken, c .before .before .before .before .before .before .written-count .ensures)) (c .before .before .wide .ensures .0 ∙ c .before .before .before .written-letter .ensures) (eq-eqb _ _ (c .if1 .taken)))
 
 add-j : tie.Need-add-j Inv-loop μ-loop
 add-j c = omega arith
@@ -54,7 +54,7 @@ loop-again : tie.Need-loop-again Inv-loop μ-loop
 loop-again c = let s = c .before .before .before .before .before .before .before .before .before in (
   omega arith,
   c .before .before .before .before .before .loop .inv .1 ∙ any-more (λ (a : ℕ). eqb (getD (s .args .scratch .now) (freshAt + a) 0) 1) (ruleIn (s .args .table .now) (s .args .k) .written) (c .before .before .before .before .before .loop .j) (c .before .before .wide .result)
-      (omega (arith, c .before .before .before .before .loop-test .taken, c .before .before .before .before .before .before .written-count .ensures)) (c .before .before .wide .ensures ∙ c .before .before .before .written-letter .ensures) (ne-eqb _ _ (c .if1 .left)),
+      (omega (arith, c .before .before .before .before .loop-test .taken, c .before .before .before .before .before .before .written-count .ensures)) (c .before .before .wide .ensures .0 ∙ c .before .before .before .written-letter .ensures) (ne-eqb _ _ (c .if1 .left)),
 )
 
 returns-2 : tie.Need-returns-2 Inv-loop μ-loop

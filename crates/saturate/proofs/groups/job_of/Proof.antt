@@ -12,7 +12,6 @@ use Rattle.saturate.proofs.groups.job_of.Statement.{statement}
 use Rattle.saturate.proofs.groups.job_of.Tie as tie
 use Rattle.saturate.proofs.groups.job_of.Reads as reads
 use Rattle.saturate.proofs.groups.job_of.Lts as lts
-use Rattle.heads.proofs.activity.wide.Reads as wide-reads
 use Rattle.saturate.proofs.groups.word_bits.Reads as word-bits-reads
 use Rattle.saturate.proofs.groups.word_letter.Reads as word-letter-reads
 use Rattle.table.proofs.letter_bits.Reads as letter-bits-reads
@@ -33,7 +32,7 @@ letter-bits-requires : tie.Need-letter-bits-requires
 letter-bits-requires c κs =
     let x = c .before .before .before .args in
     let p = c .before .before .before .pre in
-    (p .0, subst (λ (n : ℕ). n < x .t .letters) (sym (c .wide .ensures ∙ c .before .rule-letter .ensures)) (rule-letter-in (x .table .now) (x .t) (p .0) (x .k) (p .1)))
+    (p .0, subst (λ (n : ℕ). n < x .t .letters) (sym (c .wide .ensures .0 ∙ c .before .rule-letter .ensures)) (rule-letter-in (x .table .now) (x .t) (p .0) (x .k) (p .1)))
 
 -- src/groups.rt:70:17
 rule-before-requires : tie.Need-rule-before-requires
@@ -94,7 +93,7 @@ returns c =
     let word : List ℕ = ruleIn table (x .k) .written in
     record {
       letter = c .before .before .before .before .before .before .before .before .before .before .before .before .before .rule-letter .ensures;
-      bits = c .before .before .before .before .before .before .before .before .before .before .before .letter-bits .ensures .same ∙ ap (λ (n : ℕ). systemIn table .loc n) (c .before .before .before .before .before .before .before .before .before .before .before .before .wide .ensures ∙ c .before .before .before .before .before .before .before .before .before .before .before .before .before .rule-letter .ensures);
+      bits = c .before .before .before .before .before .before .before .before .before .before .before .letter-bits .ensures .same ∙ ap (λ (n : ℕ). systemIn table .loc n) (c .before .before .before .before .before .before .before .before .before .before .before .before .wide .ensures .0 ∙ c .before .before .before .before .before .before .before .before .before .before .before .before .before .rule-letter .ensures);
       before = c .before .before .before .before .before .before .before .before .before .before .rule-before .ensures;
       rule = refl;
       round = c .before .before .before .before .before .before .before .before .before .label .ensures;

@@ -9,7 +9,6 @@ use Rattle.saturate.proofs.groups.word_bits.Statement.{statement}
 use Rattle.saturate.proofs.groups.word_bits.Tie as tie
 use Rattle.saturate.proofs.groups.word_bits.Reads as reads
 use Rattle.saturate.proofs.groups.word_bits.Lts as lts
-use Rattle.heads.proofs.activity.wide.Reads as wide-reads
 use Rattle.table.proofs.letter_bits.Reads as letter-bits-reads
 use Rattle.table.proofs.written_count.Reads as written-count-reads
 use Rattle.table.proofs.written_letter.Reads as written-letter-reads
@@ -31,7 +30,7 @@ letter-bits-requires : tie.Need-letter-bits-requires
 letter-bits-requires c κs =
     let x = c .before .before .before .before .before .args in
     let p = c .before .before .before .before .before .pre in
-    let a : c .wide .result ≡ getD (ruleIn (x .table .now) (x .k) .written) (x .j) 0 = c .wide .ensures ∙ c .before .written-letter .ensures in
+    let a : c .wide .result ≡ getD (ruleIn (x .table .now) (x .k) .written) (x .j) 0 = c .wide .ensures .0 ∙ c .before .written-letter .ensures in
     let here : x .j < length (ruleIn (x .table .now) (x .k) .written) = omega (arith, c .before .before .before .written-count .ensures, c .before .before .if1 .taken) in
     (p .0, subst (λ (n : ℕ). n < x .t .letters) (sym a) (written-letter-in (x .table .now) (x .t) (p .0) (x .k) (x .j) (p .1) here))
 
@@ -39,7 +38,7 @@ letter-bits-requires c κs =
 returns : tie.Need-returns
 returns c =
     let x = c .before .before .before .before .before .before .args in
-    λ h. c .letter-bits .ensures .same ∙ ap (λ (n : ℕ). systemIn (x .table .now) .loc n) (c .before .wide .ensures ∙ c .before .before .written-letter .ensures)
+    λ h. c .letter-bits .ensures .same ∙ ap (λ (n : ℕ). systemIn (x .table .now) .loc n) (c .before .wide .ensures .0 ∙ c .before .before .written-letter .ensures)
 
 -- src/groups.rt:51:1
 returns-2 : tie.Need-returns-2

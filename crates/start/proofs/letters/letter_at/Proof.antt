@@ -10,22 +10,22 @@ use Rattle.start.proofs.letters.letter_at.Tie as tie
 pile-letter-requires : tie.Need-pile-letter-requires
 pile-letter-requires c κs = search needs
 
-as-usize-requires : tie.Need-as-usize-requires
-as-usize-requires c κs = search needs
+wide-requires : tie.Need-wide-requires
+wide-requires c κs = search needs
 
 letter-bits-requires : tie.Need-letter-bits-requires
 letter-bits-requires c κs =
     let a = c .before .before .before .args in
-    (c .before .before .before .pre .0, omega (arith, c .as-usize .ensures, c .before .pile-letter .ensures, pile-letter-in (a .table .now) (a .t) (c .before .before .before .pre .0) (a .i) (c .before .before .before .pre .1)))
+    (c .before .before .before .pre .0, omega (arith, c .wide .ensures .0, c .before .pile-letter .ensures, pile-letter-in (a .table .now) (a .t) (c .before .before .before .pre .0) (a .i) (c .before .before .before .pre .1)))
 
 returns : tie.Need-returns
 returns c =
     let a = c .before .before .before .before .args in
     record {
       number = c .before .before .pile-letter .ensures;
-      bits = subst (λ (k : ℕ). BitsOf (systemIn (a .table .now) .loc k) (c .letter-bits .result)) (c .before .as-usize .ensures ∙ c .before .before .pile-letter .ensures) (c .letter-bits .ensures);
+      bits = subst (λ (k : ℕ). BitsOf (systemIn (a .table .now) .loc k) (c .letter-bits .result)) (c .before .wide .ensures .0 ∙ c .before .before .pile-letter .ensures) (c .letter-bits .ensures);
     }
 
 pub letter-at-spec : {M : Type 1} → statement M
 letter-at-spec =
-    tie.close (tie.spec pile-letter-requires as-usize-requires letter-bits-requires returns)
+    tie.close (tie.spec pile-letter-requires wide-requires letter-bits-requires returns)
