@@ -1,3 +1,4 @@
 pub mod Decimals
 pub mod Examples
+pub mod LineTexts
 pub mod Texts

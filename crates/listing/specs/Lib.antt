@@ -1,2 +1,3 @@
+pub mod LineText
 pub mod Listing
 pub mod Puts
