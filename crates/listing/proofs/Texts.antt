@@ -97,3 +97,11 @@ pub puts-run : (page : List ℕ) (steps : ℕ) {b b′ b″ t : List ℕ} {at r 
 puts-run page steps {b = b} {b″ = b″} {t = t} {at = at} {s = s} p q g h =
     let e : steps - 0 ≡ steps = omega arith in
     subst (λ (k : ℕ). Puts b at (t ++ runLine (take k page)) (6 * length page + 64) s b″) e (puts-then (6 * length page + 64) p q g (omega (arith, length-take (steps - 0) page)))
+
+-- ---- a text at the buffer's start
+pub puts-front : {b b′ t : List ℕ} {m r : ℕ} → Puts b 0 t m r b′ → m ≤ length b → (take r b′ ≡ t) × (r ≤ length b′)
+unfolding withText
+puts-front {b = b} {t = t} p h = (
+  ap₂ (λ (k : ℕ) (l : List ℕ). take k l) (p .next) (p .contents) ∙ take-at t (drop (0 + length t) b) (0 + length t) (omega arith),
+  omega (arith, p .next, p .short, p .size),
+)
