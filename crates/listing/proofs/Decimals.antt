@@ -22,7 +22,7 @@ one-digit : (fuel n : ℕ) → n < 10 → (glyph (n % 10) ∷ []) ≡ digitsOf f
 one-digit zero n h = ap (λ (d : ℕ). d ∷ []) (last-digit n)
 one-digit (suc fuel) n h = rw (lt-ltb n 10 h) (ap (λ (d : ℕ). d ∷ []) (last-digit n ∙ omega arith))
 
--- with fewer than k more digits it takes a turn more
+-- a number of more digits: those of its tenth, and the last
 more-digits : (fuel n : ℕ) (front : List ℕ) → 10 ≤ n → front ≡ digitsOf fuel (n / 10) → front ++ (glyph (n % 10) ∷ []) ≡ digitsOf (suc fuel) n
 more-digits fuel n front h e = rw (le-ltb n 10 h) (ap₂ (λ (x : List ℕ) (d : ℕ). x ++ (d ∷ [])) e (last-digit n))
 
@@ -30,7 +30,7 @@ pow-most : (k : ℕ) → 1 ≤ 10 ^ k
 pow-most zero = omega arith
 pow-most (suc k) = omega (arith, pow-most k, pow-suc 10 k)
 
--- as many digits as the number takes, counted from the front
+-- a number that takes k + 2 digits is too large for k + 1
 least-of : (k n : ℕ) → Fewest 10 1 n (suc (suc k)) → 10 ^ suc k ≤ n
 least-of k n f =
     let e : suc (suc k) - 1 ≡ suc k = omega arith in

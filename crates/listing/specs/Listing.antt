@@ -14,7 +14,7 @@ abbrev pub ascii : String → List ℕ
 ascii end = []
 ascii (c then s) = code c ∷ ascii s
 
--- the decimal digits of a number, which has no more digits than its own value
+-- the decimal digits of a number in ASCII, where 0 is 48, the last one last; the fuel is the number, which has at most one digit more
 abbrev pub digitsOf : ℕ → ℕ → List ℕ
 digitsOf zero n = (48 + n % 10) ∷ []
 digitsOf (suc fuel) n = cond (ltb n 10) ((48 + n) ∷ []) (digitsOf fuel (n / 10) ++ ((48 + n % 10) ∷ []))
@@ -30,7 +30,7 @@ line head n = head ++ decimal n ++ ascii "\n"
 unfoldable pub counted : List ℕ → ℕ → ℕ → List ℕ
 counted verdict transitions rounds = verdict ++ line (ascii "transitions ") transitions ++ line (ascii "rounds ") rounds
 
--- any refusal of the answer is the one line `refused N at P`
+-- "any other refusal is the one line `refused N at P`"
 unfoldable pub refusedLine : ℕ → ℕ → List ℕ
 refusedLine number place = ascii "refused " ++ decimal number ++ line (ascii " at ") place
 
@@ -49,21 +49,22 @@ spaced (rule ∷ rules) = ascii " " ++ decimal rule ++ spaced rules
 unfoldable pub runLine : List ℕ → List ℕ
 runLine rules = ascii "run" ++ spaced rules ++ ascii "\n"
 
--- the peak, and the rule numbers that stand first on the page, as many as steps; or the refusal's number
+-- the peak and the rule numbers, which stand first on the page, as many as steps; "on refusal 11 `run refused 11` follows steps"
 unfoldable pub runLines : Ran → List ℕ → List ℕ
 runLines (Ran.Reached transitions rounds steps peak) page = line (ascii "peak ") peak ++ runLine (take steps page)
 runLines (Ran.Refused number place) page = line (ascii "run refused ") number
 
--- the number of rules that are listed
+-- how many rule numbers are listed
 abbrev pub listed : Ran → ℕ
 listed (Ran.Reached transitions rounds steps peak) = steps
 listed (Ran.Refused number place) = 0
 
--- the run's lines follow only a reachable answer
+-- whether the run's lines follow: behind a reachable answer only
 abbrev pub isReachable : Answered → Bool
 isReachable (Answered.Reachable transitions rounds steps) = true
 isReachable (Answered.Unreachable transitions rounds) = false
 isReachable (Answered.Refused number place) = false
 
+-- the whole text
 unfoldable pub listing : Answered → Ran → List ℕ → List ℕ
 listing answered ran page = answerLines answered ++ cond (isReachable answered) (runLines ran page) []

@@ -3,9 +3,9 @@
 use model::Answered;
 use model::Ran;
 ghost use mathlib.Core.Path.{_≡_};
-ghost use mathlib.Core.List.{_++_, _∷_};
-ghost use Prim.Native.Nat.{_+_, _*_, _≤_, _<_};
-ghost use lib.ListN.{length, take};
+ghost use mathlib.Core.List.{_++_};
+ghost use Prim.Native.Nat.{_+_, _*_, _≤_};
+ghost use lib.ListN.{length};
 ghost use Rattle.listing.specs.Listing.{ascii, decimal, line, counted, refusedLine, answerLines, spaced, runLine, runLines, listed};
 ghost use Rattle.listing.specs.Puts.{Puts};
 
@@ -21,6 +21,7 @@ fn put_bytes(out: &mut [u8], at: usize, bytes: &[u8]) -> usize
     at + i
 }
 
+// The decimal digits, of which a number of 64 bits has at most 20.
 fn put_number(out: &mut [u8], at: usize, n: u64) -> usize
     requires { ⌜ at + 20 ≤ length (now out) ⌝ }
     ensures { λ r. ⌜ Puts (now (out .entry)) at (decimal n) 20 r (now (out .exit)) ⌝ }
@@ -87,7 +88,7 @@ pub fn put_answer(out: &mut [u8], at: usize, answered: Answered) -> usize
 }
 
 // ---- the run's lines
-// A rule number after a space.
+// A rule number after a space; a number of 16 bits has at most 5 digits.
 fn put_rule(out: &mut [u8], at: usize, rule: u16) -> usize
     requires { ⌜ at + 21 ≤ length (now out) ⌝ }
     ensures { λ r. ⌜ Puts (now (out .entry)) at (ascii " " ++ decimal rule) 6 r (now (out .exit)) ⌝ }
