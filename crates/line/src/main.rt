@@ -1,104 +1,75 @@
 // Document 01, the program `line`: a table from standard input; the verdict, its figures and a run to standard output.
 use libc::STDIN_FILENO;
 use libc::STDOUT_FILENO;
+use listing::put_answer;
+use listing::put_ran;
 use model::Answered;
-use model::Ran;
 use reach::answer;
 use reach::run;
+ghost use mathlib.Core.Path.{_≡_};
+ghost use Prim.Native.Nat.{_+_, _≤_};
+ghost use lib.ListN.{length, take};
+ghost use Rattle.model.specs.Calls.{runCall};
+ghost use Rattle.listing.specs.LineText.{Lent, lineText};
+ghost use Rattle.listing.specs.Listing.{isReachable, runLines};
+ghost use Rattle.listing.specs.Puts.{Puts};
 
-// A fixed head, a number, and the end of the line.
-fn print_line(head: &[u8], n: u64) {
-    io::write_all(STDOUT_FILENO, head);
-    io::print_decimal(STDOUT_FILENO, n);
-    io::write_all(STDOUT_FILENO, b"\n");
-}
-
-fn print_refused(number: u8, place: usize) {
-    io::write_all(STDOUT_FILENO, b"refused ");
-    io::print_decimal(STDOUT_FILENO, number as u64);
-    print_line(b" at ", place as u64);
-}
-
-fn print_reachable(transitions: u32, rounds: u32, steps: u32) {
-    io::write_all(STDOUT_FILENO, b"answer reachable\n");
-    print_line(b"transitions ", transitions as u64);
-    print_line(b"rounds ", rounds as u64);
-    print_line(b"steps ", steps as u64);
-}
-
-fn print_unreachable(transitions: u32, rounds: u32) {
-    io::write_all(STDOUT_FILENO, b"answer unreachable\n");
-    print_line(b"transitions ", transitions as u64);
-    print_line(b"rounds ", rounds as u64);
-}
-
-fn print_head() {
-    io::write_all(STDOUT_FILENO, b"run");
-}
-
-fn print_item(x: u16) {
-    io::write_all(STDOUT_FILENO, b" ");
-    io::print_decimal(STDOUT_FILENO, x as u64);
-}
-
-fn print_end() {
-    io::write_all(STDOUT_FILENO, b"\n");
-}
-
-// The first rule numbers of the page, each after a space.
-fn print_run(page: &[u16], steps: usize) {
-    print_head();
-    let mut i = 0;
-    while i < page.len() {
-        if i == steps {
-            break;
-        }
-        print_item(page[i]);
-        i += 1;
-    }
-    print_end();
-}
-
-fn print_ran(ran: Ran, page: &[u16]) {
-    match ran {
-        Ran::Refused { number, place } => {
-            print_line(b"run refused ", number as u64);
-        }
-        Ran::Reached {
-            transitions,
-            rounds,
-            steps,
-            peak,
-        } => {
-            print_line(b"peak ", peak as u64);
-            print_run(page, steps as usize);
-        }
-    }
-}
-
-// The answer's lines. Whether a run follows.
-fn print_answer(answered: Answered) -> bool {
+fn is_reachable(answered: Answered) -> bool
+    ensures { λ r. ⌜ r ≡ isReachable answered ⌝ }
+{
     match answered {
-        Answered::Refused { number, place } => {
-            print_refused(number, place);
-            false
-        }
-        Answered::Unreachable {
-            transitions,
-            rounds,
-        } => {
-            print_unreachable(transitions, rounds);
-            false
-        }
         Answered::Reachable {
             transitions,
             rounds,
             steps,
         } => {
-            print_reachable(transitions, rounds, steps);
-            true
+            return true;
+        }
+        Answered::Unreachable {
+            transitions,
+            rounds,
+        } => {
+            return false;
+        }
+        Answered::Refused { number, place } => {
+            return false;
         }
     }
+}
+
+// The run's lines behind the answer's.
+fn add_run(
+    input: &[u8],
+    log: &mut [u8],
+    scratch: &mut [u8],
+    page: &mut [u16],
+    out: &mut [u8],
+    at: usize,
+) -> usize
+    requires { ⌜ (length (now page) ≡ 10000) × (at + 60064 ≤ length (now out)) ⌝ }
+    ensures { λ r. ⌜ Puts (now (out .entry)) at (runLines (runCall (now (input .entry)) (now (log .entry)) (now (scratch .entry)) (now (page .entry)) .answer) (runCall (now (input .entry)) (now (log .entry)) (now (scratch .entry)) (now (page .entry)) .page)) 60064 r (now (out .exit)) ⌝ }
+{
+    let ran = run(input, log, scratch, page);
+    put_ran(out, at, ran, page)
+}
+
+// Document 01's text for an input: the answer's lines, and behind a reachable answer the run's.
+fn respond(
+    input: &[u8],
+    log: &mut [u8],
+    scratch: &mut [u8],
+    page: &mut [u16],
+    out: &mut [u8],
+) -> usize
+    requires { ⌜ Lent (now log) (now scratch) (now page) × (65536 ≤ length (now out)) ⌝ }
+    ensures { λ r. ⌜ (take r (now (out .exit)) ≡ lineText (now (input .entry))) × (r ≤ length (now (out .exit))) ⌝ }
+{
+    let answered = answer(input, log, scratch);
+    let end = put_answer(out, 0, answered);
+    if is_reachable(answered) {
+        return add_run(input, log, scratch, page, out, end);
+    }
+    end
 }
 
 // A log of 2,000 records, the scratch for it, and a page of 10,000 places.
@@ -107,10 +78,8 @@ fn main() {
     let mut log = [0u8; 48000];
     let mut scratch = [0u8; 46000];
     let mut page = [0u16; 10000];
+    let mut text = io::large_buffer();
     let n = io::read_full(STDIN_FILENO, &mut input);
-    let answered = answer(&input[..n], &mut log, &mut scratch);
-    if print_answer(answered) {
-        let ran = run(&input[..n], &mut log, &mut scratch, &mut page);
-        print_ran(ran, &page);
-    }
+    let end = respond(&input[0..n], &mut log, &mut scratch, &mut page, &mut text);
+    io::write_all(STDOUT_FILENO, &text[0..end]);
 }

@@ -1,0 +1,54 @@
+use mathlib.Core.Path.{ap, subst}
+use mathlib.Core.List.{List}
+use Prim.Native.Nat.{ℕ}
+use Rattle.model.specs.declared.Ran.{Ran}
+use Rattle.model.specs.Calls.{runCall}
+use Rattle.listing.specs.Listing.{listed, runLines}
+use Rattle.listing.specs.Puts.{Puts}
+use Rattle.listing.proofs.LineTexts.{run-fits}
+use Rattle.listing.proofs.Texts.{puts-within}
+use native.Mathlib.Omega.{arith}
+use borrow.Author.Needs.{needs}
+use Rattle.line.proofs.add_run.Statement.{statement}
+use Rattle.line.proofs.add_run.Tie as tie
+
+run-requires : tie.Need-run-requires
+run-requires c κs = search needs
+
+put-ran-requires : tie.Need-put-ran-requires
+put-ran-requires c κs =
+    let a = c .before .before .before .before .before .before .before .before .before .before .before .before .before .before .before .before .before .args in
+    let r = c .before .before .before .before .before .before .before .before .run in
+    (omega (arith, ap listed (r .ensures .0 .answer), run-fits (a .input .now) (a .log .now) (a .scratch .now) (a .page .now), r .kept .1 .1 .1 .0), omega (arith, r .kept .1 .1 .1 .0))
+
+same-length : tie.Need-same-length
+same-length c = search needs
+
+same-length-2 : tie.Need-same-length-2
+same-length-2 c = search needs
+
+same-length-3 : tie.Need-same-length-3
+same-length-3 c = search needs
+
+same-length-4 : tie.Need-same-length-4
+same-length-4 c = search needs
+
+returns : tie.Need-returns
+returns c =
+    let a = c .before .before .before .before .before .before .before .before .before .before .before .before .before .before .before .before .before .before .before .before .args in
+    let o = c .before .before .before .before .before .before .before .before .before .before .before .run .ensures .0 in
+    let q = c .before .before .put-ran in
+    subst (λ (x : Ran). Puts (a .out .now) (a .at) (runLines x (runCall (a .input .now) (a .log .now) (a .scratch .now) (a .page .now) .page)) 60064 (q .result) (q .last .0)) (o .answer)
+    (subst (λ (l : List ℕ). Puts (a .out .now) (a .at) (runLines (c .before .before .before .before .before .before .before .before .before .before .before .run .result) l) 60064 (q .result) (q .last .0)) (o .page-left) (puts-within 60064 (q .ensures) (omega (arith, c .before .before .before .before .before .before .before .before .before .before .before .run .kept .1 .1 .1 .0))))
+
+pub add-run-spec : {M : Type 1} → statement M
+add-run-spec =
+    tie.close
+    (tie.spec
+    run-requires
+    put-ran-requires
+    same-length
+    same-length-2
+    same-length-3
+    same-length-4
+    returns)

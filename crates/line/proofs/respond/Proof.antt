@@ -1,0 +1,83 @@
+use mathlib.Core.Path.{sym, _∙_}
+use Rattle.listing.specs.LineText.{Lent}
+use Rattle.listing.proofs.LineTexts.{text-alone, text-reachable}
+use Rattle.listing.proofs.Texts.{puts-front, puts-then}
+use native.Mathlib.Omega.{arith}
+use borrow.Author.Needs.{needs}
+use Rattle.line.proofs.respond.Statement.{statement}
+use Rattle.line.proofs.respond.Tie as tie
+
+answer-requires : tie.Need-answer-requires
+answer-requires c κs = search needs
+
+put-answer-requires : tie.Need-put-answer-requires
+put-answer-requires c κs = search needs
+
+is-reachable-requires : tie.Need-is-reachable-requires
+is-reachable-requires c κs = search needs
+
+add-run-requires : tie.Need-add-run-requires
+add-run-requires c κs = search needs
+
+same-length : tie.Need-same-length
+same-length c = search needs
+
+same-length-2 : tie.Need-same-length-2
+same-length-2 c = search needs
+
+same-length-3 : tie.Need-same-length-3
+same-length-3 c = search needs
+
+same-length-4 : tie.Need-same-length-4
+same-length-4 c = search needs
+
+returns : tie.Need-returns
+returns c =
+    let s = c .before .before .before .before .before .before .before .before .before .before .before .before .before .before .before .before .before .before .before .before .before .before .before .before .before .before .before .before .before .before .before in
+    let a = s .args in
+    let r = c .before .before .before .before .before .before .before .before .before .before .before .before .before .before .before .before .before .before .before .before .before .before .before .answer in
+    let q = c .before .before .before .before .before .before .before .before .add-run in
+    let left : Lent (r .last .1 .0) (r .last .1 .1 .0) (a .page .now) = record {
+      log-length = omega (arith, s .pre .0 .log-length, r .kept .1 .0);
+      scratch-length = omega (arith, s .pre .0 .scratch-length, r .kept .1 .1 .0);
+      page-length = s .pre .0 .page-length;
+    } in
+    let front = puts-front (puts-then 60192 (c .before .before .before .before .before .before .before .before .before .before .before .before .before .before .before .before .before .put-answer .ensures) (q .ensures) (omega arith) (omega arith)) (omega (arith, s .pre .1)) in (
+      front .0 ∙ text-reachable (a .input .now) (a .log .now) (a .scratch .now) (a .page .now) (r .last .1 .0) (r .last .1 .1 .0) (r .result) (s .pre .0) left (r .ensures .0 .answer) (sym (c .before .before .before .before .before .before .before .before .before .before .before .before .before .before .is-reachable .ensures) ∙ c .before .before .before .before .before .before .before .before .before .before .before .before .before .if1 .taken),
+      front .1,
+    )
+
+same-length-5 : tie.Need-same-length-5
+same-length-5 c = search needs
+
+same-length-6 : tie.Need-same-length-6
+same-length-6 c = search needs
+
+same-length-7 : tie.Need-same-length-7
+same-length-7 c = search needs
+
+returns-2 : tie.Need-returns-2
+returns-2 c =
+    let s = c .before .before .before .before .before .before .before .before .before .before .before .before .before .before .before .before .before .before in
+    let a = s .args in
+    let r = c .before .before .before .before .before .before .before .before .before .before .answer in
+    let front = puts-front (c .before .before .before .before .put-answer .ensures) (omega (arith, s .pre .1)) in
+    (front .0 ∙ text-alone (a .input .now) (a .log .now) (a .scratch .now) (a .page .now) (r .result) (s .pre .0) (r .ensures .0 .answer) (sym (c .before .is-reachable .ensures) ∙ c .if1 .left), front .1)
+
+pub respond-spec : {M : Type 1} → statement M
+respond-spec =
+    tie.close
+    (tie.spec
+    answer-requires
+    put-answer-requires
+    is-reachable-requires
+    add-run-requires
+    same-length
+    same-length-2
+    same-length-3
+    same-length-4
+    returns
+    same-length-5
+    same-length-6
+    same-length-7
+    returns-2)

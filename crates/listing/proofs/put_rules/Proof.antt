@@ -1,0 +1,59 @@
+use Prim.Native.Nat.{_*_, _-_, _≤_}
+use Rattle.listing.specs.Listing.{spaced}
+use Rattle.listing.specs.Puts.{Puts}
+use Rattle.listing.proofs.Texts.{puts-none, puts-rule, puts-rules}
+use native.Mathlib.Omega.{arith}
+use lib.ListN.{length, take}
+use Rattle.listing.proofs.put_rules.Statement.{statement}
+use Rattle.listing.proofs.put_rules.Tie as tie
+
+abbrev Inv-loop : tie.InvT-loop
+Inv-loop out₀ at rules end₀ i₀ out end i = (i ≤ length rules) × Puts out₀ at (spaced (take i rules)) (6 * i) end out
+
+abbrev μ-loop : tie.MeasureT-loop
+μ-loop out₀ at rules end₀ i₀ out end i = length rules - i
+
+loop-holds : tie.Need-loop-holds Inv-loop μ-loop
+loop-holds c = (omega arith, puts-none _ _ _ (omega arith))
+
+mul-put-rule : tie.Need-mul-put-rule Inv-loop μ-loop
+mul-put-rule c = omega arith
+
+shared-slice-read-put-rule : tie.Need-shared-slice-read-put-rule Inv-loop μ-loop
+shared-slice-read-put-rule c = omega arith
+
+put-rule-requires : tie.Need-put-rule-requires Inv-loop μ-loop
+put-rule-requires c κs = omega arith
+
+add-i : tie.Need-add-i Inv-loop μ-loop
+add-i c = omega arith
+
+loop-less : tie.Need-loop-less Inv-loop μ-loop
+loop-less c = omega arith
+
+loop-again : tie.Need-loop-again Inv-loop μ-loop
+loop-again c =
+    let m = c .before .before .before .before .before .before .loop in
+    (omega arith, puts-rule (c .before .before .before .before .before .before .before .before .before .args .rules .now) (m .i) (m .inv .1) (c .before .before .put-rule .ensures) (omega arith) (omega arith))
+
+same-length : tie.Need-same-length Inv-loop μ-loop
+same-length c = c .before .loop .inv .1 .size
+
+returns : tie.Need-returns Inv-loop μ-loop
+returns c = puts-rules (c .before .before .before .before .args .rules .now) (c .before .loop .i) (c .before .loop .inv .1) (omega arith)
+
+pub put-rules-spec : {M : Type 1} → statement M
+put-rules-spec =
+    tie.close
+    (tie.spec
+    Inv-loop
+    μ-loop
+    loop-holds
+    mul-put-rule
+    shared-slice-read-put-rule
+    put-rule-requires
+    add-i
+    loop-less
+    loop-again
+    same-length
+    returns)

@@ -1,0 +1,4 @@
+pub mod LineText
+pub mod Listing
+pub mod Puts
+pub mod SmallTexts

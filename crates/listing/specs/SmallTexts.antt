@@ -1,0 +1,47 @@
+-- Document 01, "Small tables": what the program `line` writes for them, as one table of inputs and texts, with one theorem.
+use mathlib.Core.Path.{_≡_, refl}
+use mathlib.Core.List.{List, [], _∷_, _++_, map}
+use Prim.Native.Nat.{ℕ}
+use Prim.Native.String.{String}
+use Rattle.model.specs.declared.Answered.{Answered}
+use Rattle.model.specs.declared.Ran.{Ran}
+use Rattle.model.specs.Groups.{sameGroup, restrict, merge}
+use Rattle.model.specs.Words.{tops}
+use Rattle.model.specs.Systems.{enabled, fire}
+use Rattle.model.specs.Tables.{isOutOfTurn, groupFits, transitionFits, writtenFit, valueFits, cooperates, leavesControl, isTwin, refusal, readFrom, read, systemOf}
+use Rattle.model.specs.Log.{readsAt, keyLess, sameKey, additions, logAt, firstSaturated, saturatedAt}
+use Rattle.model.specs.Unfolding.{acceptingPath, emittedBy}
+use Rattle.model.specs.Calls.{recordsOf, runOf, pageAfter, answerGiven, answerCall, runGiven, runCall}
+use Rattle.model.specs.SmallTables.{head-T, rules01-T, rule2-T, accepting-T, start-T, table-T, re-entry, doubling}
+use Rattle.listing.specs.LineText.{lineText, textWith}
+use Rattle.listing.specs.Listing.{ascii, decimal, line, counted, refusedLine, answerLines, runLine, runLines, listing}
+
+pub record Example : Type 0 where
+  pub input : List ℕ
+  pub text : String
+
+abbrev pub examples : List Example
+examples =
+    record { input = table-T; text = "answer reachable\ntransitions 3\nrounds 2\nsteps 3\npeak 2\nrun 0 1 2\n" }
+    -- T without rule 2
+    ∷ record { input = head-T ++ rules01-T ++ accepting-T ++ start-T; text = "answer unreachable\ntransitions 1\nrounds 1\n" }
+    -- T with start (1,1) and no pile: an empty run
+    ∷ record {
+      input = head-T ++ rules01-T ++ rule2-T ++ accepting-T ++ (6 ∷ 1 ∷ 1 ∷ 255 ∷ 255 ∷ 8 ∷ []);
+      text = "answer reachable\ntransitions 3\nrounds 2\nsteps 0\npeak 0\nrun\n";
+    }
+    ∷ record { input = doubling; text = "answer reachable\ntransitions 3\nrounds 3\nsteps 7\npeak 3\nrun 0 1 2 2 1 2 2\n" }
+    ∷ record { input = re-entry; text = "refused 7 at 22\n" }
+    -- the empty file
+    ∷ record { input = []; text = "refused 1 at 0\n" }
+    ∷ []
+
+-- the definitions give each text
+pub examples-hold : map (λ (e : Example). lineText (e .input)) examples ≡ map (λ (e : Example). ascii (e .text)) examples
+unfolding sameGroup restrict merge tops enabled fire isOutOfTurn groupFits transitionFits writtenFit valueFits cooperates leavesControl isTwin refusal readFrom read systemOf readsAt keyLess sameKey additions logAt firstSaturated saturatedAt acceptingPath emittedBy recordsOf runOf pageAfter answerGiven answerCall runGiven runCall lineText textWith listing answerLines refusedLine runLines runLine counted line decimal
+examples-hold = refl
+
+-- doubling with 19 letters: a run longer than the page
+pub long-run : listing (Answered.Reachable 19 19 524287) (Ran.Refused 11 0) [] ≡ ascii "answer reachable\ntransitions 19\nrounds 19\nsteps 524287\nrun refused 11\n"
+unfolding listing answerLines runLines counted line decimal
+long-run = refl
