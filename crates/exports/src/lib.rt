@@ -5,7 +5,7 @@ ghost use mathlib.Core.Path.{_≡_};
 ghost use mathlib.Core.List.{_∷_, [], _++_};
 ghost use lib.ListN.{length};
 ghost use Rattle.model.specs.Calls.{answerCall, runCall, walkCall, answerFigures, runFigures};
-ghost use Rattle.exports.specs.Figures.{sixteen, AnswerLeaves, RunLeaves, WalkLeaves};
+ghost use Rattle.exports.specs.Figures.{sixteen, AnswerLeaves, RunLeaves, WalkLeaves, Word, RunWord};
 
 // The figures of an answer or a run; a place that a case does not name is 0.
 fn put(
@@ -114,7 +114,8 @@ pub extern "C" fn roskavel_answer(
     scratch: &mut [u8],
     figures: &mut [u64; 16],
 )
-    ensures { λ _. ⌜ AnswerLeaves (answerCall (now (table .entry)) (now (log .entry)) (now (scratch .entry))) (now (figures .exit)) (now (log .exit)) (now (scratch .exit)) ⌝ }
+    ensures outcome { λ _. ⌜ AnswerLeaves (answerCall (now (table .entry)) (now (log .entry)) (now (scratch .entry))) (now (figures .exit)) (now (log .exit)) (now (scratch .exit)) ⌝ }
+    ensures word { λ _. ⌜ Word (now (table .entry)) (now (figures .exit)) ⌝ }
 {
     let a = reach::answer(table, log, scratch);
     put_answer(figures, a);
@@ -129,7 +130,8 @@ pub extern "C" fn roskavel_run(
     page: &mut [u16],
     figures: &mut [u64; 16],
 )
-    ensures { λ _. ⌜ RunLeaves (runCall (now (table .entry)) (now (log .entry)) (now (scratch .entry)) (now (page .entry))) (now (figures .exit)) (now (log .exit)) (now (scratch .exit)) (now (page .exit)) ⌝ }
+    ensures outcome { λ _. ⌜ RunLeaves (runCall (now (table .entry)) (now (log .entry)) (now (scratch .entry)) (now (page .entry))) (now (figures .exit)) (now (log .exit)) (now (scratch .exit)) (now (page .exit)) ⌝ }
+    ensures word { λ _. ⌜ RunWord (now (table .entry)) (now (figures .exit)) (now (page .exit)) ⌝ }
 {
     let r = reach::run(table, log, scratch, page);
     put_run(figures, r);

@@ -1,7 +1,8 @@
-use mathlib.Core.Path.{ap, _∙_}
+use mathlib.Core.Path.{ap, subst, sym, _∙_}
 use Rattle.model.specs.Calls.{answerFigures}
 use Rattle.model.specs.declared.Answered.{Answered}
-use Rattle.exports.specs.Figures.{sixteen}
+use Rattle.exports.specs.Figures.{Word, sixteen}
+use Rattle.exports.proofs.Words.{answer-word}
 use native.Mathlib.Omega.{arith}
 use lib.ListN.{length, length-set}
 use borrow.Author.Needs.{needs}
@@ -31,8 +32,12 @@ same-length-2 c = search needs
 -- src/lib.rt:151:1
 returns : tie.Need-returns
 returns c =
+    let a = c .before .before .before .before .before .before .before .before .before .before .before .before .args in
     let o = c .before .before .before .before .before .before .answer .ensures .0 in
-    record { figures = c .put-answer .ensures ∙ ap (λ (a : Answered). sixteen (answerFigures a)) (o .answer); log = o .log-left; scratch = o .scratch-left }
+    let f = c .put-answer .ensures ∙ ap (λ (x : Answered). sixteen (answerFigures x)) (o .answer) in (
+      record { figures = f; log = o .log-left; scratch = o .scratch-left },
+      subst (Word (a .table .now)) (sym f) (answer-word (a .table .now) (a .log .now) (a .scratch .now)),
+    )
 
 pub roskavel-answer-spec : {M : Type 1} → statement M
 roskavel-answer-spec =
