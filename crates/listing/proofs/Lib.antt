@@ -1,3 +1,4 @@
 pub mod Decimals
 pub mod LineTexts
 pub mod Texts
+pub mod Verdicts

@@ -27,10 +27,10 @@ use Rattle.model.proofs.Tests.{by-test}
 
 -- ---- every accepted table is decided: its start's path in the limit, or no run
 module _ (items : List Item) (c : Complete items) where
-  found-joins : (p : Path) → startPath (systemOf items) ≡ some p → Joins (systemOf items) (systemOf items .start) (emitted (limit (systemOf items)) (p .numbers))
+  pub found-joins : (p : Path) → startPath (systemOf items) ≡ some p → Joins (systemOf items) (systemOf items .start) (emitted (limit (systemOf items)) (p .numbers))
   found-joins p e = answer-yes (systemOf items) (accepted-well-formed items c) (saturatedAt (systemOf items)) (systemOf items .start) (accepted-control items c) p e
 
-  none-joins : startPath (systemOf items) ≡ none → NoRun (systemOf items)
+  pub none-joins : startPath (systemOf items) ≡ none → NoRun (systemOf items)
   none-joins e ns j =
       answer-no (systemOf items) (accepted-well-formed items c) (saturatedAt (systemOf items)) (limit-saturated (systemOf items) (accepted-bytes items c)) (systemOf items .start) e ns j
 
@@ -38,7 +38,7 @@ module _ (items : List Item) (c : Complete items) where
 steps-figure : (sys : System) (p : Path) → startPath sys ≡ some p → pathSteps (limit sys) (p .numbers) ≡ min (length (emitted (limit sys) (p .numbers))) stepsCap
 steps-figure sys p e = answer-steps sys (saturatedAt sys) (sys .start) p e
 
-found-counts : (sys : System) (p : Path) → startPath sys ≡ some p → Counts sys (length (emitted (limit sys) (p .numbers)))
+pub found-counts : (sys : System) (p : Path) → startPath sys ≡ some p → Counts sys (length (emitted (limit sys) (p .numbers)))
 found-counts sys p e = record {
   path = p;
   is = e;

@@ -24,6 +24,7 @@ pub mod Tables
 pub mod Closing
 pub mod Prefixes
 pub mod Demands
+pub mod Meanings
 pub mod Theorems
 pub mod GreedyPath
 pub mod EmissionStack

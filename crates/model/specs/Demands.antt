@@ -62,3 +62,13 @@ pub record Demand3 (table log scratch page : List ℕ) (answer : Answered) (ran 
   -- where the first premise holds and the second fails, both calls are refused for a short log, and nowhere else
   pub answer-short : ((items : List Item) × (read table ≡ accepted items) × ScratchServes log scratch × LogShort (systemOf items) log) ↔ (answer ≡ Answered.Refused 10 0)
   pub run-short : ((items : List Item) × (read table ≡ accepted items) × ScratchServes log scratch × LogShort (systemOf items) log) ↔ (ran ≡ Ran.Refused 10 0)
+
+-- ---- the word alone, with no premise: what an answer tells of the table, and what a run call that was not refused leaves on the page
+abbrev pub Tells : List ℕ → Answered → Type 0
+Tells table (Answered.Unreachable t r) = (items : List Item) × (read table ≡ accepted items) × NoRun (systemOf items)
+Tells table (Answered.Reachable t r s) = (items : List Item) × (read table ≡ accepted items) × SomeRun (systemOf items)
+Tells table (Answered.Refused number place) = 1 ≤ number
+
+abbrev pub Writes : List ℕ → List ℕ → Ran → Type 0
+Writes table left (Ran.Reached t r s p) = (items : List Item) × (read table ≡ accepted items) × Joins (systemOf items) (systemOf items .start) (take s left)
+Writes table left (Ran.Refused number place) = 1 ≤ number

@@ -1,7 +1,7 @@
-use mathlib.Core.Path.{ap, subst, sym, _∙_}
+use mathlib.Core.Path.{ap, _∙_}
 use Rattle.model.specs.Calls.{answerFigures}
 use Rattle.model.specs.declared.Answered.{Answered}
-use Rattle.exports.specs.Figures.{Word, sixteen}
+use Rattle.exports.specs.Figures.{sixteen}
 use Rattle.exports.proofs.Words.{answer-word}
 use native.Mathlib.Omega.{arith}
 use lib.ListN.{length, length-set}
@@ -36,7 +36,7 @@ returns c =
     let o = c .before .before .before .before .before .before .answer .ensures .0 in
     let f = c .put-answer .ensures ∙ ap (λ (x : Answered). sixteen (answerFigures x)) (o .answer) in (
       record { figures = f; log = o .log-left; scratch = o .scratch-left },
-      subst (Word (a .table .now)) (sym f) (answer-word (a .table .now) (a .log .now) (a .scratch .now)),
+      answer-word (a .table .now) (a .log .now) (a .scratch .now) _ f,
     )
 
 pub roskavel-answer-spec : {M : Type 1} → statement M

@@ -2,7 +2,7 @@ use mathlib.Core.Path.{ap, _∙_}
 use Rattle.model.specs.Calls.{runFigures}
 use Rattle.model.specs.declared.Ran.{Ran}
 use Rattle.exports.specs.Figures.{sixteen}
-use Rattle.exports.proofs.Words.{run-word-left}
+use Rattle.exports.proofs.Words.{run-word}
 use native.Mathlib.Omega.{arith}
 use lib.ListN.{length, length-set}
 use borrow.Author.Needs.{needs}
@@ -40,7 +40,7 @@ returns c =
     let o = c .before .before .before .before .before .before .before .before .run .ensures .0 in
     let f = c .put-run .ensures ∙ ap (λ (x : Ran). sixteen (runFigures x)) (o .answer) in (
       record { figures = f; log = o .log-left; scratch = o .scratch-left; page = o .page-left },
-      run-word-left (a .table .now) (a .log .now) (a .scratch .now) (a .page .now) _ _ f (o .page-left),
+      run-word (a .table .now) (a .log .now) (a .scratch .now) (a .page .now) _ _ f (o .page-left),
     )
 
 pub roskavel-run-spec : {M : Type 1} → statement M

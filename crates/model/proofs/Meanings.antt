@@ -1,0 +1,83 @@
+-- What the word of the answer call tells, and what the run call writes, whatever the buffers: demand 3 without its premises.
+use mathlib.Core.Path.{_≡_, refl, ap, sym, subst, _∙_}
+use mathlib.Core.Option.{Option, none, some}
+use mathlib.Core.List.{List, []}
+use Prim.Native.Nat.{ℕ, _≤_}
+use native.Mathlib.Omega.{arith}
+use lib.Dec.{ltb}
+use lib.ListN.{length, take}
+use borrow.Author.Tests.{ltb-false}
+use Rattle.model.specs.declared.Answered.{Answered}
+use Rattle.model.specs.declared.Ran.{Ran}
+use Rattle.model.specs.Calls.{answerCall, answerGiven, capacity, isLong, runCall, runGiven, runVerdict, scratchNeeded, startPath, verdict}
+use Rattle.model.specs.Demands.{Decided, LogServes, ScratchServes, Tells, Writes}
+use Rattle.model.specs.Log.{Path, limit, rounds}
+use Rattle.model.specs.Systems.{Joins, peak}
+use Rattle.model.specs.Tables.{Item, Reading, accepted, read, refused, systemOf}
+use Rattle.model.specs.Unfolding.{emitted, pathSteps}
+use Rattle.model.proofs.Closing.{refusal-number}
+use Rattle.model.proofs.Demands.{demand-3, found-counts, found-joins, none-joins}
+use Rattle.model.proofs.Tables.{read-complete}
+use Rattle.model.proofs.Tests.{by-test}
+
+-- ---- the answer call
+module _ (table : List ℕ) (items : List Item) (e : read table ≡ accepted items) where
+  verdict-tells : (o : Option Path) → startPath (systemOf items) ≡ o → Tells table (verdict (limit (systemOf items)) o)
+  verdict-tells none q = (items, e, none-joins items (read-complete table items e) q)
+  verdict-tells (some p) q = (items, e, (emitted (limit (systemOf items)) (p .numbers), found-joins items (read-complete table items e) p q))
+
+pub answer-tells : (table log scratch : List ℕ) → Tells table (answerCall table log scratch .answer)
+unfolding answerCall answerGiven
+answer-tells table log scratch = go (read table) refl
+  where
+    go : (r : Reading) → read table ≡ r → Tells table (answerGiven r (length log) (length scratch))
+    go (refused number place) e = refusal-number table number place e .0
+    go (accepted items) e =
+        by-test (ltb (length scratch) (scratchNeeded (length log))) (λ y. rw y (omega arith))
+        (λ n. rw n (by-test (ltb (capacity (length log)) (length (limit (systemOf items)))) (λ y. rw y (omega arith))
+        (λ m. rw m (verdict-tells table items e (startPath (systemOf items)) refl))))
+
+-- ---- the run call
+module _ (table log scratch page : List ℕ) where
+  abbrev Right : Ran → Type 0
+  Right x = Writes table (runCall table log scratch page .page) x
+
+  given-is : (r : Reading) → read table ≡ r → runCall table log scratch page .answer ≡ runGiven r (length log) (length scratch) (length page)
+  unfolding runCall
+  given-is r e = ap (λ (x : Reading). runGiven x (length log) (length scratch) (length page)) e
+
+  module _ (items : List Item) (e : read table ≡ accepted items) (s : ScratchServes log scratch) (l : LogServes (systemOf items) log) where
+    decided : Decided (systemOf items) page (answerCall table log scratch .answer) (runCall table log scratch page .answer) (runCall table log scratch page .page)
+    decided = demand-3 table log scratch page .decided items e s l
+
+    -- a run that was not refused
+    written : (p : Path) → startPath (systemOf items) ≡ some p → (t r n k : ℕ) → runCall table log scratch page .answer ≡ Ran.Reached t r n k → Right (Ran.Reached t r n k)
+    written p q t r n k is =
+        let count : ℕ = length (emitted (limit (systemOf items)) (p .numbers)) in
+        let counts = found-counts (systemOf items) p q in
+        let given = decided .given count counts (λ long. let bad : Ran.Reached t r n k ≡ Ran.Refused 11 0 = sym is ∙ decided .long count counts .0 long in let z : _≡_ {A = ℕ} 0 1 = cc in omega arith) in
+        let steps : n ≡ count = reached-steps (sym is ∙ given .0) in
+        (items, e, subst (λ (m : ℕ). Joins (systemOf items) (systemOf items .start) (take m (runCall table log scratch page .page))) (sym steps) (given .2))
+      where
+        reached-steps : {t t′ r r′ n n′ k k′ : ℕ} → Ran.Reached t r n k ≡ Ran.Reached t′ r′ n′ k′ → n ≡ n′
+        reached-steps e = cc
+
+    verdict-writes : (o : Option Path) → startPath (systemOf items) ≡ o → runCall table log scratch page .answer ≡ runVerdict (systemOf items) (length page) o → Right (runVerdict (systemOf items) (length page) o)
+    verdict-writes none q is = omega arith
+    verdict-writes (some p) q is = by-test (isLong (pathSteps (limit (systemOf items)) (p .numbers)) (length page))
+        (λ y. rw y (omega arith))
+        (λ n. rw n (written p q (length (limit (systemOf items))) (rounds (limit (systemOf items))) (pathSteps (limit (systemOf items)) (p .numbers)) (peak (systemOf items) (emitted (limit (systemOf items)) (p .numbers)) (systemOf items .start)) (is ∙ rw n)))
+
+pub run-writes : (table log scratch page : List ℕ) → Writes table (runCall table log scratch page .page) (runCall table log scratch page .answer)
+unfolding runGiven
+run-writes table log scratch page = subst (Right table log scratch page) (sym (given-is table log scratch page (read table) refl)) (go (read table) refl)
+  where
+    go : (r : Reading) → read table ≡ r → Right table log scratch page (runGiven r (length log) (length scratch) (length page))
+    go (refused number place) e = refusal-number table number place e .0
+    go (accepted items) e =
+        let is = given-is table log scratch page (accepted items) e in
+        by-test (ltb (length scratch) (scratchNeeded (length log)))
+        (λ y. rw y (omega arith))
+        (λ n. rw n (by-test (ltb (capacity (length log)) (length (limit (systemOf items))))
+        (λ y. rw y (omega arith))
+        (λ m. rw m (verdict-writes table log scratch page items e (ltb-false (length scratch) (scratchNeeded (length log)) n) (ltb-false (capacity (length log)) (length (limit (systemOf items))) m) (startPath (systemOf items)) refl (is ∙ rw (n, m))))))
