@@ -15,7 +15,7 @@ use lib.Seq.{getD-set-same, getD-set-other, drop-cons}
 use borrow.Author.Tests.{eq-eqb, eqb-true, eqb-false}
 use Rattle.model.proofs.Tests.{by-test, and-left, and-right, and-both}
 use Rattle.automaton.specs.StateNumbers.{stateCount}
-use Rattle.automaton.specs.StateSets.{member, inserted, noMember, firstFrom, nextMember}
+use Rattle.automaton.specs.StateSets.{NoneFrom, ZeroFrom, block, member, inserted, noMember, firstFrom, nextMember}
 
 -- ---- a number put in
 -- a one shifted within a byte
@@ -228,3 +228,32 @@ pub fails-byte : (l : List ℕ) (n : ℕ) → getD l (n / 8) 0 ≡ 0 → Fails (
 fails-byte l n e j h q =
     let same : j / 8 ≡ n / 8 = omega arith in
     member-byte l j (ap (λ (i : ℕ). getD l i 0) same ∙ e)
+
+-- ---- a block of zero bytes
+-- the bytes of a block up to i are looked at; m of them are not zero
+pub record Looking (l : List ℕ) (at m i : ℕ) : Type 0 where
+  pub within : i ≤ block
+  pub few : m ≤ i
+  pub zero-so-far : m ≡ 0 → ZeroFrom l at (at + i)
+
+pub looking-start : (l : List ℕ) (at : ℕ) → Looking l at 0 0
+looking-start l at = record { within = omega arith; few = omega arith; zero-so-far = λ z i h q. absurd (omega arith) }
+
+pub looking-turn : (l : List ℕ) (at m i one : ℕ) → i < block → one ≤ 1 → (one ≡ 0 → getD l (at + i) 0 ≡ 0) → Looking l at m i → Looking l at (m + one) (i + 1)
+looking-turn l at m i one h o z w = record {
+  within = omega arith;
+  few = omega (arith, w .few);
+  zero-so-far = λ e j a b. by-test (eqb j (at + i))
+      (λ t. let same : j ≡ at + i = eqb-true j (at + i) t in ap (λ (k : ℕ). getD l k 0) same ∙ z (omega arith))
+      (λ f. let ne : j ≡ at + i → ⊥ = eqb-false j (at + i) f in w .zero-so-far (omega arith) j a (omega arith));
+}
+
+pub looking-end : (l : List ℕ) (at m i : ℕ) → block ≤ i → Looking l at m i → m ≡ 0 → ZeroFrom l at (at + block)
+looking-end l at m i h w z j a b = w .zero-so-far z j a (omega (arith, w .within))
+
+pub none-here : (l : List ℕ) (n : ℕ) → n < stateCount → NoneFrom l n n
+none-here l n h = record { later = omega arith; within = omega arith; none = fails-none (member l) n }
+
+-- no number of it is in
+pub zero-block : (l : List ℕ) (n m : ℕ) → n < stateCount → n % (8 * block) ≡ 0 → (m ≡ 0 → ZeroFrom l (n / 8) (n / 8 + block)) → m ≡ 0 → NoneFrom l n (n + 8 * block)
+zero-block l n m h d f z = record { later = omega arith; within = omega arith; none = λ j a b. member-byte l j (f z (j / 8) (omega arith) (omega arith)) }

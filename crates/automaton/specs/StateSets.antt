@@ -1,7 +1,8 @@
 -- Sets of state numbers as bits of a list of bytes: the number n is bit n % 8 of byte n / 8.
-use mathlib.Core.Bool.{Bool, cond}
+use mathlib.Core.Path.{_≡_}
+use mathlib.Core.Bool.{Bool, false, cond}
 use mathlib.Core.List.{List}
-use Prim.Native.Nat.{ℕ, zero, suc, _-_, _/_, _%_, _^_}
+use Prim.Native.Nat.{ℕ, zero, suc, _-_, _/_, _%_, _^_, _<_, _≤_}
 use lib.Bits.{bitOr}
 use lib.Dec.{eqb}
 use lib.ListN.{getD, set}
@@ -22,6 +23,20 @@ inserted l n = set l (n / 8) (bitOr (getD l (n / 8) 0) (2 ^ (n % 8)))
 -- the set has no number
 unfoldable pub noMember : List ℕ → Bool
 noMember l = allOf (λ x. eqb x 0) l
+
+-- the bytes that are looked at at a time
+abbrev pub block : ℕ
+block = 64
+
+-- the bytes from one place on, below another, are zero
+abbrev pub ZeroFrom : List ℕ → ℕ → ℕ → Type 0
+ZeroFrom l at end = (i : ℕ) → at ≤ i → i < end → getD l i 0 ≡ 0
+
+-- r is n or later, with no member between
+pub record NoneFrom (l : List ℕ) (n r : ℕ) : Type 0 where
+  pub later : n ≤ r
+  pub within : r ≤ stateCount
+  pub none : (j : ℕ) → n ≤ j → j < r → member l j ≡ false
 
 -- the first of the k numbers from n on that passes the test, or n + k
 unfoldable pub firstFrom : (ℕ → Bool) → ℕ → ℕ → ℕ

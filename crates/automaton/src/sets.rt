@@ -4,7 +4,13 @@ ghost use Prim.Native.Nat.{_+_, _*_, _-_, _%_, _<_, _≤_};
 ghost use lib.ListN.{length};
 ghost use Rattle.model.specs.Calls.{zeros};
 ghost use Rattle.automaton.specs.StateNumbers.{stateCount};
-ghost use Rattle.automaton.specs.StateSets.{setLength, member, inserted, noMember, firstFrom, nextMember};
+ghost use Rattle.automaton.specs.StateSets.{setLength, block, member, inserted, noMember, firstFrom, nextMember, ZeroFrom, NoneFrom};
+
+// The bytes of a set that are looked at at a time.
+const BLOCK: usize = 64;
+
+// The numbers of such a block.
+const NUMBERS: usize = 512;
 
 pub fn contains(members: &[u8], n: usize) -> bool
     requires { ⌜ n < 8 * length (now members) ⌝ }
@@ -79,19 +85,61 @@ fn next_in_byte(members: &[u8], n: usize) -> usize
     next_bit(members, n)
 }
 
-// The least member at or after from, or 4096. A zero byte costs one step.
+fn one_if_not_zero(x: u8) -> u8
+    ensures { λ r. ⌜ (r ≤ 1) × (r ≡ 0 → x ≡ 0) ⌝ }
+{
+    if x == 0 {
+        return 0;
+    }
+    1
+}
+
+// How many bytes of one block, from `at` on, are not zero. A count of one byte lets the machine look at many bytes at a time.
+fn busy_bytes(members: &[u8], at: usize) -> u8
+    requires { ⌜ at + block ≤ length (now members) ⌝ }
+    ensures { λ r. ⌜ (r ≡ 0 → ZeroFrom (now (members .entry)) at (at + block)) ⌝ }
+{
+    let mut m = 0;
+    let mut i = 0;
+    while i < BLOCK {
+        m += one_if_not_zero(members[at + i]);
+        i += 1;
+    }
+    m
+}
+
+// Past the numbers of the block that begins at n, if it is zero.
+fn past_block(members: &[u8], n: usize) -> usize
+    requires { ⌜ (n < stateCount) × (setLength ≤ length (now members)) ⌝ }
+    ensures { λ r. ⌜ NoneFrom (now (members .entry)) n r ⌝ }
+{
+    if n % NUMBERS == 0 {
+        if busy_bytes(members, n / 8) == 0 {
+            return n + NUMBERS;
+        }
+        return n;
+    }
+    n
+}
+
+// The least member at or after from, or 4096. A zero block and a zero byte cost one step.
 pub fn next_member(members: &[u8], from: usize) -> usize
     requires { ⌜ (from ≤ stateCount) × (setLength ≤ length (now members)) ⌝ }
     ensures { λ r. ⌜ r ≡ nextMember (now (members .entry)) from ⌝ }
 {
     let mut n = from;
     while n < 4096 {
-        let m = next_in_byte(members, n);
-        let end = byte_end(n);
-        if m < end {
-            return m;
+        let next = past_block(members, n);
+        if next == n {
+            let m = next_in_byte(members, n);
+            let end = byte_end(n);
+            if m < end {
+                return m;
+            }
+            n = end;
+        } else {
+            n = next;
         }
-        n = end;
     }
     n
 }

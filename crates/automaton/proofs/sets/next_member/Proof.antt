@@ -3,29 +3,47 @@ use Rattle.automaton.specs.StateNumbers.{stateCount}
 use Rattle.automaton.specs.StateSets.{member}
 use Rattle.automaton.proofs.StateSets.{Fails, First, fails-none, fails-join, first-at, next-is}
 use native.Mathlib.Omega.{arith}
+use lib.ListN.{length, length-set}
+use borrow.Author.Needs.{needs}
 use Rattle.automaton.proofs.sets.next_member.Statement.{statement}
 use Rattle.automaton.proofs.sets.next_member.Tie as tie
+use Rattle.automaton.proofs.sets.next_member.Reads as reads
+use Rattle.automaton.proofs.sets.next_member.Lts as lts
+use Rattle.automaton.proofs.sets.byte_end.Reads as byte-end-reads
+use Rattle.automaton.proofs.sets.next_in_byte.Reads as next-in-byte-reads
+use Rattle.automaton.proofs.sets.past_block.Reads as past-block-reads
 
 abbrev Inv-loop : tie.InvT-loop
-Inv-loop members from n₀ n = (from ≤ n) × (n ≤ stateCount) × Fails (member members) from n
+Inv-loop members from n₀ n =
+    (from ≤ n) × (n ≤ stateCount) × Fails (member members) from n
 
 abbrev μ-loop : tie.MeasureT-loop
-μ-loop members from n₀ n = stateCount - n
+μ-loop members from n₀ n =
+    stateCount - n
 
+-- src/sets.rt:131:5
 loop-holds : tie.Need-loop-holds Inv-loop μ-loop
-loop-holds c = let a = c .before .args in (omega arith, omega arith, fails-none (member (a .members .now)) (a .from))
+loop-holds c =
+    let a = c .before .args in (omega arith, omega arith, fails-none (member (a .members .now)) (a .from))
 
+-- src/sets.rt:132:13
+past-block-requires : tie.Need-past-block-requires Inv-loop μ-loop
+past-block-requires c κs = (omega arith, omega arith)
+
+-- src/sets.rt:134:17
 next-in-byte-requires : tie.Need-next-in-byte-requires Inv-loop μ-loop
 next-in-byte-requires c κs = (omega arith, omega arith)
 
+-- src/sets.rt:135:17
 byte-end-requires : tie.Need-byte-end-requires Inv-loop μ-loop
 byte-end-requires c κs = omega arith
 
+-- src/sets.rt:137:17
 returns : tie.Need-returns Inv-loop μ-loop
 returns c =
-    let a = c .before .before .before .before .before .before .args in
+    let a = c .before .before .before .before .before .before .before .before .args in
     let l = a .members .now in
-    let t = c .before .before .before .before .loop in
+    let t = c .before .before .before .before .before .before .loop in
     let r = c .before .before .next-in-byte .result in
     let w : First (member l) (t .n) (8 - t .n % 8) r = first-at (member l) (t .n) (8 - t .n % 8) r (c .before .before .next-in-byte .ensures) in
     next-is l (a .from) r (record {
@@ -35,19 +53,36 @@ returns c =
       fails = fails-join (member l) (a .from) (t .n) r (t .inv .2) (w .fails);
     })
 
+-- src/sets.rt:131:5
 loop-less : tie.Need-loop-less Inv-loop μ-loop
 loop-less c = omega arith
 
+-- src/sets.rt:131:5
 loop-again : tie.Need-loop-again Inv-loop μ-loop
 loop-again c =
-    let a = c .before .before .before .before .before .before .args in
+    let a = c .before .before .before .before .before .before .before .before .args in
     let l = a .members .now in
-    let t = c .before .before .before .before .loop in
+    let t = c .before .before .before .before .before .before .loop in
     let r = c .before .before .next-in-byte .result in
     let end = c .before .byte-end .result in
     let w : First (member l) (t .n) (8 - t .n % 8) r = first-at (member l) (t .n) (8 - t .n % 8) r (c .before .before .next-in-byte .ensures) in
     (omega arith, omega arith, fails-join (member l) (a .from) (t .n) end (t .inv .2) (λ j h q. w .fails j h (omega arith)))
 
+-- src/sets.rt:131:5
+loop-less-2 : tie.Need-loop-less-2 Inv-loop μ-loop
+loop-less-2 c =
+    let p = c .before .past-block .ensures in
+    omega (arith, p .later, p .within, c .if1 .left)
+
+-- src/sets.rt:131:5
+loop-again-2 : tie.Need-loop-again-2 Inv-loop μ-loop
+loop-again-2 c =
+    let a = c .before .before .before .before .before .args in
+    let t = c .before .before .before .loop in
+    let p = c .before .past-block .ensures in
+    (omega (arith, p .later), p .within, fails-join (member (a .members .now)) (a .from) (t .n) _ (t .inv .2) (p .none))
+
+-- src/sets.rt:126:1
 returns-2 : tie.Need-returns-2 Inv-loop μ-loop
 returns-2 c =
     let a = c .before .before .before .args in
@@ -61,9 +96,12 @@ next-member-spec =
     Inv-loop
     μ-loop
     loop-holds
+    past-block-requires
     next-in-byte-requires
     byte-end-requires
     returns
     loop-less
     loop-again
+    loop-less-2
+    loop-again-2
     returns-2)
