@@ -14,13 +14,13 @@ use borrow.Author.Tests.{eq-eqb, eqb-true, ne-eqb, lt-ltb, le-ltb}
 use Rattle.model.specs.declared.Group.{Group}
 use Rattle.model.specs.Groups.{Processes, sameGroup, restrict}
 use Rattle.model.specs.Log.{Record, recordAt, readsAt}
-use Rattle.model.specs.Records.{logBytes}
+use Rattle.model.specs.Records.{logBytes, letterAt, beforeAt}
 use Rattle.model.proofs.Groups.{sameGroup-true}
 use Rattle.model.proofs.Tests.{by-test, and-left, and-right}
 use Rattle.automaton.specs.StateNumbers.{stateNumber}
 use Rattle.automaton.specs.StateSets.{firstFrom}
 use Rattle.automaton.proofs.StateSets.{Fails, fails-none, fails-join, fails-one, first-of, first-is, first-at}
-use Rattle.records.specs.Entries.{letterAt, beforeAt, Fits}
+use Rattle.records.specs.Entries.{Fits}
 use Rattle.records.proofs.Entries.{log-reads}
 use Rattle.chains.specs.WordBytes.{withWord}
 use Rattle.chains.specs.Buckets.{bucketOf, recordBucket, inBucket, recordReads, noLink, linkTo, linkPlace, linkAt, withRecord, ChainRoom, ChainedFrom, Chained, SameOutside, Emptied}

@@ -9,10 +9,9 @@ use lib.Dec.{eqb, ltb}
 use lib.ListN.{length, getD}
 use Rattle.model.specs.declared.Group.{Group}
 use Rattle.model.specs.Groups.{sameGroup}
-use Rattle.model.specs.Records.{recordLength}
+use Rattle.model.specs.Records.{recordLength, letterAt, beforeAt}
 use Rattle.automaton.specs.StateNumbers.{stateNumber}
 use Rattle.automaton.specs.StateSets.{firstFrom}
-use Rattle.records.specs.Entries.{letterAt, beforeAt}
 use Rattle.chains.specs.WordBytes.{wordAt, withWord}
 
 -- ---- buckets

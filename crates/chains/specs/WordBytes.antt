@@ -2,8 +2,7 @@
 use mathlib.Core.List.{List}
 use Prim.Native.Nat.{ℕ}
 use lib.Seq.{sets}
-use Rattle.model.specs.Records.{littleEndian}
-use Rattle.records.specs.Entries.{numberAt}
+use Rattle.model.specs.Records.{littleEndian, numberAt}
 
 -- the number in the two bytes from i on
 unfoldable pub wordAt : List ℕ → ℕ → ℕ

@@ -13,7 +13,8 @@ use Rattle.model.specs.Log.{Record}
 use Rattle.model.specs.Records.{recordBytes, recordLength}
 use Rattle.model.proofs.Tests.{by-test}
 use Rattle.records.specs.Entries.{HasRecord, entryBytes, recordEntry, withEntry}
-use Rattle.records.proofs.Entries.{entry-bytes, length-record, length-with}
+use Rattle.model.proofs.RecordBytes.{length-record}
+use Rattle.records.proofs.Entries.{entry-bytes, length-with}
 
 abbrev pub chunk : List ℕ → ℕ → List ℕ
 chunk l j = take recordLength (drop (j * recordLength) l)

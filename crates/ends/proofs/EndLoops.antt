@@ -19,7 +19,8 @@ use Rattle.automaton.specs.StateNumbers.{stateCount, stateNumber}
 use Rattle.automaton.specs.StateSets.{firstFrom}
 use Rattle.automaton.proofs.StateSets.{first-at}
 use Rattle.automaton.proofs.StateNumbers.{stateNumber-below}
-use Rattle.records.specs.Entries.{HasRecord, afterAt, beforeAt, letterAt}
+use Rattle.model.specs.Records.{afterAt, beforeAt, letterAt}
+use Rattle.records.specs.Entries.{HasRecord}
 use Rattle.chains.specs.Buckets.{ChainRoom, Chained, recordReads}
 use Rattle.chains.specs.WordBytes.{withWord}
 use Rattle.chains.proofs.Buckets.{chained-scratch}

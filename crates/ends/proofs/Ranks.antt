@@ -18,7 +18,7 @@ use Rattle.model.proofs.Lists.{each-append, each-map, map-append}
 use Rattle.model.proofs.Tests.{by-test}
 use Rattle.automaton.specs.StateNumbers.{stateCount}
 use Rattle.ends.specs.Ends.{newBelow}
-use Rattle.records.proofs.Entries.{log-append}
+use Rattle.model.proofs.RecordBytes.{log-append}
 use Rattle.ends.proofs.Chunks.{chunk}
 
 module _ (marks : List ℕ) where

@@ -1,11 +1,13 @@
-// The three calls for C and Rust: slices as pointer and length, the answer as 16 numbers.
+// The three calls for C and Rust: slices as pointer and length, the answer as 16 numbers. The clauses of each are the mission's demands, in figures;
+// `word` is demand 3 without its premises.
 use model::Answered;
 use model::Ran;
 ghost use mathlib.Core.Path.{_≡_};
 ghost use mathlib.Core.List.{_∷_, [], _++_};
-ghost use lib.ListN.{length};
+ghost use lib.ListN.{length, getD};
 ghost use Rattle.model.specs.Calls.{answerCall, runCall, walkCall, answerFigures, runFigures};
-ghost use Rattle.exports.specs.Figures.{sixteen, AnswerLeaves, RunLeaves, WalkLeaves, Word, RunWord};
+ghost use Rattle.model.specs.Demands.{LogHolds, Demand2Walk};
+ghost use Rattle.exports.specs.Figures.{sixteen, AnswerLeaves, RunLeaves, WalkLeaves, Word, RunWord, AnswerDemand, RunDemand};
 
 // The figures of an answer or a run; a place that a case does not name is 0.
 fn put(
@@ -114,7 +116,9 @@ pub extern "C" fn roskavel_answer(
     scratch: &mut [u8],
     figures: &mut [u64; 16],
 )
-    ensures outcome { λ _. ⌜ AnswerLeaves (answerCall (now (table .entry)) (now (log .entry)) (now (scratch .entry))) (now (figures .exit)) (now (log .exit)) (now (scratch .exit)) ⌝ }
+    ensures demand_1 { λ _. ⌜ AnswerLeaves (answerCall (now (table .entry)) (now (log .entry)) (now (scratch .entry))) (now (figures .exit)) (now (log .exit)) (now (scratch .exit)) ⌝ }
+    ensures demand_2 { λ _. ⌜ LogHolds (now (table .entry)) (getD (now (figures .exit)) 0 0) (now (log .exit)) ⌝ }
+    ensures demand_3 { λ _. ⌜ AnswerDemand (now (table .entry)) (now (log .entry)) (now (scratch .entry)) (now (figures .exit)) ⌝ }
     ensures word { λ _. ⌜ Word (now (table .entry)) (now (figures .exit)) ⌝ }
 {
     let a = reach::answer(table, log, scratch);
@@ -130,7 +134,9 @@ pub extern "C" fn roskavel_run(
     page: &mut [u16],
     figures: &mut [u64; 16],
 )
-    ensures outcome { λ _. ⌜ RunLeaves (runCall (now (table .entry)) (now (log .entry)) (now (scratch .entry)) (now (page .entry))) (now (figures .exit)) (now (log .exit)) (now (scratch .exit)) (now (page .exit)) ⌝ }
+    ensures demand_1 { λ _. ⌜ RunLeaves (runCall (now (table .entry)) (now (log .entry)) (now (scratch .entry)) (now (page .entry))) (now (figures .exit)) (now (log .exit)) (now (scratch .exit)) (now (page .exit)) ⌝ }
+    ensures demand_2 { λ _. ⌜ LogHolds (now (table .entry)) (getD (now (figures .exit)) 0 0) (now (log .exit)) ⌝ }
+    ensures demand_3 { λ _. ⌜ RunDemand (now (table .entry)) (now (log .entry)) (now (scratch .entry)) (now (page .entry)) (now (figures .exit)) (now (page .exit)) ⌝ }
     ensures word { λ _. ⌜ RunWord (now (table .entry)) (now (figures .exit)) (now (page .exit)) ⌝ }
 {
     let r = reach::run(table, log, scratch, page);
@@ -146,7 +152,8 @@ pub extern "C" fn roskavel_walk(
     scratch: &mut [u8],
     figures: &mut [u64; 16],
 )
-    ensures { λ _. ⌜ WalkLeaves (walkCall (now (table .entry)) (now (rules .entry)) (now (pile .entry)) (now (scratch .entry))) (length (now (rules .entry))) (now (figures .exit)) (now (pile .exit)) (now (scratch .exit)) ⌝ }
+    ensures demand_1 { λ _. ⌜ WalkLeaves (walkCall (now (table .entry)) (now (rules .entry)) (now (pile .entry)) (now (scratch .entry))) (length (now (rules .entry))) (now (figures .exit)) (now (pile .exit)) (now (scratch .exit)) ⌝ }
+    ensures demand_2 { λ _. ⌜ Demand2Walk (now (table .entry)) (now (rules .entry)) (now (figures .exit)) (now (pile .exit)) ⌝ }
 {
     let mut values = [0u64; 8];
     let rest = walk::walk(table, rules, pile, scratch, &mut values);

@@ -12,12 +12,12 @@ use lib.Seq.{drop-cons, getD-set-other, getD-set-same, take-length, take-suc}
 use borrow.Author.Tests.{eq-eqb, eqb-false, eqb-true, le-ltb, lt-ltb, ltb-false, ltb-true, ne-eqb}
 use Rattle.model.specs.Lists.{Each, anyOf}
 use Rattle.model.specs.Log.{Record, noRecord, recordAt}
-use Rattle.model.specs.Records.{logBytes}
+use Rattle.model.specs.Records.{logBytes, letterAt, roundAt}
 use Rattle.model.specs.Systems.{Rule}
 use Rattle.model.proofs.Lists.{each-get, getD-mem}
 use Rattle.model.proofs.Skipping.{freshIn}
 use Rattle.model.proofs.Tests.{by-test}
-use Rattle.records.specs.Entries.{Fits, letterAt, roundAt}
+use Rattle.records.specs.Entries.{Fits}
 use Rattle.records.proofs.Entries.{log-reads}
 use Rattle.heads.specs.Heads.{activeAt, activeIn, isActive}
 use Rattle.heads.specs.Marking.{KeptOutside, Marked, NoneFresh, activeBy, byteFor, freshAt, freshBelow, freshEnd, letterCeiling, noted, writesFresh}

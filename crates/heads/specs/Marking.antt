@@ -7,7 +7,7 @@ use lib.Dec.{eqb, ltb}
 use lib.ListN.{getD, length, set}
 use Rattle.model.specs.Lists.{anyOf}
 use Rattle.model.specs.Systems.{Rule}
-use Rattle.records.specs.Entries.{letterAt, roundAt}
+use Rattle.model.specs.Records.{letterAt, roundAt}
 
 -- where the letters' bytes stand, one for each number that a letter may have
 abbrev pub freshAt : ℕ

@@ -142,7 +142,7 @@ pub record Numbered (log : List Record) (ts : List Transition) : Type 0 where
   pub inside : Each (λ (n : ℕ). n < length log) numbers
   pub are : transitionsAt log numbers ≡ ts
 
-number-of : (log : List Record) (t : Transition) → List·Memᴰ t (keys log) → (n : ℕ) × (n < length log) × (recordAt log n .key ≡ t)
+pub number-of : (log : List Record) (t : Transition) → List·Memᴰ t (keys log) → (n : ℕ) × (n < length log) × (recordAt log n .key ≡ t)
 number-of [] t m = absurd (List·Memᴰ·not-nil m)
 number-of (r ∷ log) t m = step (λ m′. number-of log t m′) (List·Memᴰ·cases-cons m)
   where

@@ -216,9 +216,9 @@ decided-by table log scratch page items e s l = split (startPath (systemOf items
         (run-serves table log scratch items e s page l ∙ ap (runVerdict (systemOf items) (length page)) q)
         (page-after table log scratch items e s page p q)
 
-pub demand-3 : (table log scratch page : List ℕ) → Demand3 table log scratch page (answerCall table log scratch .answer) (runCall table log scratch page .answer) (runCall table log scratch page .page)
+pub calls-decide : (table log scratch page : List ℕ) → Demand3 table log scratch page (answerCall table log scratch .answer) (runCall table log scratch page .answer) (runCall table log scratch page .page)
 unfolding answerCall runCall
-demand-3 table log scratch page = record {
+calls-decide table log scratch page = record {
   decided = decided-by table log scratch page;
   answer-short = ((λ q. answer-lacks table log scratch (q .0) (q .1) (q .2) (q .3)), answer-only-short (read table) log scratch (read-numbered table));
   run-short = ((λ q. run-lacks table log scratch (q .0) (q .1) (q .2) page (q .3)), run-only-short (read table) log scratch page (read-numbered table));

@@ -1,5 +1,5 @@
--- The theorems about the definitions of specs/, for the crates above. Theorems and Demands have what docs/PROOFS.md names; the files before them
--- lead there; GreedyPath to Bounds join the definitions with the way the code computes them.
+-- The theorems about the definitions of specs/, for the crates above. Main has the mission's demands, Theorems what docs/PROOFS.md names besides; the
+-- files before them lead there; GreedyPath to Bounds join the definitions with the way the code computes them.
 pub mod Tests
 pub mod Lists
 pub mod Groups
@@ -20,16 +20,21 @@ pub mod Limit
 pub mod FirstCandidates
 pub mod Rounds
 pub mod Reasons
+pub mod RecordBytes
 pub mod Tables
 pub mod Closing
 pub mod Prefixes
 pub mod Demands
 pub mod Meanings
 pub mod Theorems
+pub mod LogDemand
+pub mod WalkDemand
+pub mod Main
 pub mod GreedyPath
 pub mod EmissionStack
 pub mod UniqueRound
 pub mod RoundGroups
 pub mod Skipping
+pub mod FreshPaths
 pub mod CodeTests
 pub mod Bounds

@@ -16,7 +16,7 @@ use Rattle.model.specs.Systems.{Joins, peak}
 use Rattle.model.specs.Tables.{Item, Reading, accepted, read, refused, systemOf}
 use Rattle.model.specs.Unfolding.{emitted, pathSteps}
 use Rattle.model.proofs.Closing.{refusal-number}
-use Rattle.model.proofs.Demands.{demand-3, found-counts, found-joins, none-joins}
+use Rattle.model.proofs.Demands.{calls-decide, found-counts, found-joins, none-joins}
 use Rattle.model.proofs.Tables.{read-complete}
 use Rattle.model.proofs.Tests.{by-test}
 
@@ -48,7 +48,7 @@ module _ (table log scratch page : List ℕ) where
 
   module _ (items : List Item) (e : read table ≡ accepted items) (s : ScratchServes log scratch) (l : LogServes (systemOf items) log) where
     decided : Decided (systemOf items) page (answerCall table log scratch .answer) (runCall table log scratch page .answer) (runCall table log scratch page .page)
-    decided = demand-3 table log scratch page .decided items e s l
+    decided = calls-decide table log scratch page .decided items e s l
 
     -- a run that was not refused
     written : (p : Path) → startPath (systemOf items) ≡ some p → (t r n k : ℕ) → runCall table log scratch page .answer ≡ Ran.Reached t r n k → Right (Ran.Reached t r n k)
@@ -81,3 +81,41 @@ run-writes table log scratch page = subst (Right table log scratch page) (sym (g
         (λ n. rw n (by-test (ltb (capacity (length log)) (length (limit (systemOf items))))
         (λ y. rw y (omega arith))
         (λ m. rw m (verdict-writes table log scratch page items e (ltb-false (length scratch) (scratchNeeded (length log)) n) (ltb-false (capacity (length log)) (length (limit (systemOf items))) m) (startPath (systemOf items)) refl (is ∙ rw (n, m))))))
+
+-- ---- from refusal 10 on the place is 0
+abbrev pub AnswerPlaced : Answered → Type 0
+AnswerPlaced (Answered.Reachable t r s) = Unit {0}
+AnswerPlaced (Answered.Unreachable t r) = Unit {0}
+AnswerPlaced (Answered.Refused number place) = 10 ≤ number → place ≡ 0
+
+abbrev pub RunPlaced : Ran → Type 0
+RunPlaced (Ran.Reached t r s p) = Unit {0}
+RunPlaced (Ran.Refused number place) = 10 ≤ number → place ≡ 0
+
+pub answer-placed : (table log scratch : List ℕ) → AnswerPlaced (answerCall table log scratch .answer)
+unfolding answerCall answerGiven
+answer-placed table log scratch = go (read table) refl
+  where
+    found : (items : List Item) (o : Option Path) → AnswerPlaced (verdict (limit (systemOf items)) o)
+    found items none = tt
+    found items (some p) = tt
+
+    go : (r : Reading) → read table ≡ r → AnswerPlaced (answerGiven r (length log) (length scratch))
+    go (refused number place) e = λ h. absurd (omega (arith, refusal-number table number place e .1))
+    go (accepted items) e =
+        by-test (ltb (length scratch) (scratchNeeded (length log))) (λ y. rw y (λ h. refl))
+        (λ n. rw n (by-test (ltb (capacity (length log)) (length (limit (systemOf items)))) (λ y. rw y (λ h. refl)) (λ m. rw m (found items (startPath (systemOf items))))))
+
+pub run-placed : (table log scratch page : List ℕ) → RunPlaced (runCall table log scratch page .answer)
+unfolding runCall runGiven
+run-placed table log scratch page = go (read table) refl
+  where
+    found : (items : List Item) (o : Option Path) → RunPlaced (runVerdict (systemOf items) (length page) o)
+    found items none = λ h. refl
+    found items (some p) = by-test (isLong (pathSteps (limit (systemOf items)) (p .numbers)) (length page)) (λ y. rw y (λ h. refl)) (λ n. rw n tt)
+
+    go : (r : Reading) → read table ≡ r → RunPlaced (runGiven r (length log) (length scratch) (length page))
+    go (refused number place) e = λ h. absurd (omega (arith, refusal-number table number place e .1))
+    go (accepted items) e =
+        by-test (ltb (length scratch) (scratchNeeded (length log))) (λ y. rw y (λ h. refl))
+        (λ n. rw n (by-test (ltb (capacity (length log)) (length (limit (systemOf items)))) (λ y. rw y (λ h. refl)) (λ m. rw m (found items (startPath (systemOf items))))))

@@ -10,11 +10,13 @@ use Rattle.model.specs.Tables.{isOutOfTurn, groupFits, transitionFits, w
 use Rattle.model.specs.Log.{readsAt, keyLess, sameKey, additions, logAt, firstSaturated, saturatedAt}
 use Rattle.model.specs.Unfolding.{acceptingPath, emittedBy}
 use Rattle.model.specs.Lists.{valueOr}
-use Rattle.model.specs.Calls.{recordsOf, runOf, pageAfter, answerGiven, answerCall, runCall, walkCall, answerFigures, runGiven, runFigures, walkGiven, walkFigures}
+use Rattle.model.specs.Records.{recordBytes}
+use Rattle.model.specs.Calls.{recordsOf, runOf, logAfter, pageAfter, answerGiven, answerCall, runCall, walkCall, answerFigures, runGiven, runFigures, walkGiven, walkFigures}
 
 -- a call, with the lengths of its lent buffers
 pub data Call : Type 0 where
   asks : (table : List ℕ) (log scratch : ℕ) → Call
+  logs : (table : List ℕ) (log scratch : ℕ) → Call
   runs : (table : List ℕ) (log scratch page : ℕ) → Call
   walks : (table list : List ℕ) (pile scratch : ℕ) → Call
 
@@ -22,9 +24,11 @@ pub data Call : Type 0 where
 abbrev pub used : ℕ → List ℕ
 used n = replicate n 7
 
--- its figures, and what it leaves: of an answer nothing more, of a run the page, of a walk the part handed back and the pile
+-- its figures, and what it leaves: of an answer nothing more or the log, of a run the page, of a walk the part handed back and the pile
 abbrev pub gives : Call → List (List ℕ)
 gives (asks table log scratch) = answerFigures (answerCall table (used log) (used scratch) .answer) ∷ []
+gives (logs table log scratch) =
+    let o = answerCall table (used log) (used scratch) in answerFigures (o .answer) ∷ o .log ∷ []
 gives (runs table log scratch page) =
     let o = runCall table (used log) (used scratch) (used page) in runFigures (o .answer) ∷ o .page ∷ []
 gives (walks table list pile scratch) =
@@ -91,6 +95,16 @@ starred =
     -- T: reachable, transitions 3, rounds 2, steps 3; with peak 2 and the run 0 1 2
     record { call = asks table-T 72 34018; result = (0 ∷ 0 ∷ 1 ∷ 3 ∷ 2 ∷ 3 ∷ []) ∷ [] }
     ∷ record { call = runs table-T 72 34018 5; result = (0 ∷ 0 ∷ 1 ∷ 3 ∷ 2 ∷ 3 ∷ 2 ∷ []) ∷ (0 ∷ 1 ∷ 2 ∷ 0 ∷ 0 ∷ []) ∷ [] }
+    -- its log of 75 bytes: task 1 from 0 to 1 by rule 1 and task 2 alike by rule 2, both in round 1 with no path; task 0 in round 2 by rule 0 over these
+    ∷ record {
+      call = logs table-T 75 34018;
+      result = (0 ∷ 0 ∷ 1 ∷ 3 ∷ 2 ∷ 3 ∷ [])
+          ∷ (1 ∷ 0 ∷ 255 ∷ 255 ∷ 255 ∷ 1 ∷ 255 ∷ 255 ∷ 255 ∷ 1 ∷ 0 ∷ 1 ∷ 0 ∷ 255 ∷ 255 ∷ 255 ∷ 255 ∷ 255 ∷ 255 ∷ 255 ∷ 255 ∷ 1 ∷ 0 ∷ 0
+          ∷ 2 ∷ 255 ∷ 0 ∷ 255 ∷ 255 ∷ 255 ∷ 1 ∷ 255 ∷ 255 ∷ 1 ∷ 0 ∷ 2 ∷ 0 ∷ 255 ∷ 255 ∷ 255 ∷ 255 ∷ 255 ∷ 255 ∷ 255 ∷ 255 ∷ 1 ∷ 0 ∷ 0
+          ∷ 0 ∷ 0 ∷ 0 ∷ 255 ∷ 255 ∷ 1 ∷ 1 ∷ 255 ∷ 255 ∷ 2 ∷ 0 ∷ 0 ∷ 0 ∷ 0 ∷ 0 ∷ 1 ∷ 0 ∷ 255 ∷ 255 ∷ 255 ∷ 255 ∷ 3 ∷ 0 ∷ 0
+          ∷ 0 ∷ 0 ∷ 0 ∷ [])
+          ∷ [];
+    }
     -- T without rule 2: unreachable, 1, 1
     ∷ record { call = asks (head-T ++ rules01-T ++ accepting-T ++ start-T) 72 34018; result = (0 ∷ 0 ∷ 0 ∷ 1 ∷ 1 ∷ 0 ∷ []) ∷ [] }
     -- T without its accepting item: unreachable
@@ -123,5 +137,5 @@ starred =
 
 -- the definitions give each result
 pub starred-hold : map (λ (e : Example). gives (e .call)) starred ≡ map (λ (e : Example). e .result) starred
-unfolding sameGroup restrict merge tops enabled fire isOutOfTurn groupFits transitionFits writtenFit valueFits cooperates leavesControl isTwin refusal readFrom read systemOf readsAt keyLess sameKey additions logAt firstSaturated saturatedAt acceptingPath emittedBy recordsOf runOf pageAfter answerGiven answerCall runGiven runCall walkGiven walkCall
+unfolding sameGroup restrict merge tops enabled fire isOutOfTurn groupFits transitionFits writtenFit valueFits cooperates leavesControl isTwin refusal readFrom read systemOf readsAt keyLess sameKey additions logAt firstSaturated saturatedAt acceptingPath emittedBy recordsOf runOf logAfter pageAfter recordBytes answerGiven answerCall runGiven runCall walkGiven walkCall
 starred-hold = refl

@@ -13,13 +13,13 @@ use lib.ListN.{length, replicate}
 use borrow.Author.Tests.{le-ltb, lt-ltb, ne-eqb}
 use Rattle.model.specs.declared.Answered.{Answered}
 use Rattle.model.specs.declared.Ran.{Ran}
-use Rattle.model.specs.Calls.{answerCall, answerGiven, answerRefusal, capacity, changesNothing, filled, isLong, logAfter, pageAfter, recordsOf, runCall, runGiven, runOf, runRefusal, runVerdict, scratchAfter, scratchNeeded, startPath, verdict, zeros}
-use Rattle.model.specs.Demands.{Demand3}
+use Rattle.model.specs.Calls.{answerCall, answerFigures, answerGiven, answerRefusal, capacity, changesNothing, filled, isLong, logAfter, pageAfter, recordsOf, runCall, runFigures, runGiven, runOf, runRefusal, runVerdict, scratchAfter, scratchNeeded, startPath, verdict, zeros}
+use Rattle.model.specs.Demands.{Demand3, LogHolds}
 use Rattle.model.specs.Log.{Path, Record, limit}
 use Rattle.model.specs.Records.{logBytes}
 use Rattle.model.specs.Tables.{Reading, accepted, read, refused, systemOf}
 use Rattle.model.specs.Unfolding.{pathSteps}
-use Rattle.model.proofs.Demands.{demand-3}
+use Rattle.model.proofs.Main.{demand-2-answer, demand-2-run, demand-3}
 use Rattle.model.proofs.Tests.{by-test}
 use Rattle.table.specs.declared.Parsed.{Parsed}
 use Rattle.table.specs.declared.Table.{Table}
@@ -40,6 +40,7 @@ module _ (table log scratch : List ℕ) (t : Table) (holds : Holds table t) wher
     unfolding answerCall
     answers log′ scratch′ l s = record {
       answer = sym given;
+      figures = ap answerFigures (sym given);
       log-left = l ∙ ap (λ (g : Answered). logAfter (answerRefusal g) (recordsOf (read table)) log) (sym given);
       scratch-left = s ∙ ap (λ (g : Answered). scratchAfter (answerRefusal g) scratch) (sym given);
     }
@@ -90,6 +91,7 @@ module _ (table log scratch : List ℕ) (t : Table) (holds : Holds table t) wher
     unfolding runCall
     runs r given log′ scratch′ page′ l s p = record {
       answer = sym given;
+      figures = ap runFigures (sym given);
       log-left = l ∙ ap (λ (g : Ran). logAfter (runRefusal g) (recordsOf (read table)) log) (sym given);
       scratch-left = s ∙ ap (λ (g : Ran). scratchAfter (runRefusal g) scratch) (sym given);
       page-left = p ∙ ap (λ (g : Ran). pageAfter (runRefusal g) (runOf (read table)) page) (sym given);
@@ -144,6 +146,7 @@ module _ (table log scratch : List ℕ) (number place : ℕ) (e : parsed (read t
   unfolding answerCall answerGiven logAfter scratchAfter
   answers-refused = record {
     answer = ap (λ (x : Reading). answerGiven x (length log) (length scratch)) (sym is-refused);
+    figures = ap (λ (x : Reading). answerFigures (answerGiven x (length log) (length scratch))) (sym is-refused);
     log-left = sym (ap (λ (x : Reading). logAfter (answerRefusal (answerGiven x (length log) (length scratch))) (recordsOf (read table)) log) is-refused ∙ rw nothing);
     scratch-left = sym (ap (λ (x : Reading). scratchAfter (answerRefusal (answerGiven x (length log) (length scratch))) scratch) is-refused ∙ rw nothing);
   }
@@ -154,12 +157,19 @@ module _ (table log scratch : List ℕ) (number place : ℕ) (e : parsed (read t
       let late : number ≢ 0 = omega (arith, refusal-number table number place is-refused .0) in
       record {
         answer = ap (λ (x : Reading). runGiven x (length log) (length scratch) (length page)) (sym is-refused);
+        figures = ap (λ (x : Reading). runFigures (runGiven x (length log) (length scratch) (length page))) (sym is-refused);
         log-left = sym (ap (λ (x : Reading). logAfter (runRefusal (runGiven x (length log) (length scratch) (length page))) (recordsOf (read table)) log) is-refused ∙ rw nothing);
         scratch-left = sym (ap (λ (x : Reading). scratchAfter (runRefusal (runGiven x (length log) (length scratch) (length page))) scratch) is-refused ∙ rw nothing);
         page-left = sym (ap (λ (x : Reading). pageAfter (runRefusal (runGiven x (length log) (length scratch) (length page))) (runOf (read table)) page) is-refused ∙ rw (ne-eqb number 0 late));
       }
 
--- ---- demand 3
+-- ---- demands 2 and 3
+pub answer-holds : (table log scratch : List ℕ) (r : Answered) (log′ scratch′ : List ℕ) → Answers (answerCall table log scratch) r log′ scratch′ → LogHolds table (answerRefusal r) log′
+answer-holds table log scratch r log′ scratch′ a = rw (a .answer, a .log-left) (demand-2-answer table log scratch)
+
+pub run-holds : (table log scratch page : List ℕ) (r : Ran) (log′ scratch′ page′ : List ℕ) → Runs (runCall table log scratch page) r log′ scratch′ page′ → LogHolds table (runRefusal r) log′
+run-holds table log scratch page r log′ scratch′ page′ a = rw (a .answer, a .log-left) (demand-2-run table log scratch page)
+
 pub answer-demand : (table log scratch : List ℕ) (r : Answered) (log′ scratch′ : List ℕ) → Answers (answerCall table log scratch) r log′ scratch′
     → (page : List ℕ) → Demand3 table log scratch page r (runCall table log scratch page .answer) (runCall table log scratch page .page)
 answer-demand table log scratch r log′ scratch′ a page = subst (λ (x : Answered). Demand3 table log scratch page x (runCall table log scratch page .answer) (runCall table log scratch page .page)) (sym (a .answer)) (demand-3 table log scratch page)

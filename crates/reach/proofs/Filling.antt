@@ -19,7 +19,7 @@ use Rattle.saturate.specs.Limits.{SaturatedDone, SaturatedFull, SaturatedLimit}
 use Rattle.table.specs.Reading.{Holds, systemIn}
 use Rattle.verdict.specs.Verdicts.{Settled}
 use Rattle.logs.proofs.Logs.{log-fits}
-use Rattle.records.proofs.Entries.{length-log}
+use Rattle.model.proofs.RecordBytes.{length-log}
 
 module _ (table : List ℕ) (t : Table) (n : ℕ) (log scratch : List ℕ) (holds : Holds table t) (roomy : Roomy n log scratch) where
   abbrev sys : System

@@ -5,7 +5,7 @@ use Prim.Native.Nat.{ℕ, _*_, _≤_, _<_}
 use lib.ListN.{length}
 use Rattle.model.specs.declared.Answered.{Answered}
 use Rattle.model.specs.declared.Ran.{Ran}
-use Rattle.model.specs.Calls.{AnswerOutcome, RunOutcome, filled, zeros}
+use Rattle.model.specs.Calls.{AnswerOutcome, RunOutcome, answerFigures, runFigures, filled, zeros}
 use Rattle.model.specs.Log.{limit}
 use Rattle.model.specs.Records.{logBytes, recordLength}
 use Rattle.table.specs.declared.Table.{Table}
@@ -15,15 +15,17 @@ use Rattle.saturate.specs.declared.Saturated.{Saturated}
 use Rattle.saturate.specs.declared.Saturated.the-variants.{Limit, Full}
 use Rattle.verdict.specs.Verdicts.{Settled}
 
--- the answer call gives its outcome's answer and leaves its log and scratch
+-- the answer call gives its outcome's answer, with document 01's number and values, and leaves its log and scratch
 pub record Answers (o : AnswerOutcome) (r : Answered) (log scratch : List ℕ) : Type 0 where
   pub answer : r ≡ o .answer
+  pub figures : answerFigures r ≡ answerFigures (o .answer)
   pub log-left : log ≡ o .log
   pub scratch-left : scratch ≡ o .scratch
 
 -- the run call also leaves its outcome's page
 pub record Runs (o : RunOutcome) (r : Ran) (log scratch page : List ℕ) : Type 0 where
   pub answer : r ≡ o .answer
+  pub figures : runFigures r ≡ runFigures (o .answer)
   pub log-left : log ≡ o .log
   pub scratch-left : scratch ≡ o .scratch
   pub page-left : page ≡ o .page

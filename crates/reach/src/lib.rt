@@ -16,8 +16,8 @@ ghost use mathlib.Core.Path.{_≡_};
 ghost use Prim.Native.Nat.{ℕ, _+_, _*_, _≤_, _<_};
 ghost use lib.ListN.{length};
 ghost use mathlib.Core.List.{List};
-ghost use Rattle.model.specs.Calls.{capacity, answerCall, runCall};
-ghost use Rattle.model.specs.Demands.{Demand3};
+ghost use Rattle.model.specs.Calls.{capacity, answerCall, answerRefusal, runCall, runRefusal};
+ghost use Rattle.model.specs.Demands.{LogHolds, Demand3};
 ghost use Rattle.model.specs.Records.{recordLength};
 ghost use Rattle.table.specs.Reading.{Holds};
 ghost use Rattle.reach.specs.Outcomes.{Roomy, LogLeft, Answers, Runs};
@@ -117,10 +117,12 @@ fn run_table(table: &[u8], t: Table, log: &mut [u8], scratch: &mut [u8], page: &
     }
 }
 
-// Document 01, the answer call: the verdict with transitions, rounds and steps, or a refusal.
+// Document 01, the answer call: the verdict with transitions, rounds and steps, or a refusal. The three clauses are the mission's demands: what the
+// call gives and leaves in every buffer; the log in the paper's terms; the verdict in terms of runs.
 pub fn answer(table: &[u8], log: &mut [u8], scratch: &mut [u8]) -> Answered
-    ensures outcome { λ r. ⌜ Answers (answerCall (now (table .entry)) (now (log .entry)) (now (scratch .entry))) r (now (log .exit)) (now (scratch .exit)) ⌝ }
-    ensures demand { λ r. ⌜ ((page : List ℕ) → Demand3 (now (table .entry)) (now (log .entry)) (now (scratch .entry)) page r (runCall (now (table .entry)) (now (log .entry)) (now (scratch .entry)) page .answer) (runCall (now (table .entry)) (now (log .entry)) (now (scratch .entry)) page .page)) ⌝ }
+    ensures demand_1 { λ r. ⌜ Answers (answerCall (now (table .entry)) (now (log .entry)) (now (scratch .entry))) r (now (log .exit)) (now (scratch .exit)) ⌝ }
+    ensures demand_2 { λ r. ⌜ LogHolds (now (table .entry)) (answerRefusal r) (now (log .exit)) ⌝ }
+    ensures demand_3 { λ r. ⌜ ((page : List ℕ) → Demand3 (now (table .entry)) (now (log .entry)) (now (scratch .entry)) page r (runCall (now (table .entry)) (now (log .entry)) (now (scratch .entry)) page .answer) (runCall (now (table .entry)) (now (log .entry)) (now (scratch .entry)) page .page)) ⌝ }
 {
     match read(table) {
         Parsed::Refused { number, place } => Answered::Refused { number, place },
@@ -128,10 +130,11 @@ pub fn answer(table: &[u8], log: &mut [u8], scratch: &mut [u8]) -> Answered
     }
 }
 
-// Document 01, the run call: also a run that joins the start and the watched set, on the page, and its peak.
+// Document 01, the run call: also a run that joins the start and the watched set, on the page, and its peak. The clauses are as those of `answer`.
 pub fn run(table: &[u8], log: &mut [u8], scratch: &mut [u8], page: &mut [u16]) -> Ran
-    ensures outcome { λ r. ⌜ Runs (runCall (now (table .entry)) (now (log .entry)) (now (scratch .entry)) (now (page .entry))) r (now (log .exit)) (now (scratch .exit)) (now (page .exit)) ⌝ }
-    ensures demand { λ r. ⌜ Demand3 (now (table .entry)) (now (log .entry)) (now (scratch .entry)) (now (page .entry)) (answerCall (now (table .entry)) (now (log .entry)) (now (scratch .entry)) .answer) r (now (page .exit)) ⌝ }
+    ensures demand_1 { λ r. ⌜ Runs (runCall (now (table .entry)) (now (log .entry)) (now (scratch .entry)) (now (page .entry))) r (now (log .exit)) (now (scratch .exit)) (now (page .exit)) ⌝ }
+    ensures demand_2 { λ r. ⌜ LogHolds (now (table .entry)) (runRefusal r) (now (log .exit)) ⌝ }
+    ensures demand_3 { λ r. ⌜ Demand3 (now (table .entry)) (now (log .entry)) (now (scratch .entry)) (now (page .entry)) (answerCall (now (table .entry)) (now (log .entry)) (now (scratch .entry)) .answer) r (now (page .exit)) ⌝ }
 {
     match read(table) {
         Parsed::Refused { number, place } => Ran::Refused { number, place },

@@ -9,9 +9,10 @@ use lib.Seq.{getD-drop, drop-append-add, drop-at, take-at, set-split, split-at, 
 use Rattle.model.specs.Lists.{Each}
 use Rattle.model.specs.Tables.{writtenPlaces}
 use Rattle.model.specs.Log.{Record, recordAt, noRecord}
-use Rattle.model.specs.Records.{recordLength, littleEndian, pathBytes, recordBytes, logBytes}
+use Rattle.model.specs.Records.{recordLength, littleEndian, pathBytes, recordBytes, logBytes, numberAt, groupAt, letterAt, beforeAt, afterAt, roundAt, ruleAt, placeAt, stepsAt}
+use Rattle.model.proofs.RecordBytes.{length-path, length-record, length-log, log-around, number-drop, number-behind, number-cons, number-back, from-number, from-letter, from-before, from-after, from-round, record-from}
 use Rattle.records.specs.declared.Entry.{Entry}
-use Rattle.records.specs.Entries.{pathPlace, recordEntry, entryBytes, HasRecord, withEntry, numberAt, groupAt, letterAt, beforeAt, afterAt, roundAt, ruleAt, placeAt, stepsAt, entryAt, Fits, Reads}
+use Rattle.records.specs.Entries.{pathPlace, recordEntry, entryBytes, HasRecord, withEntry, Fits, Reads}
 use Rattle.records.proofs.Parts.{part-back, part-rest}
 
 -- ---- the bytes of an entry are those of its record
@@ -25,63 +26,6 @@ path-places (a ∷ b ∷ c ∷ d ∷ ns) = refl
 pub entry-bytes : (r : Record) → entryBytes (recordEntry r) ≡ recordBytes r
 unfolding entryBytes recordEntry recordBytes
 entry-bytes r = rw (← path-places (r .path))
-
--- ---- lengths
-length-path : (k : ℕ) (ns : List ℕ) → length (pathBytes k ns) ≡ 2 * k
-length-path zero ns = refl
-length-path (suc k) [] = omega (arith, length-path k [])
-length-path (suc k) (n ∷ ns) = omega (arith, length-path k ns)
-
-pub length-record : (r : Record) → length (recordBytes r) ≡ recordLength
-unfolding recordBytes
-length-record r = omega (arith, length-append (pathBytes writtenPlaces (r .path)) (littleEndian 3 (r .steps)), length-path writtenPlaces (r .path))
-
-pub length-log : (rs : List Record) → length (logBytes rs) ≡ length rs * recordLength
-length-log [] = refl
-length-log (r ∷ rs) = length-append (recordBytes r) (logBytes rs) ∙ omega (arith, length-record r, length-log rs)
-
-pub log-append : (rs qs : List Record) → logBytes (rs ++ qs) ≡ logBytes rs ++ logBytes qs
-log-append [] qs = refl
-log-append (r ∷ rs) qs = ap (λ (l : List ℕ). recordBytes r ++ l) (log-append rs qs) ∙ sym (append-assoc (recordBytes r) (logBytes rs) (logBytes qs))
-
--- the bytes of a record among others
-log-around : (pre : List Record) (r : Record) (post : List Record) (rest : List ℕ)
-    → logBytes (pre ++ r ∷ post) ++ rest ≡ logBytes pre ++ (recordBytes r ++ (logBytes post ++ rest))
-log-around pre r post rest = rw (log-append pre (r ∷ post)) (simp append-assoc)
-
--- the log from record n on
-pub log-from : (rs : List Record) (rest : List ℕ) (n : ℕ) → n < length rs
-    → drop (n * recordLength) (logBytes rs ++ rest) ≡ recordBytes (recordAt rs n) ++ (logBytes (drop (suc n) rs) ++ rest)
-log-from [] rest n h = absurd (omega arith)
-log-from (r ∷ rs) rest zero h = append-assoc (recordBytes r) (logBytes rs) rest
-log-from (r ∷ rs) rest (suc n) h =
-    let e : suc n * recordLength ≡ length (recordBytes r) + n * recordLength = omega (arith, length-record r) in
-    rw (e, append-assoc (recordBytes r) (logBytes rs) rest, drop-append-add (recordBytes r) (logBytes rs ++ rest) (n * recordLength)) (log-from rs rest n (omega arith))
-
--- ---- numbers and groups at an offset
-number-drop : (k : ℕ) (l : List ℕ) (a i : ℕ) → numberAt k (drop a l) i ≡ numberAt k l (a + i)
-number-drop zero l a i = refl
-number-drop (suc k) l a i = rw (getD-drop a l i 0, number-drop k l a (suc i), add-suc a i)
-
-group-drop : (l : List ℕ) (a i : ℕ) → groupAt (drop a l) i ≡ groupAt l (a + i)
-unfolding groupAt
-group-drop l a i = rw (getD-drop a l i 0, getD-drop a l (i + 1) 0, getD-drop a l (i + 2) 0, getD-drop a l (i + 3) 0, add-assoc a i 1, add-assoc a i 2, add-assoc a i 3)
-
-number-behind : (k : ℕ) (xs ys : List ℕ) (n : ℕ) → length xs ≡ n → numberAt k (xs ++ ys) n ≡ numberAt k ys 0
-number-behind k xs ys n e =
-    let z : n ≡ n + 0 = omega arith in
-    ap (λ (i : ℕ). numberAt k (xs ++ ys) i) z ∙ sym (number-drop k (xs ++ ys) n 0) ∙ ap (λ (l : List ℕ). numberAt k l 0) (drop-at xs ys n e)
-
-number-cons : (k x : ℕ) (l : List ℕ) (i : ℕ) → numberAt k (x ∷ l) (suc i) ≡ numberAt k l i
-number-cons zero x l i = refl
-number-cons (suc k) x l i = ap (λ (y : ℕ). getD l i 0 + 256 * y) (number-cons k x l (suc i))
-
--- a number that was written is read back
-number-back : (k x : ℕ) (rest : List ℕ) → x < 256 ^ k → numberAt k (littleEndian k x ++ rest) 0 ≡ x
-number-back zero x rest h = omega arith
-number-back (suc k) x rest h =
-    let back = number-back k (x / 256) rest (omega (arith, pow-suc 256 k)) in
-    rw (number-cons k (x % 256) (littleEndian k (x / 256) ++ rest) 0, back) (omega arith)
 
 -- ---- places of a path
 path-step : (k : ℕ) (ns : List ℕ) → pathBytes (suc k) ns ≡ littleEndian 2 (pathPlace ns 0) ++ pathBytes k (drop 1 ns)
@@ -118,24 +62,7 @@ place-back (suc k) ns rest (suc j) h f =
     ∙ place-step ns j
 
 -- ---- what the readers give
--- at the front of the record's bytes
 module _ (r : Record) (rest : List ℕ) (f : Fits r) where
-  front-letter : getD (recordBytes r ++ rest) 0 0 ≡ r .key .letter
-  unfolding recordBytes
-  front-letter = refl
-
-  front-before : groupAt (recordBytes r ++ rest) 1 ≡ r .key .before
-  unfolding recordBytes groupAt
-  front-before = refl
-
-  front-after : groupAt (recordBytes r ++ rest) 5 ≡ r .key .after
-  unfolding recordBytes groupAt
-  front-after = refl
-
-  front-round : numberAt 2 (recordBytes r ++ rest) 9 ≡ r .round
-  unfolding recordBytes
-  front-round = number-back 2 (r .round) [] (f .round)
-
   front-rule : numberAt 2 (recordBytes r ++ rest) 11 ≡ r .rule
   unfolding recordBytes
   front-rule = number-back 2 (r .rule) [] (f .rule)
@@ -161,74 +88,34 @@ module _ (r : Record) (rest : List ℕ) (f : Fits r) where
 
 -- at the record's place in a list
 module _ (log : List ℕ) (n : ℕ) (r : Record) (rest : List ℕ) (e : drop (n * recordLength) log ≡ recordBytes r ++ rest) (f : Fits r) where
-  from-number : (k i : ℕ) → numberAt k log (n * recordLength + i) ≡ numberAt k (recordBytes r ++ rest) i
-  from-number k i = sym (number-drop k log (n * recordLength) i) ∙ ap (λ (l : List ℕ). numberAt k l i) e
-
-  from-group : (i : ℕ) → groupAt log (n * recordLength + i) ≡ groupAt (recordBytes r ++ rest) i
-  from-group i = sym (group-drop log (n * recordLength) i) ∙ ap (λ (l : List ℕ). groupAt l i) e
-
-  from-letter : letterAt log n ≡ r .key .letter
-  unfolding letterAt
-  from-letter =
-      let z : n * recordLength ≡ n * recordLength + 0 = omega arith in
-      ap (λ (i : ℕ). getD log i 0) z ∙ sym (getD-drop (n * recordLength) log 0 0) ∙ ap (λ (l : List ℕ). getD l 0 0) e ∙ front-letter r rest f
-
-  from-before : beforeAt log n ≡ r .key .before
-  unfolding beforeAt
-  from-before = from-group 1 ∙ front-before r rest f
-
-  from-after : afterAt log n ≡ r .key .after
-  unfolding afterAt
-  from-after = from-group 5 ∙ front-after r rest f
-
-  from-round : roundAt log n ≡ r .round
-  unfolding roundAt
-  from-round = from-number 2 9 ∙ front-round r rest f
-
   from-rule : ruleAt log n ≡ r .rule
   unfolding ruleAt
-  from-rule = from-number 2 11 ∙ front-rule r rest f
+  from-rule = from-number log n r rest e 2 11 ∙ front-rule r rest f
 
   from-place : (j : ℕ) → j < writtenPlaces → placeAt log n j ≡ pathPlace (r .path) j
   unfolding placeAt
-  from-place j h = from-number 2 (13 + 2 * j) ∙ front-place r rest f j h
+  from-place j h = from-number log n r rest e 2 (13 + 2 * j) ∙ front-place r rest f j h
 
   from-steps : stepsAt log n ≡ r .steps
   unfolding stepsAt
-  from-steps = from-number 3 (13 + 2 * writtenPlaces) ∙ front-steps r rest f
-
-  from-entry : entryAt log n ≡ recordEntry r
-  unfolding entryAt recordEntry
-  from-entry = λ i. record {
-    letter = from-letter i;
-    before = from-before i;
-    after = from-after i;
-    round = from-round i;
-    rule = from-rule i;
-    p0 = from-place 0 (omega arith) i;
-    p1 = from-place 1 (omega arith) i;
-    p2 = from-place 2 (omega arith) i;
-    p3 = from-place 3 (omega arith) i;
-    steps = from-steps i;
-  }
+  from-steps = from-number log n r rest e 3 (13 + 2 * writtenPlaces) ∙ front-steps r rest f
 
   from-all : Reads log n r
   from-all = record {
-    letter = from-letter;
-    before = from-before;
-    after = from-after;
-    round = from-round;
+    letter = from-letter log n r rest e;
+    before = from-before log n r rest e;
+    after = from-after log n r rest e;
+    round = from-round log n r rest e (f .round);
     rule = from-rule;
     place = from-place;
     steps = from-steps;
-    entry = from-entry;
   }
 
 -- a log that begins with the bytes of records whose numbers fit is read record by record
 pub log-reads : (records : List Record) (rest log : List ℕ) (n : ℕ) → log ≡ logBytes records ++ rest → n < length records → Fits (recordAt records n)
     → Reads log n (recordAt records n)
 log-reads records rest log n e h f =
-    from-all log n (recordAt records n) (logBytes (drop (suc n) records) ++ rest) (ap (λ (l : List ℕ). drop (n * recordLength) l) e ∙ log-from records rest n h) f
+    from-all log n (recordAt records n) (logBytes (drop (suc n) records) ++ rest) (record-from records rest log n e h) f
 
 pub log-has : (records : List Record) (rest log : List ℕ) (n : ℕ) → log ≡ logBytes records ++ rest → n < length records → HasRecord log n
 log-has records rest log n e h = omega (arith, ap length e, length-append (logBytes records) rest, length-log records)

@@ -8,7 +8,7 @@ use Rattle.model.specs.Groups.{Process, at}
 use Rattle.model.specs.Lists.{Each}
 use Rattle.model.specs.Tables.{writtenPlaces}
 use Rattle.model.specs.Log.{Record, noNumber}
-use Rattle.model.specs.Records.{recordLength, littleEndian, groupBytes, pathBytes}
+use Rattle.model.specs.Records.{recordLength, littleEndian, groupBytes, pathBytes, letterAt, beforeAt, afterAt, roundAt, ruleAt, placeAt, stepsAt}
 use Rattle.records.specs.declared.Entry.{Entry}
 
 -- ---- writing
@@ -46,51 +46,6 @@ HasRecord log n = n * recordLength + recordLength ≤ length log
 unfoldable pub withEntry : List ℕ → ℕ → Entry → List ℕ
 withEntry log n e = take (n * recordLength) log ++ (entryBytes e ++ drop recordLength (drop (n * recordLength) log))
 
--- ---- reading
--- the number that so many bytes from an offset on stand for, the low one first
-abbrev pub numberAt : ℕ → List ℕ → ℕ → ℕ
-numberAt zero l i = 0
-numberAt (suc k) l i = getD l i 0 + 256 * numberAt k l (suc i)
-
-unfoldable pub groupAt : List ℕ → ℕ → Group
-groupAt l i = record { s0 = getD l i 0; s1 = getD l (i + 1) 0; s2 = getD l (i + 2) 0; s3 = getD l (i + 3) 0 }
-
-unfoldable pub letterAt : List ℕ → ℕ → ℕ
-letterAt log n = getD log (n * recordLength) 0
-
-unfoldable pub beforeAt : List ℕ → ℕ → Group
-beforeAt log n = groupAt log (n * recordLength + 1)
-
-unfoldable pub afterAt : List ℕ → ℕ → Group
-afterAt log n = groupAt log (n * recordLength + 5)
-
-unfoldable pub roundAt : List ℕ → ℕ → ℕ
-roundAt log n = numberAt 2 log (n * recordLength + 9)
-
-unfoldable pub ruleAt : List ℕ → ℕ → ℕ
-ruleAt log n = numberAt 2 log (n * recordLength + 11)
-
--- path place j
-unfoldable pub placeAt : List ℕ → ℕ → ℕ → ℕ
-placeAt log n j = numberAt 2 log (n * recordLength + (13 + 2 * j))
-
-unfoldable pub stepsAt : List ℕ → ℕ → ℕ
-stepsAt log n = numberAt 3 log (n * recordLength + (13 + 2 * writtenPlaces))
-
-unfoldable pub entryAt : List ℕ → ℕ → Entry
-entryAt log n = record {
-  letter = letterAt log n;
-  before = beforeAt log n;
-  after = afterAt log n;
-  round = roundAt log n;
-  rule = ruleAt log n;
-  p0 = placeAt log n 0;
-  p1 = placeAt log n 1;
-  p2 = placeAt log n 2;
-  p3 = placeAt log n 3;
-  steps = stepsAt log n;
-}
-
 -- ---- the numbers of a record fit the bytes that they are written in
 pub record Fits (r : Record) : Type 0 where
   pub letter : r .key .letter < 256
@@ -111,4 +66,3 @@ pub record Reads (log : List ℕ) (n : ℕ) (r : Record) : Type 0 where
   pub rule : ruleAt log n ≡ r .rule
   pub place : (j : ℕ) → j < writtenPlaces → placeAt log n j ≡ pathPlace (r .path) j
   pub steps : stepsAt log n ≡ r .steps
-  pub entry : entryAt log n ≡ recordEntry r

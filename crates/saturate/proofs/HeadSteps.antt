@@ -37,7 +37,7 @@ use Rattle.search.specs.Jobs.{chainsAt}
 use Rattle.table.specs.Reading.{Holds, ruleIn, systemIn}
 use Rattle.chains.proofs.Buckets.{chained-scratch}
 use Rattle.logs.proofs.Logs.{log-fits, skip-stale}
-use Rattle.records.proofs.Entries.{log-append}
+use Rattle.model.proofs.RecordBytes.{log-append}
 use Rattle.heads.proofs.Marking.{looked-at}
 use Rattle.heads.proofs.NextHead.{IsNext, next-outside, next-at}
 use Rattle.table.proofs.Layouts.{rules-count}

@@ -14,13 +14,13 @@ use Rattle.model.specs.Automata.{Transition, move}
 use Rattle.model.specs.Groups.{Processes, merge, processesOf, restrict, sameGroup}
 use Rattle.model.specs.Lists.{Each, sumOver}
 use Rattle.model.specs.Log.{Candidate, Path, Record, addedRecord, candidate, extend, keys, noRecord, paths, push, readsAt, recordAt, stepsCap}
-use Rattle.model.specs.Records.{logBytes, recordLength}
+use Rattle.model.specs.Records.{logBytes, recordLength, afterAt, beforeAt, letterAt}
 use Rattle.model.specs.Systems.{Rule, onward}
 use Rattle.model.proofs.LogPaths.{reads-letter}
 use Rattle.model.proofs.Tests.{by-test}
 use Rattle.model.proofs.Validity.{each-at}
 use Rattle.search.specs.declared.Job.{Job}
-use Rattle.records.specs.Entries.{Fits, Reads, afterAt, beforeAt, letterAt, recordEntry, withEntry}
+use Rattle.records.specs.Entries.{Fits, Reads, recordEntry, withEntry}
 use Rattle.search.specs.Jobs.{glances, glancesFrom, jobLoc, jobWord, offers}
 use Rattle.search.specs.Visits.{Visit, endNumber, fromMark, offer, offerAll, toMark}
 use Rattle.records.proofs.Entries.{log-reads}

@@ -28,7 +28,7 @@ use Rattle.saturate.specs.Limits.{Logged, RoundBegins, RoundCounted, Rou
 use Rattle.initial.specs.Selecting.{initialLog, withInitial}
 use Rattle.table.specs.Reading.{Holds, itemsIn, systemIn}
 use Rattle.logs.proofs.Rules.{transitions-distinct}
-use Rattle.records.proofs.Entries.{length-log}
+use Rattle.model.proofs.RecordBytes.{length-log}
 use Rattle.initial.proofs.Selecting.{initial-length}
 use Rattle.table.proofs.Readings.{holds-complete}
 use Rattle.table.proofs.Layouts.{transitions-count}

@@ -13,7 +13,7 @@ use Rattle.model.specs.declared.Group.{Group}
 use Rattle.model.specs.Groups.{Processes, merge, processesOf}
 use Rattle.model.specs.Lists.{Each}
 use Rattle.model.specs.Log.{Candidate, Record, noNumber, recordAt}
-use Rattle.model.specs.Records.{logBytes, recordLength}
+use Rattle.model.specs.Records.{logBytes, recordLength, afterAt, letterAt}
 use Rattle.model.specs.Systems.{Rule}
 use Rattle.model.specs.Tables.{writtenPlaces}
 use Rattle.model.proofs.RoundGroups.{isHead}
@@ -24,7 +24,7 @@ use Rattle.search.specs.declared.Places.{Places}
 use Rattle.table.specs.declared.Table.{Table}
 use Rattle.automaton.specs.StateNumbers.{Over, stateCount}
 use Rattle.automaton.specs.StateSets.{member}
-use Rattle.records.specs.Entries.{Fits, HasRecord, Reads, afterAt, letterAt}
+use Rattle.records.specs.Entries.{Fits, HasRecord, Reads}
 use Rattle.heads.specs.Heads.{activeAt, activeIn}
 use Rattle.saturate.specs.Rounds.{Cleared, InRound, Offered, StageJob, Staged, earlierLog, lookedAt, ruleCandidates, ruleOffers, stageCandidates}
 use Rattle.search.specs.Jobs.{Searchable, Searched, Standing, bitsOf, chainsAt, finishedAt, finishedEnd, glances, isFinished, jobLoc, jobWord, letterOf, marksOf, offers, placeIn, placeList, tailOf, visitIn}

@@ -15,7 +15,8 @@ use Rattle.search.specs.declared.Places.{Places}
 use Rattle.automaton.specs.StateNumbers.{stateCount, stateNumber}
 use Rattle.automaton.specs.StateSets.{firstFrom}
 use Rattle.chains.specs.Buckets.{ChainRoom, Chained, recordReads}
-use Rattle.records.specs.Entries.{HasRecord, afterAt, beforeAt, letterAt}
+use Rattle.model.specs.Records.{afterAt, beforeAt, letterAt}
+use Rattle.records.specs.Entries.{HasRecord}
 use Rattle.search.specs.Jobs.{Searchable, Searched, Standing, bitsOf, chainsAt, finishedEnd, glances, letterOf, offers, placeIn, placeNumbers, visitIn, withFinished, withPlace}
 use Rattle.search.specs.Visits.{Visit, fromMark}
 use Rattle.automaton.proofs.StateNumbers.{stateNumber-below}

@@ -14,14 +14,13 @@ use Rattle.model.specs.declared.Group.{Group}
 use Rattle.model.specs.Groups.{Processes, at, processesOf, restrict}
 use Rattle.model.specs.Lists.{Each}
 use Rattle.model.specs.Log.{Candidate, Path, Record, extend, noNumber, paths, push, readsAt, recordAt}
-use Rattle.model.specs.Records.{recordLength}
+use Rattle.model.specs.Records.{recordLength, afterAt, beforeAt, groupAt, letterAt, numberAt, stepsAt}
 use Rattle.model.specs.Tables.{writtenPlaces}
 use Rattle.model.proofs.Lists.{each-map}
 use Rattle.model.proofs.Tests.{by-test}
 use Rattle.search.specs.declared.Job.{Job}
 use Rattle.automaton.specs.StateNumbers.{Over, stateCount, stateNumber}
 use Rattle.chains.specs.Buckets.{recordReads}
-use Rattle.records.specs.Entries.{afterAt, beforeAt, groupAt, letterAt, numberAt, stepsAt}
 use Rattle.search.specs.Jobs.{FinishedRight, glance, glances, glancesFrom, isFinished, jobLoc, jobWord, letterOf, made, marksOf, offers, writtenLetters}
 use Rattle.search.specs.Visits.{endNumber, fromMark}
 use Rattle.automaton.proofs.StateNumbers.{number-injective, stateNumber-below}

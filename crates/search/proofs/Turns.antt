@@ -14,7 +14,7 @@ use Rattle.model.specs.Automata.{move}
 use Rattle.model.specs.Groups.{Processes, merge, processesOf, restrict, sameGroup}
 use Rattle.model.specs.Lists.{Each}
 use Rattle.model.specs.Log.{Candidate, Path, Record, extend, noNumber, paths, push, readsAt, recordAt}
-use Rattle.model.specs.Records.{recordLength}
+use Rattle.model.specs.Records.{recordLength, afterAt, beforeAt, letterAt}
 use Rattle.model.specs.Tables.{writtenPlaces}
 use Rattle.model.proofs.Lists.{each-append, map-append}
 use Rattle.model.proofs.Tests.{and-left}
@@ -22,7 +22,6 @@ use Rattle.search.specs.declared.Job.{Job}
 use Rattle.search.specs.declared.Places.{Places}
 use Rattle.automaton.specs.StateSets.{firstFrom}
 use Rattle.chains.specs.Buckets.{recordReads}
-use Rattle.records.specs.Entries.{afterAt, beforeAt, letterAt}
 use Rattle.search.specs.Jobs.{FinishedRight, Searchable, Searched, Standing, bitsOf, finishedEnd, glances, jobLoc, jobWord, letterOf, marksOf, offers, placeIn, placeList, placeNumbers, visitIn, withPlace}
 use Rattle.search.specs.Visits.{Visit, fromMark, offerAll}
 use Rattle.automaton.proofs.StateSets.{first-at}

@@ -11,11 +11,11 @@ use Rattle.model.specs.Lists.{Each}
 use Rattle.model.specs.Groups.{Processes, processesOf, restrict, merge}
 use Rattle.model.specs.Tables.{writtenPlaces}
 use Rattle.model.specs.Log.{Record, Path, Candidate, paths, noNumber, stepsCap}
-use Rattle.model.specs.Records.{recordLength}
+use Rattle.model.specs.Records.{recordLength, letterAt, beforeAt, afterAt, stepsAt}
 use Rattle.automaton.specs.StateNumbers.{stateCount, stateNumber, Over}
 use Rattle.automaton.specs.StateSets.{member, inserted}
 use Rattle.records.specs.declared.Entry.{Entry}
-use Rattle.records.specs.Entries.{HasRecord, withEntry, letterAt, beforeAt, afterAt, stepsAt}
+use Rattle.records.specs.Entries.{HasRecord, withEntry}
 use Rattle.chains.specs.WordBytes.{wordAt}
 use Rattle.chains.specs.Buckets.{ChainRoom, Chained}
 use Rattle.search.specs.declared.Job.{Job}

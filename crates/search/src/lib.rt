@@ -15,7 +15,8 @@ ghost use lib.ListN.{length, getD, set};
 ghost use Rattle.model.specs.Groups.{restrict, processesOf};
 ghost use Rattle.model.specs.Lists.{sumOver};
 ghost use Rattle.model.specs.Log.{stepsCap};
-ghost use Rattle.records.specs.Entries.{HasRecord, stepsAt};
+ghost use Rattle.model.specs.Records.{stepsAt};
+ghost use Rattle.records.specs.Entries.{HasRecord};
 ghost use Rattle.search.specs.Jobs.{letterOf, bitsOf, withPlace, placeNumbers, Searchable, Standing, Searched, StepsKnown, PlacesKnown, stepsOf, placeSteps, marked, Writable, written, Arrived, finishedEnd, finishedPart, withFinished};
 ghost use Rattle.automaton.specs.StateSets.{member};
 

@@ -11,7 +11,7 @@ use Rattle.model.specs.Groups.{Processes, processesOf, restrict, merge}
 use Rattle.automaton.specs.StateNumbers.{stateNumber, groupNumbered}
 use Rattle.automaton.specs.StateSets.{member, firstFrom}
 use Rattle.automaton.proofs.StateSets.{Fails, fails-join, fails-one, first-is, first-at}
-use Rattle.records.specs.Entries.{afterAt}
+use Rattle.model.specs.Records.{afterAt}
 use Rattle.chains.specs.Buckets.{recordReads}
 use Rattle.start.specs.declared.Letter.{Letter}
 use Rattle.start.specs.RestSets.{leads, firstLead, continues}

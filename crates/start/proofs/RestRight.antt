@@ -25,7 +25,7 @@ use Rattle.automaton.specs.StateNumbers.{stateNumber, Over}
 use Rattle.automaton.specs.StateSets.{member, firstFrom}
 use Rattle.automaton.proofs.StateNumbers.{stateNumber-below, numbered-number, number-injective}
 use Rattle.automaton.proofs.StateSets.{first-of}
-use Rattle.records.specs.Entries.{afterAt}
+use Rattle.model.specs.Records.{afterAt}
 use Rattle.chains.specs.Buckets.{recordReads}
 use Rattle.chains.proofs.Buckets.{reads-model}
 use Rattle.table.specs.declared.Table.{Table}

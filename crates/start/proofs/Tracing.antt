@@ -23,7 +23,7 @@ use Rattle.model.proofs.GreedyPath.{pickFrom, greedy, isSome, accepts-is, accep
 use Rattle.model.proofs.Tests.{and-left, and-right}
 use Rattle.automaton.specs.StateNumbers.{Over}
 use Rattle.automaton.proofs.StateSets.{First, first-at}
-use Rattle.records.specs.Entries.{afterAt}
+use Rattle.model.specs.Records.{afterAt}
 use Rattle.chains.specs.WordBytes.{withWord}
 use Rattle.chains.proofs.WordBytes.{length-word, byte-other}
 use Rattle.table.specs.declared.Table.{Table}

@@ -12,7 +12,7 @@ use Rattle.model.specs.Log.{keys, limit}
 use Rattle.model.specs.Systems.{accepts}
 use Rattle.automaton.specs.StateNumbers.{stateCount, stateNumber, groupNumbered, Over}
 use Rattle.automaton.specs.StateSets.{member, firstFrom}
-use Rattle.records.specs.Entries.{afterAt}
+use Rattle.model.specs.Records.{afterAt}
 use Rattle.chains.specs.Buckets.{recordReads}
 use Rattle.table.specs.declared.Table.{Table}
 use Rattle.table.specs.Reading.{systemIn, pileIn, BitsOf}

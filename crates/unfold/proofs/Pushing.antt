@@ -10,7 +10,8 @@ use borrow.Author.Tests.{eq-eqb, ne-eqb}
 use Rattle.model.specs.Lists.{Each}
 use Rattle.model.specs.Log.{noNumber}
 use Rattle.model.proofs.Lists.{each-get, getD-mem}
-use Rattle.records.specs.Entries.{placeAt, pathPlace}
+use Rattle.model.specs.Records.{placeAt}
+use Rattle.records.specs.Entries.{pathPlace}
 use Rattle.chains.specs.WordBytes.{withWord}
 use Rattle.chains.proofs.WordBytes.{length-word}
 use Rattle.stack.specs.StackNumbers.{stackBase, stackPlace, stackOf}

@@ -16,7 +16,8 @@ use Rattle.model.proofs.EmissionStack.{Low, low-height}
 use Rattle.model.proofs.Lists.{each-map}
 use Rattle.model.proofs.Reachability.{accepting-path-found, answer-yes, answer-steps}
 use Rattle.model.proofs.Reasons.{path-length}
-use Rattle.records.specs.Entries.{Reads, Fits, roundAt, ruleAt}
+use Rattle.model.specs.Records.{roundAt, ruleAt}
+use Rattle.records.specs.Entries.{Reads, Fits}
 use Rattle.table.specs.declared.Table.{Table}
 use Rattle.table.specs.Reading.{systemIn, ruleIn}
 use Rattle.table.proofs.Layouts.{table-modest, rules-count, pile-count, written-few}

@@ -7,7 +7,8 @@ use lib.Dec.{eqb}
 use lib.ListN.{length, set}
 use Rattle.model.specs.Log.{noNumber}
 use Rattle.model.specs.Tables.{writtenPlaces}
-use Rattle.records.specs.Entries.{HasRecord, roundAt, ruleAt, placeAt}
+use Rattle.model.specs.Records.{roundAt, ruleAt, placeAt}
+use Rattle.records.specs.Entries.{HasRecord}
 use Rattle.table.specs.declared.Table.{Table}
 use Rattle.table.specs.Reading.{Holds, ruleIn}
 use Rattle.chains.specs.WordBytes.{wordAt}

@@ -1,4 +1,3 @@
 pub mod Stepping
 pub mod Ends
 pub mod Outcomes
-pub mod Reaching

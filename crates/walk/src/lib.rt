@@ -13,13 +13,13 @@ use table::read;
 use table::start_group;
 ghost use mathlib.Core.Path.{_≡_};
 ghost use Prim.Native.Nat.{_+_, _≤_};
-ghost use lib.ListN.{length, drop, getD};
+ghost use lib.ListN.{length, drop};
 ghost use lib.Seq.{paste};
 ghost use Rattle.model.specs.Calls.{bit, filled, zeros, walkScratch, walkFrom, walkCall, walkFigures};
+ghost use Rattle.model.specs.Demands.{Demand2Walk};
 ghost use Rattle.table.specs.Reading.{Holds, systemIn};
 ghost use Rattle.firing.specs.Piles.{configuration};
 ghost use Rattle.walk.specs.Walking.{InShape, StepTo, answerAt, Stopped, haltedBefore, outcomeOf, Halts, Walks};
-ghost use Rattle.walk.specs.Claims.{Reached};
 
 // What one step comes to: the number of its refusal, or the configuration after it.
 pub enum Taken {
@@ -257,7 +257,8 @@ fn put_figures(figures: &mut [u64; 8], answer: Walked)
     }
 }
 
-// Walks the list of rules over the table. Hands back the part of the list from the refused step on, the empty part in any other case.
+// Walks the list of rules over the table. Hands back the part of the list from the refused step on, the empty part in any other case. The two
+// clauses are the mission's demands: what the call gives and leaves in every buffer; its steps, taken and refused, in the paper's terms.
 pub fn walk<'a>(
     table: &[u8],
     list: &'a [u16],
@@ -265,8 +266,8 @@ pub fn walk<'a>(
     scratch: &mut [u8],
     figures: &mut [u64; 8],
 ) -> &'a [u16]
-    ensures outcome { λ r. ⌜ Walks (walkCall (now (table .entry)) (now (list .entry)) (now (pile .entry)) (now (scratch .entry))) (now (figures .exit)) (now r) (now (pile .exit)) (now (scratch .exit)) ⌝ }
-    ensures steps { λ _. ⌜ (getD (now (figures .exit)) 0 0 ≡ 0 → Reached (now (table .entry)) (now (list .entry)) (now (pile .exit)) (now (figures .exit))) ⌝ }
+    ensures demand_1 { λ r. ⌜ Walks (walkCall (now (table .entry)) (now (list .entry)) (now (pile .entry)) (now (scratch .entry))) (now (figures .exit)) (now r) (now (pile .exit)) (now (scratch .exit)) ⌝ }
+    ensures demand_2 { λ _. ⌜ Demand2Walk (now (table .entry)) (now (list .entry)) (now (figures .exit)) (now (pile .exit)) ⌝ }
 {
     let halted = walk_table(table, list, pile, scratch);
     let answer = halted.answer;

@@ -1,8 +1,9 @@
+-- The answer call for C and Rust: its figures are those of the answer.
 use mathlib.Core.Path.{ap, _∙_}
 use Rattle.model.specs.Calls.{answerFigures}
 use Rattle.model.specs.declared.Answered.{Answered}
 use Rattle.exports.specs.Figures.{sixteen}
-use Rattle.exports.proofs.Words.{answer-word}
+use Rattle.exports.proofs.Words.{answer-figures, answer-number, answer-word}
 use native.Mathlib.Omega.{arith}
 use lib.ListN.{length, length-set}
 use borrow.Author.Needs.{needs}
@@ -32,11 +33,15 @@ same-length-2 c = search needs
 -- src/lib.rt:151:1
 returns : tie.Need-returns
 returns c =
-    let a = c .before .before .before .before .before .before .before .before .before .before .before .before .args in
-    let o = c .before .before .before .before .before .before .answer .ensures .0 in
+    let at-call = c .before .before .before .before .before .before in
+    let a = at-call .before .before .before .before .before .before .args in
+    let o = at-call .answer .ensures .0 in
     let f = c .put-answer .ensures ∙ ap (λ (x : Answered). sixteen (answerFigures x)) (o .answer) in (
       record { figures = f; log = o .log-left; scratch = o .scratch-left },
-      answer-word (a .table .now) (a .log .now) (a .scratch .now) _ f,
+      (
+        rw (c .put-answer .ensures, answer-number (at-call .answer .result)) (at-call .answer .ensures .1 .0),
+        (answer-figures (a .table .now) (a .log .now) (a .scratch .now) _ f, answer-word (a .table .now) (a .log .now) (a .scratch .now) _ f),
+      ),
     )
 
 pub roskavel-answer-spec : {M : Type 1} → statement M

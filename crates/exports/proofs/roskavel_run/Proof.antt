@@ -1,8 +1,9 @@
+-- The run call for C and Rust: its figures are those of the run.
 use mathlib.Core.Path.{ap, _∙_}
 use Rattle.model.specs.Calls.{runFigures}
 use Rattle.model.specs.declared.Ran.{Ran}
 use Rattle.exports.specs.Figures.{sixteen}
-use Rattle.exports.proofs.Words.{run-word}
+use Rattle.exports.proofs.Words.{run-figures, run-number, run-word}
 use native.Mathlib.Omega.{arith}
 use lib.ListN.{length, length-set}
 use borrow.Author.Needs.{needs}
@@ -36,11 +37,15 @@ same-length-3 c = search needs
 -- src/lib.rt:165:1
 returns : tie.Need-returns
 returns c =
-    let a = c .before .before .before .before .before .before .before .before .before .before .before .before .before .before .before .before .args in
-    let o = c .before .before .before .before .before .before .before .before .run .ensures .0 in
+    let at-call = c .before .before .before .before .before .before .before .before in
+    let a = at-call .before .before .before .before .before .before .before .before .args in
+    let o = at-call .run .ensures .0 in
     let f = c .put-run .ensures ∙ ap (λ (x : Ran). sixteen (runFigures x)) (o .answer) in (
       record { figures = f; log = o .log-left; scratch = o .scratch-left; page = o .page-left },
-      run-word (a .table .now) (a .log .now) (a .scratch .now) (a .page .now) _ _ f (o .page-left),
+      (
+        rw (c .put-run .ensures, run-number (at-call .run .result)) (at-call .run .ensures .1 .0),
+        (run-figures (a .table .now) (a .log .now) (a .scratch .now) (a .page .now) _ _ f (o .page-left), run-word (a .table .now) (a .log .now) (a .scratch .now) (a .page .now) _ _ f (o .page-left)),
+      ),
     )
 
 pub roskavel-run-spec : {M : Type 1} → statement M

@@ -1,8 +1,10 @@
+-- The walk call for C and Rust: its figures are those of the walk, then where the part handed back begins.
 use mathlib.Core.Path.{_≡_, ap, sym, _∙_}
 use mathlib.Core.List.{List, [], _∷_, _++_}
 use Prim.Native.Nat.{ℕ, _-_}
 use Rattle.exports.proofs.Parts.{figures-length, rest-short}
 use Rattle.model.specs.Calls.{walkCall, walkFigures}
+use Rattle.exports.proofs.Words.{walk-figures}
 use Rattle.exports.specs.Figures.{sixteen}
 use native.Mathlib.Omega.{arith}
 use lib.ListN.{length, length-set}
@@ -42,14 +44,18 @@ same-length-2 c = search needs
 -- src/lib.rt:180:1
 returns : tie.Need-returns
 returns c =
-    let a = c .before .before .before .before .before .before .before .before .before .before .before .before .before .before .before .args in
-    let w = c .before .before .before .before .before .before .before .walk .ensures .0 in
-    record {
-      figures = c .put-walk .ensures ∙ ap (λ (l : List ℕ). sixteen (l ++ ((length (a .rules .now) - length (c .before .before .before .before .before .before .before .walk .result .now)) ∷ []))) (w .figures)
-          ∙ ap (λ (l : List ℕ). sixteen (walkFigures (walkCall (a .table .now) (a .rules .now) (a .pile .now) (a .scratch .now) .answer) ++ ((length (a .rules .now) - length l) ∷ []))) (w .rest);
-      pile = w .pile;
-      scratch = w .scratch;
-    }
+    let at-walk = c .before .before .before .before .before .before .before in
+    let a = at-walk .before .before .before .before .before .before .before .before .args in
+    let o = walkCall (a .table .now) (a .rules .now) (a .pile .now) (a .scratch .now) in
+    let w = at-walk .walk .ensures .0 in
+    let f = c .put-walk .ensures ∙ ap (λ (l : List ℕ). sixteen (l ++ ((length (a .rules .now) - length (at-walk .walk .result .now)) ∷ []))) (w .figures) in (
+      record {
+        figures = f ∙ ap (λ (l : List ℕ). sixteen (walkFigures (o .answer) ++ ((length (a .rules .now) - length l) ∷ []))) (w .rest);
+        pile = w .pile;
+        scratch = w .scratch;
+      },
+      walk-figures (a .table .now) (a .rules .now) _ _ _ (o .answer) (length (a .rules .now) - length (at-walk .walk .result .now)) (w .figures) f (at-walk .walk .ensures .1),
+    )
 
 pub roskavel-walk-spec : {M : Type 1} → statement M
 roskavel-walk-spec =

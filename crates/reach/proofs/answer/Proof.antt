@@ -1,5 +1,6 @@
+-- The answer call: its table is refused, or accepted and answered.
 use mathlib.Core.Path.{_≡_, sym, _∙_}
-use Rattle.reach.proofs.Answering.{answers-refused, answer-demand}
+use Rattle.reach.proofs.Answering.{answers-refused, answer-holds, answer-demand}
 use native.Mathlib.Omega.{arith}
 use lib.ListN.{length, length-set}
 use borrow.Author.Needs.{needs}
@@ -31,7 +32,7 @@ returns : tie.Need-returns
 returns c =
     let a = c .before .before .before .before .before .before .before .args in
     let o = answers-refused (a .table .now) (a .log .now) (a .scratch .now) _ _ (sym (c .before .before .before .read .ensures) ∙ c .before .number .given .1) in
-    (o, answer-demand (a .table .now) (a .log .now) (a .scratch .now) _ _ _ o)
+    (o, (answer-holds (a .table .now) (a .log .now) (a .scratch .now) _ _ _ o, answer-demand (a .table .now) (a .log .now) (a .scratch .now) _ _ _ o))
 
 -- src/lib.rt:105:1
 same-length : tie.Need-same-length
@@ -45,7 +46,8 @@ same-length-2 c = search needs
 returns-2 : tie.Need-returns-2
 returns-2 c =
     let a = c .before .before .before .before .before .before .before .before .before .before .before .before .before .before .args in
-    (c .before .before .before .before .answer-table .ensures, answer-demand (a .table .now) (a .log .now) (a .scratch .now) _ _ _ (c .before .before .before .before .answer-table .ensures))
+    let o = c .before .before .before .before .answer-table .ensures in
+    (o, (answer-holds (a .table .now) (a .log .now) (a .scratch .now) _ _ _ o, answer-demand (a .table .now) (a .log .now) (a .scratch .now) _ _ _ o))
 
 pub answer-spec : {M : Type 1} → statement M
 answer-spec =

@@ -1,5 +1,6 @@
+-- The run call: its table is refused, or accepted and given a run.
 use mathlib.Core.Path.{_≡_, sym, _∙_}
-use Rattle.reach.proofs.Answering.{runs-refused, run-demand}
+use Rattle.reach.proofs.Answering.{runs-refused, run-holds, run-demand}
 use native.Mathlib.Omega.{arith}
 use lib.ListN.{length, length-set}
 use borrow.Author.Needs.{needs}
@@ -31,7 +32,7 @@ returns : tie.Need-returns
 returns c =
     let a = c .before .before .before .before .before .before .before .before .args in
     let o = runs-refused (a .table .now) (a .log .now) (a .scratch .now) _ _ (sym (c .before .before .before .read .ensures) ∙ c .before .number .given .1) (a .page .now) in
-    (o, run-demand (a .table .now) (a .log .now) (a .scratch .now) (a .page .now) _ _ _ _ o)
+    (o, (run-holds (a .table .now) (a .log .now) (a .scratch .now) (a .page .now) _ _ _ _ o, run-demand (a .table .now) (a .log .now) (a .scratch .now) (a .page .now) _ _ _ _ o))
 
 -- src/lib.rt:116:1
 same-length : tie.Need-same-length
@@ -49,7 +50,8 @@ same-length-3 c = search needs
 returns-2 : tie.Need-returns-2
 returns-2 c =
     let a = c .before .before .before .before .before .before .before .before .before .before .before .before .before .before .before .before .before .before .args in
-    (c .before .before .before .before .before .before .run-table .ensures, run-demand (a .table .now) (a .log .now) (a .scratch .now) (a .page .now) _ _ _ _ (c .before .before .before .before .before .before .run-table .ensures))
+    let o = c .before .before .before .before .before .before .run-table .ensures in
+    (o, (run-holds (a .table .now) (a .log .now) (a .scratch .now) (a .page .now) _ _ _ _ o, run-demand (a .table .now) (a .log .now) (a .scratch .now) (a .page .now) _ _ _ _ o))
 
 pub run-spec : {M : Type 1} → statement M
 run-spec =

@@ -1,4 +1,4 @@
-use Rattle.records.specs.Entries.{afterAt}
+use Rattle.model.specs.Records.{afterAt}
 use borrow.Author.Needs.{needs}
 use Rattle.records.proofs.after_at.Statement.{statement}
 use Rattle.records.proofs.after_at.Tie as tie

@@ -1,4 +1,4 @@
-use Rattle.records.specs.Entries.{beforeAt}
+use Rattle.model.specs.Records.{beforeAt}
 use borrow.Author.Needs.{needs}
 use Rattle.records.proofs.before_at.Statement.{statement}
 use Rattle.records.proofs.before_at.Tie as tie

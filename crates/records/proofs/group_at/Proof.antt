@@ -1,5 +1,5 @@
 use mathlib.Core.Path.{refl}
-use Rattle.records.specs.Entries.{groupAt}
+use Rattle.model.specs.Records.{groupAt}
 use borrow.Author.Needs.{needs}
 use Rattle.records.proofs.group_at.Statement.{statement}
 use Rattle.records.proofs.group_at.Tie as tie

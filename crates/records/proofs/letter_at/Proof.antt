@@ -1,5 +1,5 @@
 use mathlib.Core.Path.{refl}
-use Rattle.records.specs.Entries.{letterAt}
+use Rattle.model.specs.Records.{letterAt}
 use borrow.Author.Needs.{needs}
 use Rattle.records.proofs.letter_at.Statement.{statement}
 use Rattle.records.proofs.letter_at.Tie as tie

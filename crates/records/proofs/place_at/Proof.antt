@@ -1,4 +1,4 @@
-use Rattle.records.specs.Entries.{placeAt}
+use Rattle.model.specs.Records.{placeAt}
 use borrow.Author.Needs.{needs}
 use Rattle.records.proofs.place_at.Statement.{statement}
 use Rattle.records.proofs.place_at.Tie as tie

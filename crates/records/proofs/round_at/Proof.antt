@@ -1,4 +1,4 @@
-use Rattle.records.specs.Entries.{roundAt}
+use Rattle.model.specs.Records.{roundAt}
 use borrow.Author.Needs.{needs}
 use Rattle.records.proofs.round_at.Statement.{statement}
 use Rattle.records.proofs.round_at.Tie as tie

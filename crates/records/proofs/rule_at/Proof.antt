@@ -1,4 +1,4 @@
-use Rattle.records.specs.Entries.{ruleAt}
+use Rattle.model.specs.Records.{ruleAt}
 use borrow.Author.Needs.{needs}
 use Rattle.records.proofs.rule_at.Statement.{statement}
 use Rattle.records.proofs.rule_at.Tie as tie

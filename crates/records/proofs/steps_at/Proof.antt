@@ -1,4 +1,4 @@
-use Rattle.records.specs.Entries.{stepsAt}
+use Rattle.model.specs.Records.{stepsAt}
 use borrow.Author.Needs.{needs}
 use Rattle.records.proofs.steps_at.Statement.{statement}
 use Rattle.records.proofs.steps_at.Tie as tie

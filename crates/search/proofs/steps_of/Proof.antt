@@ -2,7 +2,8 @@ use mathlib.Core.Path.{_≡_, refl, ap, sym, subst, _∙_}
 use Prim.Native.Nat.{ℕ, min}
 use borrow.Author.Tests.{eq-eqb, ne-eqb}
 use Rattle.model.specs.Log.{stepsCap}
-use Rattle.records.specs.Entries.{HasRecord, stepsAt}
+use Rattle.model.specs.Records.{stepsAt}
+use Rattle.records.specs.Entries.{HasRecord}
 use Rattle.search.specs.Jobs.{stepsOf}
 use native.Mathlib.Omega.{arith}
 use lib.ListN.{length, length-set}

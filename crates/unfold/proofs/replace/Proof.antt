@@ -3,7 +3,7 @@ use Prim.Native.Nat.{ℕ, _≤_}
 use native.Mathlib.Omega.{arith}
 use lib.ListN.{length, set}
 use borrow.Author.Needs.{needs}
-use Rattle.records.specs.Entries.{ruleAt}
+use Rattle.model.specs.Records.{ruleAt}
 use Rattle.table.specs.Reading.{ruleIn}
 use Rattle.table.proofs.Layouts.{written-few}
 use Rattle.unfold.proofs.replace.Statement.{statement}

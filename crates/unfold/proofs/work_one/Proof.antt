@@ -1,7 +1,8 @@
 use mathlib.Core.Path.{_≡_, refl, sym, ap, subst, _∙_}
 use Prim.Native.Nat.{ℕ}
 use borrow.Author.Needs.{needs}
-use Rattle.records.specs.Entries.{HasRecord, roundAt}
+use Rattle.model.specs.Records.{roundAt}
+use Rattle.records.specs.Entries.{HasRecord}
 use Rattle.unfold.specs.Turns.{topRecord, Replaceable, Replaced}
 use Rattle.unfold.proofs.work_one.Statement.{statement}
 use Rattle.unfold.proofs.work_one.Tie as tie

@@ -1,10 +1,8 @@
+-- The walk call: what it gives, and its steps in the paper's terms.
 use mathlib.Core.Path.{_∙_, ap}
-use Prim.Native.Nat.{_-_}
-use lib.ListN.{take, drop, length}
-use Rattle.model.specs.Calls.{walkCall, walkFigures}
-use Rattle.walk.specs.Walking.{Walks}
+use Rattle.model.specs.Calls.{walkFigures}
 use Rattle.walk.proofs.Ends.{part-rest}
-use Rattle.walk.proofs.Reaching.{reached}
+use Rattle.model.proofs.Main.{demand-2-walk}
 use borrow.Author.Needs.{needs}
 use Rattle.walk.proofs.walk.Statement.{statement}
 use Rattle.walk.proofs.walk.Tie as tie
@@ -35,14 +33,13 @@ same-length-2 c = search needs
 
 returns : tie.Need-returns
 returns c =
-    let a = c .before .before .before .before .before .before .before .before .before .before .before .before .before .before .args in
-    let h = c .before .before .before .before .before .before .before .walk-table .ensures in
-    let w : Walks (walkCall (a .table .now) (a .list .now) (a .pile .now) (a .scratch .now)) (c .before .put-figures .last .0)
-    (take (length (a .list .now) - c .before .before .before .before .before .before .before .walk-table .result .from) (drop (c .before .before .before .before .before .before .before .walk-table .result .from) (a .list .now))) (c .before .before .before .before .before .before .before .walk-table .last .1 .1 .0) (c .before .before .before .before .before .before .before .walk-table .last .1 .1 .1 .0) =
-    record { figures = c .before .put-figures .ensures ∙ ap walkFigures (h .answer); rest = part-rest (a .list .now) (c .before .before .before .before .before .before .before .walk-table .result .from) ∙ h .rest; pile = h .pile; scratch = h .scratch } in (
-      w,
-      reached (a .table .now) (a .list .now) (a .pile .now) (a .scratch .now) (c .before .put-figures .last .0)
-          (take (length (a .list .now) - c .before .before .before .before .before .before .before .walk-table .result .from) (drop (c .before .before .before .before .before .before .before .walk-table .result .from) (a .list .now))) (c .before .before .before .before .before .before .before .walk-table .last .1 .1 .0) (c .before .before .before .before .before .before .before .walk-table .last .1 .1 .1 .0) w,
+    let at-put = c .before in
+    let at-walk = c .before .before .before .before .before .before .before in
+    let a = at-walk .before .before .before .before .before .before .before .args in
+    let h = at-walk .walk-table .ensures in
+    let f = at-put .put-figures .ensures ∙ ap walkFigures (h .answer) in (
+      record { figures = f; rest = part-rest (a .list .now) (at-walk .walk-table .result .from) ∙ h .rest; pile = h .pile; scratch = h .scratch },
+      rw (f, h .pile) (demand-2-walk (a .table .now) (a .list .now) (a .pile .now) (a .scratch .now)),
     )
 
 pub walk-spec : {M : Type 1} → statement M

@@ -5,7 +5,7 @@ use borrow.Author.Needs.{needs}
 use Rattle.model.specs.declared.Group.{Group}
 use Rattle.model.specs.Groups.{processesOf, merge}
 use Rattle.model.specs.Log.{recordAt, stepsCap, limit}
-use Rattle.records.specs.Entries.{afterAt}
+use Rattle.model.specs.Records.{afterAt}
 use Rattle.table.specs.Reading.{systemIn}
 use Rattle.table.proofs.Layouts.{table-modest}
 use Rattle.stack.proofs.Limits.{limit-fits, limit-reads, limit-has}

@@ -1,0 +1,55 @@
+-- The mission's demands, of the definitions that the contracts of the calls are equations with: the top statements alone, in their order.
+use mathlib.Core.Path.{_∙_, _≡_, refl, sym}
+use mathlib.Core.Bool.{false, true, true≢false}
+use mathlib.Core.Logic.{_⊎_, inl, inr}
+use mathlib.Core.List.{List}
+use Prim.Native.Nat.{ℕ}
+use native.Mathlib.Omega.{arith}
+use Rattle.model.specs.Calls.{answerCall, answerRefusal, changesNothing, runCall, runRefusal, walkCall, walkFigures, walkRefusal, zeros}
+use Rattle.model.specs.Demands.{Demand2Walk, Demand3, LogHolds, Tells, Writes}
+use Rattle.model.proofs.Closing.{answer-closes, run-closes, walk-closes}
+use Rattle.model.proofs.Demands.{calls-decide}
+use Rattle.model.proofs.LogDemand.{answer-log, run-log}
+use Rattle.model.proofs.Meanings.{answer-tells, run-writes}
+use Rattle.model.proofs.WalkDemand.{walk-demand}
+
+-- ---- demand 1: what a call gives and leaves is its definition in Calls, whole. Of its buffers: refusals 1 to 9 and 15 change none; later the scratch is
+-- left zero.
+pub demand-1-answer : (table log scratch : List ℕ)
+    → (changesNothing (answerRefusal (answerCall table log scratch .answer)) ≡ true → (answerCall table log scratch .log ≡ log) × (answerCall table log scratch .scratch ≡ scratch))
+    × (changesNothing (answerRefusal (answerCall table log scratch .answer)) ≡ false → answerCall table log scratch .scratch ≡ zeros scratch)
+demand-1-answer = answer-closes
+
+pub demand-1-run : (table log scratch page : List ℕ)
+    → (changesNothing (runRefusal (runCall table log scratch page .answer)) ≡ true
+    → (runCall table log scratch page .log ≡ log) × (runCall table log scratch page .scratch ≡ scratch) × (runCall table log scratch page .page ≡ page))
+    × (changesNothing (runRefusal (runCall table log scratch page .answer)) ≡ false → runCall table log scratch page .scratch ≡ zeros scratch)
+demand-1-run = run-closes
+
+pub demand-1-walk : (table list pile scratch : List ℕ)
+    → (changesNothing (walkRefusal (walkCall table list pile scratch .answer)) ≡ true → (walkCall table list pile scratch .pile ≡ pile) × (walkCall table list pile scratch .scratch ≡ scratch))
+    × (changesNothing (walkRefusal (walkCall table list pile scratch .answer)) ≡ false → walkCall table list pile scratch .scratch ≡ zeros scratch)
+demand-1-walk = walk-closes
+
+-- ---- demand 2: the finished log holds the limit automaton's transitions, each in the round in which the paper first adds it; a walk moves exactly as
+-- the paper's systems step, and watched is acceptance
+pub demand-2-answer : (table log scratch : List ℕ) → LogHolds table (answerRefusal (answerCall table log scratch .answer)) (answerCall table log scratch .log)
+demand-2-answer = answer-log
+
+pub demand-2-run : (table log scratch page : List ℕ) → LogHolds table (runRefusal (runCall table log scratch page .answer)) (runCall table log scratch page .log)
+demand-2-run = run-log
+
+pub demand-2-walk : (table list pile scratch : List ℕ) → Demand2Walk table list (walkFigures (walkCall table list pile scratch .answer)) (walkCall table list pile scratch .pile)
+demand-2-walk = walk-demand
+
+-- ---- demand 3: "unreachable" exactly when no run joins the start and the watched set, and else a run that does
+pub demand-3 : (table log scratch page : List ℕ)
+    → Demand3 table log scratch page (answerCall table log scratch .answer) (runCall table log scratch page .answer) (runCall table log scratch page .page)
+demand-3 = calls-decide
+
+-- the word alone, with no premise
+pub demand-3-answer : (table log scratch : List ℕ) → Tells table (answerCall table log scratch .answer)
+demand-3-answer = answer-tells
+
+pub demand-3-run : (table log scratch page : List ℕ) → Writes table (runCall table log scratch page .page) (runCall table log scratch page .answer)
+demand-3-run = run-writes
