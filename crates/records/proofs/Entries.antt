@@ -11,7 +11,7 @@ use Rattle.model.specs.Tables.{writtenPlaces}
 use Rattle.model.specs.Log.{Record, recordAt, noRecord}
 use Rattle.model.specs.Records.{recordLength, littleEndian, pathBytes, recordBytes, logBytes}
 use Rattle.records.specs.declared.Entry.{Entry}
-use Rattle.records.specs.Entries.{pathPlace, recordEntry, entryBytes, HasRecord, withEntry, numberAt, groupAt, letterAt, beforeAt, afterAt, roundAt, ruleAt, placeAt, stepsAt, entryAt, Fits, Reads}
+use Rattle.records.specs.Entries.{pathPlace, recordEntry, entryBytes, HasRecord, withEntry, numberAt, groupAt, letterAt, beforeAt, afterAt, roundAt, ruleAt, placeAt, stepsAt, Fits, Reads}
 use Rattle.records.proofs.Parts.{part-back, part-rest}
 
 -- ---- the bytes of an entry are those of its record
@@ -197,21 +197,6 @@ module _ (log : List ℕ) (n : ℕ) (r : Record) (rest : List ℕ) (e : drop (n 
   unfolding stepsAt
   from-steps = from-number 3 (13 + 2 * writtenPlaces) ∙ front-steps r rest f
 
-  from-entry : entryAt log n ≡ recordEntry r
-  unfolding entryAt recordEntry
-  from-entry = λ i. record {
-    letter = from-letter i;
-    before = from-before i;
-    after = from-after i;
-    round = from-round i;
-    rule = from-rule i;
-    p0 = from-place 0 (omega arith) i;
-    p1 = from-place 1 (omega arith) i;
-    p2 = from-place 2 (omega arith) i;
-    p3 = from-place 3 (omega arith) i;
-    steps = from-steps i;
-  }
-
   from-all : Reads log n r
   from-all = record {
     letter = from-letter;
@@ -221,7 +206,6 @@ module _ (log : List ℕ) (n : ℕ) (r : Record) (rest : List ℕ) (e : drop (n 
     rule = from-rule;
     place = from-place;
     steps = from-steps;
-    entry = from-entry;
   }
 
 -- a log that begins with the bytes of records whose numbers fit is read record by record

@@ -77,20 +77,6 @@ placeAt log n j = numberAt 2 log (n * recordLength + (13 + 2 * j))
 unfoldable pub stepsAt : List ℕ → ℕ → ℕ
 stepsAt log n = numberAt 3 log (n * recordLength + (13 + 2 * writtenPlaces))
 
-unfoldable pub entryAt : List ℕ → ℕ → Entry
-entryAt log n = record {
-  letter = letterAt log n;
-  before = beforeAt log n;
-  after = afterAt log n;
-  round = roundAt log n;
-  rule = ruleAt log n;
-  p0 = placeAt log n 0;
-  p1 = placeAt log n 1;
-  p2 = placeAt log n 2;
-  p3 = placeAt log n 3;
-  steps = stepsAt log n;
-}
-
 -- ---- the numbers of a record fit the bytes that they are written in
 pub record Fits (r : Record) : Type 0 where
   pub letter : r .key .letter < 256
@@ -111,4 +97,3 @@ pub record Reads (log : List ℕ) (n : ℕ) (r : Record) : Type 0 where
   pub rule : ruleAt log n ≡ r .rule
   pub place : (j : ℕ) → j < writtenPlaces → placeAt log n j ≡ pathPlace (r .path) j
   pub steps : stepsAt log n ≡ r .steps
-  pub entry : entryAt log n ≡ recordEntry r

@@ -7,7 +7,7 @@ ghost use lib.ListN.{length, drop};
 ghost use Rattle.model.specs.Tables.{writtenPlaces};
 ghost use Rattle.model.specs.Records.{recordLength, littleEndian, groupBytes};
 ghost use Rattle.records.specs.Entries.{entryBytes, HasRecord, withEntry, numberAt, groupAt};
-ghost use Rattle.records.specs.Entries.{letterAt, beforeAt, afterAt, roundAt, ruleAt, placeAt, stepsAt, entryAt};
+ghost use Rattle.records.specs.Entries.{letterAt, beforeAt, afterAt, roundAt, ruleAt, placeAt, stepsAt};
 
 const WRITTEN_PLACES: usize = 4;
 
@@ -173,22 +173,4 @@ pub fn steps_at(log: &[u8], n: usize) -> u32
     ensures { λ r. ⌜ r ≡ stepsAt (now (log .entry)) n ⌝ }
 {
     three_at(log, n * RECORD_LENGTH + STEPS_OFFSET)
-}
-
-pub fn read_entry(log: &[u8], n: usize) -> Entry
-    requires { ⌜ HasRecord (now log) n ⌝ }
-    ensures { λ r. ⌜ r ≡ entryAt (now (log .entry)) n ⌝ }
-{
-    Entry {
-        letter: letter_at(log, n),
-        before: before_at(log, n),
-        after: after_at(log, n),
-        round: round_at(log, n),
-        rule: rule_at(log, n),
-        p0: place_at(log, n, 0),
-        p1: place_at(log, n, 1),
-        p2: place_at(log, n, 2),
-        p3: place_at(log, n, 3),
-        steps: steps_at(log, n),
-    }
 }

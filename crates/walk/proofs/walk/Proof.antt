@@ -3,7 +3,7 @@ use Prim.Native.Nat.{_-_}
 use lib.ListN.{take, drop, length}
 use Rattle.model.specs.Calls.{walkCall, walkFigures}
 use Rattle.walk.specs.Walking.{Walks}
-use Rattle.walk.proofs.Ends.{part-rest}
+use Rattle.walk.proofs.Ends.{part-to-end}
 use Rattle.walk.proofs.Reaching.{reached}
 use borrow.Author.Needs.{needs}
 use Rattle.walk.proofs.walk.Statement.{statement}
@@ -39,7 +39,7 @@ returns c =
     let h = c .before .before .before .before .before .before .before .walk-table .ensures in
     let w : Walks (walkCall (a .table .now) (a .list .now) (a .pile .now) (a .scratch .now)) (c .before .put-figures .last .0)
     (take (length (a .list .now) - c .before .before .before .before .before .before .before .walk-table .result .from) (drop (c .before .before .before .before .before .before .before .walk-table .result .from) (a .list .now))) (c .before .before .before .before .before .before .before .walk-table .last .1 .1 .0) (c .before .before .before .before .before .before .before .walk-table .last .1 .1 .1 .0) =
-    record { figures = c .before .put-figures .ensures ∙ ap walkFigures (h .answer); rest = part-rest (a .list .now) (c .before .before .before .before .before .before .before .walk-table .result .from) ∙ h .rest; pile = h .pile; scratch = h .scratch } in (
+    record { figures = c .before .put-figures .ensures ∙ ap walkFigures (h .answer); rest = part-to-end (a .list .now) (c .before .before .before .before .before .before .before .walk-table .result .from) ∙ h .rest; pile = h .pile; scratch = h .scratch } in (
       w,
       reached (a .table .now) (a .list .now) (a .pile .now) (a .scratch .now) (c .before .put-figures .last .0)
           (take (length (a .list .now) - c .before .before .before .before .before .before .before .walk-table .result .from) (drop (c .before .before .before .before .before .before .before .walk-table .result .from) (a .list .now))) (c .before .before .before .before .before .before .before .walk-table .last .1 .1 .0) (c .before .before .before .before .before .before .before .walk-table .last .1 .1 .1 .0) w,
