@@ -1,9 +1,9 @@
 -- Laws of sets of state numbers.
-use mathlib.Core.Path.{_≡_, refl, ap, sym, subst, _∙_}
-use mathlib.Core.Bool.{Bool, true, false, _&&_, _||_, true≢false}
-use mathlib.Core.List.{List, [], _∷_, _++_, append-nil}
+use mathlib.Core.Path.{_≡_, refl, ap, ap₂, sym, subst, _∙_}
+use mathlib.Core.Bool.{Bool, true, false, _||_, true≢false}
+use mathlib.Core.List.{List, _++_, append-nil}
 use Prim.Native.Nat.{ℕ, zero, suc, _+_, _-_, _*_, _/_, _%_, _^_, _<_, _≤_, max}
-use native.Mathlib.Nat.{div-self, div-eq-of-lt, mod-eq-of-lt, one-mul, mul-mod-left, pow-suc, max-le, max-eq-right, max-zero, zero-div, div-one, div-div-eq-div-mul, mul-comm}
+use native.Mathlib.Nat.{div-self, div-eq-of-lt, mod-eq-of-lt, one-mul, mul-mod-left, pow-suc, max-le, max-eq-right, max-zero, zero-div}
 use native.Mathlib.Decide.{ℕ-discrete, decLt}
 use native.Mathlib.Numerals.{add-one}
 use native.Mathlib.Omega.{arith}
@@ -11,11 +11,11 @@ use lib.Dec.{eqb}
 use lib.Bits.{bitOr, or-shr, or-step}
 use lib.Pow.{pow-pos, pow-lt, pow-add, shl-shr}
 use lib.ListN.{length, getD, set, length-set, drop, drop-of-length-le, replicate}
-use lib.Seq.{getD-set-same, getD-set-other, drop-cons}
-use borrow.Author.Tests.{eq-eqb, eqb-true, eqb-false}
-use Rattle.model.proofs.Tests.{by-test, and-left, and-right, and-both}
+use lib.Seq.{getD-set-same, getD-set-other}
+use borrow.Author.Tests.{eqb-true, eqb-false}
+use Rattle.model.proofs.Tests.{by-test}
 use Rattle.automaton.specs.StateNumbers.{stateCount}
-use Rattle.automaton.specs.StateSets.{NoneFrom, ZeroFrom, block, member, inserted, noMember, firstFrom, nextMember}
+use Rattle.automaton.specs.StateSets.{NoneFrom, setBlock, member, inserted, oneIfEqual, countEqual, firstFrom, nextMember}
 
 -- ---- a number put in
 -- a one shifted within a byte
@@ -87,71 +87,14 @@ pub member-byte : (l : List ℕ) (n : ℕ) → getD l (n / 8) 0 ≡ 0 → member
 unfolding member
 member-byte l n e = ap (λ (x : ℕ). eqb (x / 2 ^ (n % 8) % 2) 1) e ∙ ap (λ (x : ℕ). eqb (x % 2) 1) (zero-div (2 ^ (n % 8)))
 
-noMember-byte : (l : List ℕ) (i : ℕ) → noMember l ≡ true → getD l i 0 ≡ 0
-unfolding noMember
-noMember-byte [] i e = refl
-noMember-byte (x ∷ l) zero e = eqb-true x 0 (and-left (eqb x 0) (noMember l) e)
-noMember-byte (x ∷ l) (suc i) e = noMember-byte l i (and-right (eqb x 0) (noMember l) e)
-
--- no number is in a set that is said to have none
-pub noMember-none : (l : List ℕ) (n : ℕ) → noMember l ≡ true → member l n ≡ false
-noMember-none l n e = member-byte l n (noMember-byte l (n / 8) e)
-
--- a byte without a bit is zero
-no-bit : (k x : ℕ) → x < 2 ^ k → ((j : ℕ) → j < k → x / 2 ^ j % 2 ≡ 0) → x ≡ 0
-no-bit zero x h f = omega arith
-no-bit (suc k) x h f =
-    let low : x % 2 ≡ 0 = subst (λ (y : ℕ). y % 2 ≡ 0) (div-one x) (f 0 (omega arith)) in
-    let less : x / 2 < 2 ^ k = omega (arith, pow-suc 2 k) in
-    let high : x / 2 ≡ 0 = no-bit k (x / 2) less half in
-    omega arith
-  where
-    half : (j : ℕ) → j < k → x / 2 / 2 ^ j % 2 ≡ 0
-    half j q =
-        let e : 2 * 2 ^ j ≡ 2 ^ suc j = mul-comm 2 (2 ^ j) ∙ sym (pow-suc 2 j) in
-        ap (λ (y : ℕ). y % 2) (div-div-eq-div-mul x 2 (2 ^ j)) ∙ ap (λ (y : ℕ). x / y % 2) e ∙ f (suc j) (omega arith)
-
-member-first : (x : ℕ) (l : List ℕ) (j : ℕ) → j < 8 → member (x ∷ l) j ≡ false → x / 2 ^ j % 2 ≡ 0
-unfolding member
-member-first x l j h f =
-    let a : j / 8 ≡ 0 = omega arith in
-    let b : j % 8 ≡ j = omega arith in
-    let ne : x / 2 ^ j % 2 ≡ 1 → ⊥ = eqb-false (x / 2 ^ j % 2) 1 (rw (a, b) at f) in
-    omega arith
-
-member-rest : (x : ℕ) (l : List ℕ) (n : ℕ) → member (x ∷ l) (8 + n) ≡ member l n
-unfolding member
-member-rest x l n =
-    let a : (8 + n) / 8 ≡ suc (n / 8) = omega arith in
-    let b : (8 + n) % 8 ≡ n % 8 = omega arith in
-    rw (a, b)
-
--- a set of bytes that has no number is said to have none
-pub noMember-of : (l : List ℕ) → ((i : ℕ) → getD l i 0 < 256) → ((n : ℕ) → n < 8 * length l → member l n ≡ false) → noMember l ≡ true
-unfolding noMember
-noMember-of [] b f = refl
-noMember-of (x ∷ l) b f =
-    and-both (eqb x 0) (noMember l)
-    (eq-eqb x 0 (no-bit 8 x (b 0) (λ j h. member-first x l j h (f j (omega arith)))))
-    (noMember-of l (λ i. b (suc i)) (λ n h. sym (member-rest x l n) ∙ f (8 + n) (omega arith)))
-
-pub noMember-zeros : (k : ℕ) → noMember (replicate k 0) ≡ true
-unfolding noMember
-noMember-zeros zero = refl
-noMember-zeros (suc k) = noMember-zeros k
+zero-byte : (k i : ℕ) → _≡_ {A = ℕ} (getD (replicate k 0) i 0) 0
+zero-byte zero i = refl
+zero-byte (suc k) zero = refl
+zero-byte (suc k) (suc i) = zero-byte k i
 
 -- nothing is in a zero set
 pub member-zeros : (k n : ℕ) → member (replicate k 0) n ≡ false
-member-zeros k n = noMember-none (replicate k 0) n (noMember-zeros k)
-
--- the test of a list from i on: its element there, and the rest
-pub noMember-at : (l : List ℕ) (i : ℕ) → i < length l → noMember (drop i l) ≡ eqb (getD l i 0) 0 && noMember (drop (i + 1) l)
-unfolding noMember
-noMember-at l i h = rw (add-one, drop-cons l i 0)
-
-pub noMember-end : (l : List ℕ) (i : ℕ) → length l ≤ i → noMember (drop i l) ≡ true
-unfolding noMember
-noMember-end l i h = ap noMember (drop-of-length-le l h)
+member-zeros k n = member-byte (replicate k 0) n (zero-byte k (n / 8))
 
 -- a list that is filled to its end
 pub fill-end : (d : List ℕ) (v i : ℕ) → i ≤ length d → length d ≤ i → replicate i v ++ drop i d ≡ replicate (length d) v
@@ -229,31 +172,53 @@ fails-byte l n e j h q =
     let same : j / 8 ≡ n / 8 = omega arith in
     member-byte l j (ap (λ (i : ℕ). getD l i 0) same ∙ e)
 
--- ---- a block of zero bytes
--- the bytes of a block up to i are looked at; m of them are not zero
-pub record Looking (l : List ℕ) (at m i : ℕ) : Type 0 where
-  pub within : i ≤ block
+-- ---- bytes that are counted
+-- n bytes are counted
+pub record Counting (l : List ℕ) (at n x m i : ℕ) : Type 0 where
+  pub within : i ≤ n
   pub few : m ≤ i
-  pub zero-so-far : m ≡ 0 → ZeroFrom l at (at + i)
+  pub count : m ≡ countEqual l at i x
 
-pub looking-start : (l : List ℕ) (at : ℕ) → Looking l at 0 0
-looking-start l at = record { within = omega arith; few = omega arith; zero-so-far = λ z i h q. absurd (omega arith) }
+pub counting-start : (l : List ℕ) (at n x : ℕ) → Counting l at n x 0 0
+unfolding countEqual
+counting-start l at n x = record { within = omega arith; few = omega arith; count = refl }
 
-pub looking-turn : (l : List ℕ) (at m i one : ℕ) → i < block → one ≤ 1 → (one ≡ 0 → getD l (at + i) 0 ≡ 0) → Looking l at m i → Looking l at (m + one) (i + 1)
-looking-turn l at m i one h o z w = record {
+pub counting-turn : (l : List ℕ) (at n x m i one : ℕ) → i < n → one ≡ oneIfEqual (getD l (at + i) 0) x → one ≤ 1 → Counting l at n x m i → Counting l at n x (m + one) (i + 1)
+unfolding countEqual
+counting-turn l at n x m i one h e o w = record {
   within = omega arith;
   few = omega (arith, w .few);
-  zero-so-far = λ e j a b. by-test (eqb j (at + i))
-      (λ t. let same : j ≡ at + i = eqb-true j (at + i) t in ap (λ (k : ℕ). getD l k 0) same ∙ z (omega arith))
-      (λ f. let ne : j ≡ at + i → ⊥ = eqb-false j (at + i) f in w .zero-so-far (omega arith) j a (omega arith));
+  count = ap₂ (λ (a b : ℕ). a + b) (w .count) e ∙ ap (λ (k : ℕ). countEqual l at k x) (sym (add-one i));
 }
 
-pub looking-end : (l : List ℕ) (at m i : ℕ) → block ≤ i → Looking l at m i → m ≡ 0 → ZeroFrom l at (at + block)
-looking-end l at m i h w z j a b = w .zero-so-far z j a (omega (arith, w .within))
+pub counting-end : (l : List ℕ) (at n x m i : ℕ) → n ≤ i → Counting l at n x m i → m ≡ countEqual l at n x
+counting-end l at n x m i h w =
+    let e : i ≡ n = omega (arith, w .within) in
+    w .count ∙ ap (λ (k : ℕ). countEqual l at k x) e
 
+one-at-most : (x y : ℕ) → oneIfEqual x y ≤ 1
+one-at-most x y = by-test (eqb x y) (λ t. rw t (omega arith)) (λ f. rw f (omega arith))
+
+pub count-most : (l : List ℕ) (at n x : ℕ) → countEqual l at n x ≤ n
+unfolding countEqual
+count-most l at zero x = omega arith
+count-most l at (suc n) x = omega (arith, count-most l at n x, one-at-most (getD l (at + n) 0) x)
+
+-- where all are counted each byte is x
+pub count-all : (l : List ℕ) (at n x : ℕ) → countEqual l at n x ≡ n → (i : ℕ) → at ≤ i → i < at + n → getD l i 0 ≡ x
+unfolding countEqual
+count-all l at zero x e i h q = absurd (omega arith)
+count-all l at (suc n) x e i h q = by-test (eqb (getD l (at + n) 0) x)
+    (λ t. let before : countEqual l at n x ≡ n = (let one : oneIfEqual (getD l (at + n) 0) x ≡ 1 = rw t in omega arith) in
+    by-test (eqb i (at + n))
+    (λ y. ap (λ (j : ℕ). getD l j 0) (eqb-true i (at + n) y) ∙ eqb-true (getD l (at + n) 0) x t)
+    (λ d. let ne : i ≡ at + n → ⊥ = eqb-false i (at + n) d in count-all l at n x before i h (omega arith)))
+    (λ f. let none : oneIfEqual (getD l (at + n) 0) x ≡ 0 = rw f in absurd (omega (arith, count-most l at n x)))
+
+-- ---- a block of zero bytes
 pub none-here : (l : List ℕ) (n : ℕ) → n < stateCount → NoneFrom l n n
 none-here l n h = record { later = omega arith; within = omega arith; none = fails-none (member l) n }
 
 -- no number of it is in
-pub zero-block : (l : List ℕ) (n m : ℕ) → n < stateCount → n % (8 * block) ≡ 0 → (m ≡ 0 → ZeroFrom l (n / 8) (n / 8 + block)) → m ≡ 0 → NoneFrom l n (n + 8 * block)
-zero-block l n m h d f z = record { later = omega arith; within = omega arith; none = λ j a b. member-byte l j (f z (j / 8) (omega arith) (omega arith)) }
+pub zero-block : (l : List ℕ) (n m : ℕ) → n < stateCount → n % (8 * setBlock) ≡ 0 → m ≡ countEqual l (n / 8) setBlock 0 → m ≡ setBlock → NoneFrom l n (n + 8 * setBlock)
+zero-block l n m h d e f = record { later = omega arith; within = omega arith; none = λ j a b. member-byte l j (count-all l (n / 8) setBlock 0 (sym e ∙ f) (j / 8) (omega arith) (omega arith)) }

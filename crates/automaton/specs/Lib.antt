@@ -1,2 +1,3 @@
+pub mod ProcessBits
 pub mod StateNumbers
 pub mod StateSets

@@ -2,11 +2,10 @@
 use mathlib.Core.Path.{_≡_}
 use mathlib.Core.Bool.{Bool, false, cond}
 use mathlib.Core.List.{List}
-use Prim.Native.Nat.{ℕ, zero, suc, _-_, _/_, _%_, _^_, _<_, _≤_}
+use Prim.Native.Nat.{ℕ, zero, suc, _+_, _-_, _/_, _%_, _^_, _<_, _≤_}
 use lib.Bits.{bitOr}
 use lib.Dec.{eqb}
 use lib.ListN.{getD, set}
-use Rattle.model.specs.Lists.{allOf}
 use Rattle.automaton.specs.StateNumbers.{stateCount}
 
 -- how many bytes a set of all state numbers takes
@@ -20,17 +19,17 @@ member l n = eqb (getD l (n / 8) 0 / 2 ^ (n % 8) % 2) 1
 unfoldable pub inserted : List ℕ → ℕ → List ℕ
 inserted l n = set l (n / 8) (bitOr (getD l (n / 8) 0) (2 ^ (n % 8)))
 
--- the set has no number
-unfoldable pub noMember : List ℕ → Bool
-noMember l = allOf (λ x. eqb x 0) l
-
 -- the bytes that are looked at at a time
-abbrev pub block : ℕ
-block = 64
+abbrev pub setBlock : ℕ
+setBlock = 64
 
--- the bytes from one place on, below another, are zero
-abbrev pub ZeroFrom : List ℕ → ℕ → ℕ → Type 0
-ZeroFrom l at end = (i : ℕ) → at ≤ i → i < end → getD l i 0 ≡ 0
+abbrev pub oneIfEqual : ℕ → ℕ → ℕ
+oneIfEqual x y = cond (eqb x y) 1 0
+
+-- how many of the n bytes from `at` on are x
+unfoldable pub countEqual : List ℕ → ℕ → ℕ → ℕ → ℕ
+countEqual l at zero x = 0
+countEqual l at (suc n) x = countEqual l at n x + oneIfEqual (getD l (at + n) 0) x
 
 -- r is n or later, with no member between
 pub record NoneFrom (l : List ℕ) (n r : ℕ) : Type 0 where

@@ -4,7 +4,7 @@ ghost use Prim.Native.Nat.{_+_, _*_, _-_, _%_, _<_, _≤_};
 ghost use lib.ListN.{length};
 ghost use Rattle.model.specs.Calls.{zeros};
 ghost use Rattle.automaton.specs.StateNumbers.{stateCount};
-ghost use Rattle.automaton.specs.StateSets.{setLength, block, member, inserted, noMember, firstFrom, nextMember, ZeroFrom, NoneFrom};
+ghost use Rattle.automaton.specs.StateSets.{setLength, member, inserted, oneIfEqual, countEqual, firstFrom, nextMember, NoneFrom};
 
 // The bytes of a set that are looked at at a time.
 const BLOCK: usize = 64;
@@ -35,19 +35,6 @@ pub fn clear(buffer: &mut [u8])
         buffer[i] = 0;
         i += 1;
     }
-}
-
-pub fn is_empty(members: &[u8]) -> bool
-    ensures { λ r. ⌜ r ≡ noMember (now (members .entry)) ⌝ }
-{
-    let mut i = 0;
-    while i < members.len() {
-        if members[i] != 0 {
-            return false;
-        }
-        i += 1;
-    }
-    true
 }
 
 // The first number after those of n's byte.
@@ -85,24 +72,24 @@ fn next_in_byte(members: &[u8], n: usize) -> usize
     next_bit(members, n)
 }
 
-fn one_if_not_zero(x: u8) -> u8
-    ensures { λ r. ⌜ (r ≤ 1) × (r ≡ 0 → x ≡ 0) ⌝ }
+fn one_if_equal(x: u8, y: u8) -> u8
+    ensures { λ r. ⌜ (r ≡ oneIfEqual x y) × (r ≤ 1) ⌝ }
 {
-    if x == 0 {
-        return 0;
+    if x == y {
+        return 1;
     }
-    1
+    0
 }
 
-// How many bytes of one block, from `at` on, are not zero. A count of one byte lets the machine look at many bytes at a time.
-fn busy_bytes(members: &[u8], at: usize) -> u8
-    requires { ⌜ at + block ≤ length (now members) ⌝ }
-    ensures { λ r. ⌜ (r ≡ 0 → ZeroFrom (now (members .entry)) at (at + block)) ⌝ }
+// How many of n bytes, from `at` on, are x. A count of one byte lets the machine look at many bytes at a time.
+pub fn count_equal(bytes: &[u8], at: usize, n: usize, x: u8) -> u8
+    requires { ⌜ (at + n ≤ length (now bytes)) × (n ≤ 255) ⌝ }
+    ensures { λ r. ⌜ r ≡ countEqual (now (bytes .entry)) at n x ⌝ }
 {
     let mut m = 0;
     let mut i = 0;
-    while i < BLOCK {
-        m += one_if_not_zero(members[at + i]);
+    while i < n {
+        m += one_if_equal(bytes[at + i], x);
         i += 1;
     }
     m
@@ -114,7 +101,7 @@ fn past_block(members: &[u8], n: usize) -> usize
     ensures { λ r. ⌜ NoneFrom (now (members .entry)) n r ⌝ }
 {
     if n % NUMBERS == 0 {
-        if busy_bytes(members, n / 8) == 0 {
+        if count_equal(members, n / 8, BLOCK, 0) as usize == BLOCK {
             return n + NUMBERS;
         }
         return n;

@@ -16,8 +16,8 @@ use Rattle.model.specs.Groups.{sameGroup}
 use Rattle.model.specs.Log.{Record, noRecord}
 use Rattle.model.proofs.Tests.{by-test}
 use Rattle.automaton.specs.StateNumbers.{stateCount, stateNumber}
-use Rattle.automaton.specs.StateSets.{firstFrom}
-use Rattle.automaton.proofs.StateSets.{first-at}
+use Rattle.automaton.specs.StateSets.{countEqual, firstFrom}
+use Rattle.automaton.proofs.StateSets.{count-most, first-at}
 use Rattle.automaton.proofs.StateNumbers.{stateNumber-below}
 use Rattle.model.specs.Records.{afterAt, beforeAt, letterAt}
 use Rattle.records.specs.Entries.{HasRecord}
@@ -149,28 +149,13 @@ rank-next : (s : List ℕ) (x : ℕ) → x < stateCount → rank (marksOf s) (x 
 unfolding oneIfNew
 rank-next s x h = ap (rank (marksOf s)) (add-one x) ∙ rank-suc (marksOf s) x ∙ ap (λ (k : ℕ). rank (marksOf s) x + cond (eqb k 2) 1 0) (getD-take stateCount s x 0 h)
 
--- i ends of a block are counted
-pub record Counting (s : List ℕ) (at m i : ℕ) : Type 0 where
-  pub within : i ≤ block
-  pub few : m ≤ i
-  pub count : rank (marksOf s) at + m ≡ rank (marksOf s) (at + i)
-
-pub counting-start : (s : List ℕ) (at : ℕ) → Counting s at 0 0
-counting-start s at = record { within = omega arith; few = omega arith; count = omega (arith, ap (rank (marksOf s)) (add-zero at)) }
-
-pub counting-turn : (s : List ℕ) (at m i one : ℕ) → at + block ≤ stateCount → i < block → one ≡ oneIfNew (getD s (at + i) 0) → one ≤ 1 → Counting s at m i → Counting s at (m + one) (i + 1)
-counting-turn s at m i one l h e o w =
-    let next : at + i + 1 ≡ at + (i + 1) = omega arith in
-    record {
-      within = omega arith;
-      few = omega (arith, w .few);
-      count = omega (arith, w .count, rank-next s (at + i) (omega arith), ap (rank (marksOf s)) next);
-    }
-
-pub counting-end : (s : List ℕ) (at m i : ℕ) → block ≤ i → Counting s at m i → (rank (marksOf s) at + m ≡ rank (marksOf s) (at + block)) × (m ≤ block)
-counting-end s at m i h w =
-    let e : i ≡ block = omega (arith, w .within) in
-    (w .count ∙ ap (λ (k : ℕ). rank (marksOf s) (at + k)) e, omega (arith, w .few, e))
+-- the ends from `at` on that are counted
+pub rank-count : (s : List ℕ) (at n : ℕ) → at + n ≤ stateCount → rank (marksOf s) at + countEqual s at n 2 ≡ rank (marksOf s) (at + n)
+unfolding countEqual oneIfNew
+rank-count s at zero h = omega (arith, ap (rank (marksOf s)) (add-zero at))
+rank-count s at (suc n) h =
+    let next : at + n + 1 ≡ at + suc n = omega arith in
+    omega (arith, rank-count s at n (omega arith), rank-next s (at + n) (omega arith), ap (rank (marksOf s)) next)
 
 -- b blocks are counted
 pub record Blocks (s : List ℕ) (m b : ℕ) : Type 0 where
@@ -181,13 +166,13 @@ pub record Blocks (s : List ℕ) (m b : ℕ) : Type 0 where
 pub blocks-start : (s : List ℕ) → Blocks s 0 0
 blocks-start s = record { within = omega arith; few = omega arith; count = refl }
 
-pub blocks-turn : (s : List ℕ) (m b more : ℕ) → b < 32 → (rank (marksOf s) (block * b) + more ≡ rank (marksOf s) (block * b + block)) × (more ≤ block) → Blocks s m b → Blocks s (m + more) (b + 1)
+pub blocks-turn : (s : List ℕ) (m b more : ℕ) → b < 32 → more ≡ countEqual s (block * b) block 2 → Blocks s m b → Blocks s (m + more) (b + 1)
 blocks-turn s m b more h e w =
     let next : block * b + block ≡ block * (b + 1) = omega arith in
     record {
       within = omega arith;
-      few = omega (arith, w .few, e .1);
-      count = omega (arith, w .count, e .0, ap (rank (marksOf s)) next);
+      few = omega (arith, w .few, e, count-most s (block * b) block 2);
+      count = omega (arith, w .count, e, rank-count s (block * b) block (omega arith), ap (rank (marksOf s)) next);
     }
 
 pub blocks-end : (s : List ℕ) (m b : ℕ) → 32 ≤ b → Blocks s m b → m ≡ rank (marksOf s) stateCount
@@ -199,13 +184,13 @@ blocks-end s m b h w =
 new-at : (s : List ℕ) (y : ℕ) → y < stateCount → getD s y 0 ≡ 2 → isNew (marksOf s) y ≡ true
 new-at s y h e = eq-eqb (getD (marksOf s) y 0) 2 (getD-take stateCount s y 0 h ∙ e)
 
-pub none-in-block : (s : List ℕ) (x m : ℕ) → x + block ≤ stateCount → rank (marksOf s) x + m ≡ rank (marksOf s) (x + block) → m ≡ 0 → NoneNew s x (x + block)
+pub none-in-block : (s : List ℕ) (x m : ℕ) → x + block ≤ stateCount → m ≡ countEqual s x block 2 → m ≡ 0 → NoneNew s x (x + block)
 none-in-block s x m h e z = record {
   later = omega arith;
   within = h;
   none = λ y l k n.
       let up : y - x + x ≡ y = omega arith in
-      omega (arith, rank-less (marksOf s) y (x + block) (new-at s y (omega arith) n) k, rank-more (marksOf s) x (y - x), ap (rank (marksOf s)) up);
+      omega (arith, rank-count s x block h, rank-less (marksOf s) y (x + block) (new-at s y (omega arith) n) k, rank-more (marksOf s) x (y - x), ap (rank (marksOf s)) up);
 }
 
 -- ---- the places of the new ends

@@ -1,4 +1,5 @@
 // The ends of a group of rules: which the log has, which are new, and the places of the new ones' records.
+use automaton::sets;
 use automaton::states;
 use chains::first_match;
 use chains::next_match;
@@ -12,7 +13,7 @@ ghost use lib.ListN.{length, getD};
 ghost use Rattle.chains.specs.Buckets.{ChainRoom, Chained};
 ghost use Rattle.search.specs.Jobs.{chainsAt, marksOf, placesAt};
 ghost use Rattle.automaton.specs.StateNumbers.{stateCount};
-ghost use Rattle.ends.specs.Ends.{block, newBelow, oneIfNew, withOwnPlace, HeldMarked, NoneNew, Placed};
+ghost use Rattle.ends.specs.Ends.{newBelow, oneIfNew, withOwnPlace, HeldMarked, NoneNew, Placed};
 
 // The 4096 ends are looked through in blocks.
 const BLOCK: usize = 128;
@@ -33,29 +34,6 @@ pub fn mark_held(log: &[u8], scratch: &mut [u8], n: usize, base: usize, letter: 
     }
 }
 
-fn one_if_new(mark: u8) -> u8
-    ensures { λ r. ⌜ (r ≡ oneIfNew mark) × (r ≤ 1) ⌝ }
-{
-    if mark == 2 {
-        return 1;
-    }
-    0
-}
-
-// How many of the ends of one block, from `at` on, are new. A count of one byte lets the machine count many ends at a time.
-fn count_block(scratch: &[u8], at: usize) -> usize
-    requires { ⌜ (at + block ≤ stateCount) × (stateCount ≤ length (now scratch)) ⌝ }
-    ensures { λ r. ⌜ (length (newBelow (marksOf (now (scratch .entry))) at) + r ≡ length (newBelow (marksOf (now (scratch .entry))) (at + block))) × (r ≤ block) ⌝ }
-{
-    let mut m = 0;
-    let mut i = 0;
-    while i < BLOCK {
-        m += one_if_new(scratch[at + i]);
-        i += 1;
-    }
-    m as usize
-}
-
 // How many ends are new.
 pub fn count_new(scratch: &[u8]) -> usize
     requires { ⌜ stateCount ≤ length (now scratch) ⌝ }
@@ -64,7 +42,7 @@ pub fn count_new(scratch: &[u8]) -> usize
     let mut m = 0;
     let mut b = 0;
     while b < BLOCKS {
-        m += count_block(scratch, BLOCK * b);
+        m += sets::count_equal(scratch, BLOCK * b, BLOCK, 2) as usize;
         b += 1;
     }
     m
@@ -76,7 +54,7 @@ fn past_block(scratch: &[u8], x: usize) -> usize
     ensures { λ r. ⌜ NoneNew (now (scratch .entry)) x r ⌝ }
 {
     if x % BLOCK == 0 {
-        if count_block(scratch, x) == 0 {
+        if sets::count_equal(scratch, x, BLOCK, 2) == 0 {
             return x + BLOCK;
         }
         return x;

@@ -58,10 +58,10 @@ text-of input log scratch page b =
     (b .page-length ∙ zeros-length 10000)
 
 -- ---- a reachable answer with the run behind it, or another answer alone, is the whole text
-pub text-reachable : (input log scratch page log′ scratch′ : List ℕ) (a : Answered) → Lent log scratch page → Lent log′ scratch′ page → a ≡ answerCall input log scratch .answer → isReachable a ≡ true
+pub text-with-run : (input log scratch page log′ scratch′ : List ℕ) (a : Answered) → Lent log scratch page → Lent log′ scratch′ page → a ≡ answerCall input log scratch .answer → isReachable a ≡ true
     → answerLines a ++ ranLines input log′ scratch′ page ≡ lineText input
 unfolding textWith listing
-text-reachable input log scratch page log′ scratch′ a b b′ e y =
+text-with-run input log scratch page log′ scratch′ a b b′ e y =
     let first : answerLines a ++ ranLines input log′ scratch′ page ≡ answerLines a ++ cond (isReachable a) (ranLines input log′ scratch′ page) [] = rw y in
     first
     ∙ ap (λ (x : Answered). answerLines x ++ cond (isReachable x) (ranLines input log′ scratch′ page) []) (e ∙ answer-lengths input log scratch log′ scratch′ (b .log-length ∙ sym (b′ .log-length)) (b .scratch-length ∙ sym (b′ .scratch-length)))

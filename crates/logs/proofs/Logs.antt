@@ -17,7 +17,7 @@ use Rattle.model.specs.Tables.{writtenPlaces}
 use Rattle.model.proofs.Collecting.{Reasoned, additions-reasoned, each-collect, logAt-suc}
 use Rattle.model.proofs.Groups.{at-merge}
 use Rattle.model.proofs.Limit.{each-transitionsAt, length-suc}
-use Rattle.model.proofs.Lists.{each-any, each-append, each-get, each-less, each-map, each-of-map, getD-mem, mem-each}
+use Rattle.model.proofs.Lists.{each-any, each-append, each-both, each-get, each-less, each-map, each-of-map, getD-mem, mem-each}
 use Rattle.model.proofs.LogPaths.{IsPath, paths-sound}
 use Rattle.model.proofs.Paths.{Inside}
 use Rattle.model.proofs.Reasons.{path-length}
@@ -28,7 +28,7 @@ use Rattle.table.specs.declared.Table.{Table}
 use Rattle.automaton.specs.StateNumbers.{Over}
 use Rattle.records.specs.Entries.{Fits}
 use Rattle.table.specs.Reading.{Holds, ruleIn, systemIn}
-use Rattle.logs.proofs.Rules.{each-both, each-by-elem, over-restrict, rule-elem, rule-number, rule-over, rule-written, transition-number, transition-over}
+use Rattle.logs.proofs.Rules.{each-by-elem, over-restrict, rule-elem, rule-number, rule-over, rule-written, transition-number, transition-over}
 use Rattle.table.proofs.Layouts.{rule-letter-in, table-modest, transition-letter-in, written-few}
 
 -- ---- groups

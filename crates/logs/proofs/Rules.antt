@@ -20,7 +20,7 @@ use Rattle.model.specs.Log.{keyDigits}
 use Rattle.model.specs.Systems.{Rule}
 use Rattle.model.specs.Tables.{Item, bodies, controlsOf, isTwin, ruleOf, sameBytes, statesOf, systemOf, transitionOf}
 use Rattle.model.proofs.Groups.{at-restrict, ext}
-use Rattle.model.proofs.Lists.{Distinct, any-of, distinct-append, each-get}
+use Rattle.model.proofs.Lists.{Distinct, any-of, distinct-append, each-both, each-get}
 use Rattle.model.proofs.Tables.{Checked, none-yet, one-more, Complete, Passes, Fitting, RuleFits, TransitionFits, accepted-well-formed, bodies-more, rules-fit, transitions-fit}
 use Rattle.model.proofs.Tests.{by-test, and-both}
 use Rattle.automaton.specs.StateNumbers.{Over}
@@ -44,10 +44,6 @@ elem-place (y ∷ l) (suc k) d x e = let r = elem-place l k d x e in (omega (ari
 pub each-by-elem : {A : Type 0} (P : A → Type 0) (l : List A) → ((k : ℕ) (x : A) → getElem? l k ≡ some x → P x) → Each P l
 each-by-elem P [] f = tt
 each-by-elem P (x ∷ l) f = (f 0 x refl, each-by-elem P l (λ k y e. f (suc k) y e))
-
-pub each-both : {A : Type 0} (P Q R : A → Type 0) → ((x : A) → P x → Q x → R x) → (l : List A) → Each P l → Each Q l → Each R l
-each-both P Q R f [] p q = tt
-each-both P Q R f (x ∷ l) p q = (f x (p .0) (q .0), each-both P Q R f l (p .1) (q .1))
 
 -- ---- groups
 pub over-restrict : (L : Processes) (g : Group) → Over L g → restrict L g ≡ g

@@ -15,7 +15,7 @@ use Rattle.model.specs.Log.{Candidate, Path, Record, addedRecord, additi
 use Rattle.model.specs.Saturation.{added}
 use Rattle.model.specs.Systems.{Rule, System}
 use Rattle.model.proofs.Collecting.{inLog-of, log-saturates, logAt-suc}
-use Rattle.model.proofs.Lists.{any-of, each-any, each-get, each-map, getD-mem}
+use Rattle.model.proofs.Lists.{any-of, each-any, each-both, each-get, each-map, getD-mem}
 use Rattle.model.proofs.LogPaths.{IsPath, paths-sound}
 use Rattle.model.proofs.Rounds.{each-transitionsAt-held}
 use Rattle.model.proofs.Soundness.{transitionsAt}
@@ -33,10 +33,6 @@ letters-of log (n ∷ ns) = (
   List·Memᴰ·head refl,
   each-map (λ (m : ℕ). List·Memᴰ (recordAt log m .key .letter) (label (transitionsAt log ns))) (λ (m : ℕ). List·Memᴰ (recordAt log m .key .letter) (label (transitionsAt log (n ∷ ns)))) (λ m i. List·Memᴰ·tail i) ns (letters-of log ns),
 )
-
-pub each-both : (P Q R : ℕ → Type 0) → ((n : ℕ) → P n → Q n → R n) → (ns : List ℕ) → Each P ns → Each Q ns → Each R ns
-each-both P Q R f [] p q = tt
-each-both P Q R f (n ∷ ns) p q = (f n (p .0) (q .0), each-both P Q R f ns (p .1) (q .1))
 
 module _ (sys : System) (k : ℕ) where
   -- a record whose letter got none in round k + 1 stands in the log of rounds up to k

@@ -19,7 +19,7 @@ use Rattle.model.specs.Log.{Candidate, Path, Record, addedRecord, candidate, in
 use Rattle.model.specs.Records.{logBytes, recordBytes, recordLength}
 use Rattle.model.specs.Systems.{Rule}
 use Rattle.model.proofs.Groups.{sameGroup-true}
-use Rattle.model.proofs.Lists.{each-any, each-append, each-map, each-of-map, length-zero}
+use Rattle.model.proofs.Lists.{each-any, each-append, each-both, each-map, each-of-map, length-zero}
 use Rattle.model.proofs.RoundGroups.{isHead}
 use Rattle.model.proofs.Tests.{and-left, and-right, by-test}
 use Rattle.saturate.specs.declared.groups.Stage.{Stage}
@@ -34,7 +34,7 @@ use Rattle.search.specs.Visits.{Visit, endNumber, offer, offerAll}
 use Rattle.table.specs.Reading.{Holds, ruleIn, systemIn}
 use Rattle.automaton.proofs.StateNumbers.{stateNumber-below}
 use Rattle.logs.proofs.Logs.{Keyed, candidates-over, log-fits, log-over}
-use Rattle.logs.proofs.Rules.{each-both, rule-drop}
+use Rattle.logs.proofs.Rules.{rule-drop}
 use Rattle.saturate.proofs.Arriving.{marks-law}
 use Rattle.saturate.proofs.Choosing.{InGroup, chosen-is, firstCandidate, picked}
 use Rattle.ends.proofs.Chunks.{chunk}

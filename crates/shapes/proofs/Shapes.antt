@@ -37,8 +37,8 @@ over-fits L bound g small e = record {
 }
 
 -- states that change within L
-pub over-merge : (L M : Processes) (bound : Process → ℕ) (x g : Group) → ((i : Process) → has L i ≡ true → bound i ≤ 8) → Within M L → groupFits M bound x ≡ true → Over L g → Over L (merge M x g)
-over-merge L M bound x g small w e o = record {
+over-merge-fits : (L M : Processes) (bound : Process → ℕ) (x g : Group) → ((i : Process) → has L i ≡ true → bound i ≤ 8) → Within M L → groupFits M bound x ≡ true → Over L g → Over L (merge M x g)
+over-merge-fits L M bound x g small w e o = record {
   inside = λ i m. rw (at-merge M x g i) (by-test (has M i)
       (λ y. rw y (let low : at x i < bound i = fits-at M bound x e i y in let top : bound i ≤ 8 = small i m in omega arith))
       (λ f. rw f (o .inside i m)));
@@ -117,7 +117,7 @@ module _ (bytes : List ℕ) (t : Table) (h : Holds bytes t) where
   unfolding systemIn systemOf
   stays bound x g small f o =
       let l : x .letter < t .letters = omega (arith, f .letter, count-in bytes t h 2 (omega arith)) in
-      over-merge (presentIn t) (systemIn bytes .loc (x .letter)) bound (x .after) g small (loc-within (x .letter) l) (f .after) o
+      over-merge-fits (presentIn t) (systemIn bytes .loc (x .letter)) bound (x .after) g small (loc-within (x .letter) l) (f .after) o
 
   pub move-over : (k : ℕ) (g : Group) → k < t .transitions → Over (presentIn t) g → Over (presentIn t) (move (systemIn bytes .loc) (transitionIn bytes k) g)
   unfolding systemIn systemOf

@@ -3,13 +3,13 @@ use table::Table;
 ghost use mathlib.Core.Path.{_≡_};
 ghost use Prim.Native.Nat.{_+_, _≤_};
 ghost use lib.ListN.{length};
-ghost use Rattle.model.specs.Groups.{processesOf};
+ghost use Rattle.automaton.specs.ProcessBits.{processBits};
 ghost use Rattle.shapes.specs.Shapes.{presentIn, fronted};
 
 // The processes of the table, as bits.
 pub fn present(t: Table) -> u8
     requires { ⌜ t .processes ≤ 4 ⌝ }
-    ensures { λ r. ⌜ processesOf r ≡ presentIn t ⌝ }
+    ensures { λ r. ⌜ r ≡ processBits (presentIn t) ⌝ }
 {
     let n = t.processes;
     if n == 0 {

@@ -8,7 +8,7 @@ use native.Mathlib.Omega.{arith}
 use lib.Dec.{eqb, ltb, leb}
 use lib.ListN.{length, getD}
 use borrow.Author.Tests.{eqb-false, leb-true, leb-false}
-use Rattle.model.proofs.Tests.{by-test, by-zero}
+use Rattle.model.proofs.Tests.{by-test, by-zero, or-right}
 use Rattle.model.specs.Tables.{Item, bodyLength, bodies, controlsOf, locOf, ruleOf, transitionOf, valueFits, cooperates, leavesControl, refusal, Reading, accepted, refused, readFrom, read}
 use Rattle.table.specs.Places.{bodyAt, bodiesAt, offset, bodyOf, itemsBelow, counts, countsAt, itemsBefore, processesIn, lettersIn, Modest, Passed}
 use Rattle.table.specs.Reading.{countsOf, parsed, Holds, itemsOf, itemsIn, outOfTurn, readOn, Stepped}
@@ -18,7 +18,7 @@ use Rattle.table.specs.declared.Step.the-variants.{Done}
 use Rattle.table.specs.declared.Table.{Table}
 use Rattle.table.proofs.Cursors.{modest-of, counts-before, turn-before, processes-before, letters-before, kind-place, count-other, count-same, Admitted, beyond}
 use Rattle.table.proofs.Places.{offset-agrees}
-use Rattle.table.proofs.Steps.{Clear, clear-of, or-right, step-end, step-refused, step-next, step-leftover, next-admitted, end-accepted, going-start}
+use Rattle.table.proofs.Steps.{Clear, clear-of, step-end, step-refused, step-next, step-leftover, next-admitted, end-accepted, going-start}
 
 -- ---- the checks 5, 6 and 7 of one item
 pub record Fit (ps ls : List (List ℕ)) (k : ℕ) (body : List ℕ) : Type 0 where

@@ -55,8 +55,8 @@ all-at f (x ∷ l) (suc j) h p = all-at f l j (le-of-suc-le-suc h) (and-right (f
 pub part-front : (l : List ℕ) (a n : ℕ) → take (a + n - a) (drop a l) ≡ take n (drop a l)
 part-front l a n = rw (add-sub-cancel-left a n)
 
-pub part-rest : (l : List ℕ) (a n : ℕ) → take (length l - (a + n)) (drop (a + n) l) ≡ drop n (drop a l)
-part-rest l a n = take-all (length l - (a + n)) (drop (a + n) l) (simp (length-drop) (omega arith)) ∙ sym (drop-drop n a l)
+pub part-behind : (l : List ℕ) (a n : ℕ) → take (length l - (a + n)) (drop (a + n) l) ≡ drop n (drop a l)
+part-behind l a n = take-all (length l - (a + n)) (drop (a + n) l) (simp (length-drop) (omega arith)) ∙ sym (drop-drop n a l)
 
 -- ---- two parts byte by byte
 pub same-more : (x y : List ℕ) (j : ℕ) → j < length x → j < length y → sameBytes (take j x) (take j y) ≡ true → getD x j 0 ≡ getD y j 0 → sameBytes (take (j + 1) x) (take (j + 1) y) ≡ true

@@ -9,7 +9,7 @@ use lib.Dec.{eqb, ltb, leb}
 use lib.ListN.{length, getD, drop, length-take, length-drop, drop-of-length-le}
 use lib.Seq.{drop-cons, drop-drop}
 use borrow.Author.Tests.{not-false, eq-eqb, ne-eqb, eqb-false, ltb-false, lt-ltb, le-ltb, leb-true, leb-false}
-use Rattle.model.proofs.Tests.{by-test}
+use Rattle.model.proofs.Tests.{by-test, or-right}
 use Rattle.model.specs.Tables.{Item, bodyLength, ceiling, bodies, count, controlsOf, locOf, ruleOf, transitionOf, isStranger, isOutOfTurn, valueFits, cooperates, leavesControl, isTwin, refusal, Reading, accepted, ending, unlessRefused, readFrom, read}
 use Rattle.table.specs.Places.{bodyAt, bodiesAt, offset, itemsBelow, counts, itemsBefore, advanced, Passed}
 use Rattle.table.specs.Reading.{countsOf, parsed, outOfTurn, bodyRefusal, readOn, Onward, Stepped}
@@ -76,10 +76,6 @@ refusal-known items k body a = rw a
 pub or-left : (a b : Bool) → (a || b) ≡ false → a ≡ false
 or-left true b e = e
 or-left false b e = refl
-
-pub or-right : (a b : Bool) → (a || b) ≡ false → b ≡ false
-or-right true b e = absurd (true≢false e)
-or-right false b e = e
 
 -- a kind of item
 pub kind-of : (k : ℕ) → isStranger k ≡ false → (0 < k) × (k < 9)

@@ -4,10 +4,9 @@ ghost use Prim.Native.Nat.{_+_, _≤_, _<_};
 ghost use lib.ListN.{length, getD};
 ghost use Rattle.model.specs.Tables.{groupOf};
 ghost use Rattle.table.specs.Places.{bodyAt, offset, bodyOf, counts, Modest};
-ghost use Rattle.table.specs.Reading.{Holds, systemIn, ruleIn, transitionIn, acceptingIn, pileIn, statesIn, processAt, BitsOf};
+ghost use Rattle.table.specs.Reading.{Holds, systemIn, ruleIn, transitionIn, acceptingIn, pileIn, BitsOf};
 use crate::Table;
 use crate::checks::bits_of;
-use crate::checks::bound_of;
 use model::Group;
 
 // The places for written letters in a rule, the bytes of a rule's body, and those of a whole rule.
@@ -92,21 +91,6 @@ pub fn pile_at(t: Table) -> usize
 }
 
 // ---- processes and letters
-// How many control states process i has, and how many states in all; 256 where the table lacks the process.
-pub fn control_states(bytes: &[u8], t: Table, i: usize) -> usize
-    requires { ⌜ Holds (now bytes) t × (i < 4) ⌝ }
-    ensures { λ r. ⌜ r ≡ systemIn (now (bytes .entry)) .controls (processAt i) ⌝ }
-{
-    bound_of(bytes, t, 0, i)
-}
-
-pub fn local_states(bytes: &[u8], t: Table, i: usize) -> usize
-    requires { ⌜ Holds (now bytes) t × (i < 4) ⌝ }
-    ensures { λ r. ⌜ r ≡ statesIn (now (bytes .entry)) (processAt i) ⌝ }
-{
-    bound_of(bytes, t, 1, i)
-}
-
 // The processes of letter a, as bits.
 pub fn letter_bits(bytes: &[u8], t: Table, a: usize) -> u8
     requires { ⌜ Holds (now bytes) t × (a < t .letters) ⌝ }

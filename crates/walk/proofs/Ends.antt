@@ -47,8 +47,8 @@ ended-answer sys s pile word watched e q f =
     (ap₂ (λ (n : ℕ) (b : Bool). Walked.Ended (s .placed .states) n b) (sym (length-drop (s .placed .top) pile)) (f ∙ ap (λ (w : List ℕ). acceptsFrom sys w (s .placed .states)) q))
 
 -- a part from a place on, to the end
-pub part-rest : (l : List ℕ) (a : ℕ) → take (length l - a) (drop a l) ≡ drop a l
-part-rest l a = take-all (length l - a) (drop a l) (omega (arith, length-drop a l))
+pub part-to-end : (l : List ℕ) (a : ℕ) → take (length l - a) (drop a l) ≡ drop a l
+part-to-end l a = take-all (length l - a) (drop a l) (omega (arith, length-drop a l))
 
 -- ---- the word moved to the front
 pub settled : (l : List ℕ) (top : ℕ) (s z : List ℕ) → top ≤ length l → s ≡ fronted l top (length l - top) → z ≡ zeros (take (length s - (length l - top)) (drop (length l - top) s))
@@ -61,5 +61,5 @@ settled l top s z h e f =
     let front : take (length l - top) s ≡ drop top l = ap (take (length l - top)) e ∙ take-at (take (length l - top) (drop top l)) (drop (length l - top) l) (length l - top) (ap length word ∙ w) ∙ word in
     let back : drop (length s - (length l - top)) (drop (length l - top) s) ≡ [] = drop-of-length-le (drop (length l - top) s) {i = length s - (length l - top)} (omega (arith, length-drop (length l - top) s)) in
     let count : length (take (length s - (length l - top)) (drop (length l - top) s)) ≡ length l - length (drop top l) =
-    ap length (part-rest s (length l - top)) ∙ length-drop (length l - top) s ∙ omega arith in
+    ap length (part-to-end s (length l - top)) ∙ length-drop (length l - top) s ∙ omega arith in
     ap₂ (λ (x y : List ℕ). x ++ y) front (ap₂ (λ (x y : List ℕ). x ++ y) (f ∙ ap (λ (n : ℕ). replicate n 0) count) back ∙ append-nil (replicate (length l - length (drop top l)) 0))

@@ -1,4 +1,4 @@
-//! How often each situation was met.
+//! How often each situation was met, and how often it must be.
 
 use std::borrow::Cow;
 use std::collections::BTreeMap;
@@ -12,7 +12,7 @@ impl Counts {
     }
 
     /// How often the situation was met.
-    pub fn of(&self, situation: &str) -> usize {
+    fn of(&self, situation: &str) -> usize {
         self.0.get(situation).copied().unwrap_or(0)
     }
 
@@ -22,10 +22,35 @@ impl Counts {
         }
     }
 
-    /// All situations met, with their counts.
-    pub fn summary(&self) -> String {
-        let parts = self.0.iter();
-        let parts = parts.map(|(situation, count)| format!("{count} {situation}"));
-        parts.collect::<Vec<_>>().join(", ")
+    /// Prints how often each situation was met; gives how many were met less often than demanded.
+    pub fn demand(&self, situations: &[Demand]) -> usize {
+        let mut missing = 0;
+        for Demand { name, least } in situations {
+            let count = self.of(name);
+            let enough = count >= *least;
+            missing += usize::from(!enough);
+            let note = if enough { "" } else { ", which is too few" };
+            println!("{count:8} {name}{note}");
+        }
+        missing
+    }
+}
+
+/// A situation that a comparison is for, and how often it must be met at least.
+pub struct Demand {
+    name: Cow<'static, str>,
+    least: usize,
+}
+
+impl Demand {
+    pub fn new(name: impl Into<Cow<'static, str>>, least: usize) -> Self {
+        Demand {
+            name: name.into(),
+            least,
+        }
+    }
+
+    pub fn once(name: impl Into<Cow<'static, str>>) -> Self {
+        Demand::new(name, 1)
     }
 }

@@ -4,7 +4,7 @@ mod cases;
 mod counts;
 
 pub use cases::{Case, Cases, Make};
-pub use counts::Counts;
+pub use counts::{Counts, Demand};
 
 use std::path::PathBuf;
 use std::sync::atomic::{AtomicUsize, Ordering};

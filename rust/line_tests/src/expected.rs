@@ -1,11 +1,17 @@
 //! What `line` shall write for a table, by the second engine.
 
-use second_engine::{Answer, Refusal, Run, answer, run};
+use crate::situations::{self, refused};
+use comparison::Counts;
+use second_engine::{Answer, RECORD_BYTES, Refusal, Run, answer, run, scratch_needed};
 use std::fmt::Write;
 
-const LOG_BYTES: usize = 48_000;
-const SCRATCH_BYTES: usize = 46_000;
-const PAGE_LENGTH: usize = 10_000;
+/// The records that the log of `line` holds.
+const RECORDS: u32 = 2_000;
+const PAGE_LENGTH: u32 = 10_000;
+/// The longest input that `line` reads whole.
+const INPUT_BYTES: usize = 65_536;
+const STEPS_CAP: u32 = 1_000_001;
+const SHORT_LOG: u8 = 10;
 const LONG_RUN: u8 = 11;
 
 /// The second engine with buffers as long as those of `line`.
@@ -15,49 +21,61 @@ pub struct Engine {
     page: Vec<u16>,
 }
 
-/// The lines for a table, and the outcome that they tell.
-pub struct Listing {
-    pub lines: String,
-    pub outcome: String,
-}
-
 impl Engine {
     pub fn new() -> Self {
+        let log = RECORD_BYTES * RECORDS as usize;
         Engine {
-            log: vec![0; LOG_BYTES],
-            scratch: vec![0; SCRATCH_BYTES],
-            page: vec![0; PAGE_LENGTH],
+            log: vec![0; log],
+            scratch: vec![0; scratch_needed(log)],
+            page: vec![0; PAGE_LENGTH as usize],
         }
     }
 
-    pub fn listing(&mut self, table: &[u8]) -> Listing {
+    /// The lines for a table; counts the situations that they tell of.
+    pub fn lines(&mut self, table: &[u8], counts: &mut Counts) -> String {
+        match table.len() {
+            0 => counts.meet(situations::EMPTY_INPUT),
+            length if length > INPUT_BYTES => counts.meet(situations::LONG_INPUT),
+            _ => (),
+        }
         match answer(table, &mut self.log, &mut self.scratch) {
-            Answer::Refused(Refusal { number, place }) => Listing {
-                lines: format!("refused {number} at {place}\n"),
-                outcome: format!("refused {number}"),
-            },
+            Answer::Refused(Refusal { number, place }) => {
+                counts.meet(refused(number));
+                if number == SHORT_LOG && is_answered_by_one_more(table) {
+                    counts.meet(situations::PAST_LOG);
+                }
+                format!("refused {number} at {place}\n")
+            }
             Answer::Unreachable {
                 transitions,
                 rounds,
-            } => Listing {
-                lines: head("unreachable", transitions, rounds),
-                outcome: "unreachable".to_string(),
-            },
+            } => {
+                counts.meet(situations::UNREACHABLE);
+                head("unreachable", transitions, rounds, counts)
+            }
             Answer::Reachable {
                 transitions,
                 rounds,
                 steps,
             } => {
-                let mut lines = head("reachable", transitions, rounds);
+                counts.meet(situations::REACHABLE);
+                let mut lines = head("reachable", transitions, rounds, counts);
                 lines += &format!("steps {steps}\n");
-                let outcome = self.add_run(table, &mut lines).to_string();
-                Listing { lines, outcome }
+                match steps {
+                    0 => counts.meet(situations::EMPTY_RUN),
+                    PAGE_LENGTH => counts.meet(situations::FULL_PAGE),
+                    _ if steps == PAGE_LENGTH + 1 => counts.meet(situations::PAST_PAGE),
+                    STEPS_CAP => counts.meet(situations::PAST_CAP),
+                    _ => (),
+                }
+                self.add_run(table, &mut lines, counts);
+                lines
             }
         }
     }
 
-    /// Adds the lines after the steps of a reachable table; gives the outcome.
-    fn add_run(&mut self, table: &[u8], lines: &mut String) -> &'static str {
+    /// Adds the lines after the steps of a reachable table.
+    fn add_run(&mut self, table: &[u8], lines: &mut String, counts: &mut Counts) {
         match run(table, &mut self.log, &mut self.scratch, &mut self.page) {
             Run::Reachable { steps, peak, .. } => {
                 *lines += &format!("peak {peak}\nrun");
@@ -65,17 +83,27 @@ impl Engine {
                     write!(lines, " {rule}").expect("a string takes all");
                 }
                 *lines += "\n";
-                "reachable"
             }
             Run::Refused(refusal) => {
                 assert_eq!((refusal.number, refusal.place), (LONG_RUN, 0));
+                counts.meet(situations::RUN_REFUSED);
                 *lines += "run refused 11\n";
-                "run refused 11"
             }
         }
     }
 }
 
-fn head(verdict: &str, transitions: u32, rounds: u32) -> String {
+/// The lines before the steps.
+fn head(verdict: &str, transitions: u32, rounds: u32, counts: &mut Counts) -> String {
+    if transitions == RECORDS {
+        counts.meet(situations::FULL_LOG);
+    }
     format!("answer {verdict}\ntransitions {transitions}\nrounds {rounds}\n")
+}
+
+/// Whether a log of one record more than that of `line` holds the limit.
+fn is_answered_by_one_more(table: &[u8]) -> bool {
+    let mut log = vec![0; RECORD_BYTES * (RECORDS as usize + 1)];
+    let mut scratch = vec![0; scratch_needed(log.len())];
+    !matches!(answer(table, &mut log, &mut scratch), Answer::Refused(_))
 }

@@ -1,7 +1,10 @@
 //! Compares what the program `line` writes with the second engine, byte for byte, on named,
 //! random and damaged tables. Arguments: the path of `line`, and a seed.
+//!
+//! It fails too if a situation that it is for was never met.
 
 mod expected;
+mod situations;
 
 use comparison::{Cases, Counts};
 use expected::Engine;
@@ -32,17 +35,19 @@ fn main() -> ExitCode {
     }
 }
 
-/// Compares all cases and reports; true if none differs.
+/// Compares all cases and reports; true if none differs and no situation is missing.
 fn compare(line: &str, seed: u64) -> io::Result<bool> {
+    println!("seed {seed}");
     let cases = Cases::new(seed, EACH);
     let findings = comparison::compare(&cases, || {
         let mut engine = Engine::new();
         move |case, counts: &mut Counts| compare_one(line, &mut engine, &case.bytes, counts)
     })?;
     comparison::report(&findings.differences, "line_tests", seed)?;
-    println!("seed {seed}: {}", findings.counts.summary());
-    let failed = findings.differences.len();
-    println!("{} passed, {failed} failed", cases.count() - failed);
+    let missing = findings.counts.demand(&situations::all());
+    let differing = findings.differences.len();
+    let failed = differing + missing;
+    println!("{} passed, {failed} failed", cases.count() - differing);
     Ok(failed == 0)
 }
 
@@ -53,16 +58,14 @@ fn compare_one(
     table: &[u8],
     counts: &mut Counts,
 ) -> io::Result<Option<String>> {
-    let listing = engine.listing(table);
-    counts.meet(listing.outcome);
+    let expected = engine.lines(table, counts);
     let given = run_line(line, table)?;
-    let same = given.stdout == listing.lines.as_bytes();
+    let same = given.stdout == expected.as_bytes();
     if same && given.status.success() && given.stderr.is_empty() {
         return Ok(None);
     }
     Ok(Some(format!(
-        "expected:\n{}\ngiven, {}:\n{}\nerrors:\n{}",
-        listing.lines,
+        "expected:\n{expected}\ngiven, {}:\n{}\nerrors:\n{}",
         given.status,
         String::from_utf8_lossy(&given.stdout),
         String::from_utf8_lossy(&given.stderr)

@@ -50,7 +50,7 @@ fn compare(seed: u64) -> io::Result<bool> {
         move |case: &Case, counts: &mut Counts| Ok(compare_one(&pool, case, counts).err())
     })?;
     comparison::report(&findings.differences, "outcome_tests", seed)?;
-    let missing = situations::print(&findings.counts);
+    let missing = findings.counts.demand(&situations::all());
     let differing = findings.differences.len();
     let failed = differing + missing;
     println!("{} passed, {failed} failed", cases.count() - differing);

@@ -3,7 +3,7 @@
 use crate::facts::Facts;
 use crate::reasons::Several;
 use crate::{bounds, lists};
-use comparison::Counts;
+use comparison::{Counts, Demand};
 use tables::Table;
 
 /// How many random tables must be accepted, and how many damaged ones refused.
@@ -68,8 +68,8 @@ pub fn note_shape(table: &Table, facts: &Facts, counts: &mut Counts) {
     }
 }
 
-/// Every situation that must be met, and how often at least.
-fn all() -> Vec<(String, usize)> {
+/// Every situation that must be met.
+pub fn all() -> Vec<Demand> {
     let refusals = [
         ("answer", &[10, 15][..]),
         ("run", &[10, 11, 15, 16]),
@@ -86,21 +86,7 @@ fn all() -> Vec<(String, usize)> {
     names.extend(OUTCOMES.map(str::to_string));
     names.extend(bounds::names());
     names.extend(lists::NAMES.map(str::to_string));
-    let mut situations: Vec<_> = names.into_iter().map(|name| (name, 1)).collect();
-    situations.push((ACCEPTED.to_string(), LEAST));
-    situations.push((REFUSED.to_string(), LEAST));
+    let mut situations: Vec<_> = names.into_iter().map(Demand::once).collect();
+    situations.extend([ACCEPTED, REFUSED].map(|name| Demand::new(name, LEAST)));
     situations
-}
-
-/// Prints how often each situation was met; gives how many were not met often enough.
-pub fn print(counts: &Counts) -> usize {
-    let mut missing = 0;
-    for (name, least) in all() {
-        let count = counts.of(&name);
-        let enough = count >= least;
-        missing += usize::from(!enough);
-        let note = if enough { "" } else { ", which is too few" };
-        println!("{count:8} {name}{note}");
-    }
-    missing
 }

@@ -1,7 +1,9 @@
+use mathlib.Core.Path.{_∙_, ap}
 use mathlib.Core.Bool.{true, false}
 use Prim.Native.Nat.{_-_, _+_}
 use Rattle.model.specs.Groups.{processesOf}
 use Rattle.automaton.specs.StateNumbers.{stateCount}
+use Rattle.automaton.proofs.ProcessBits.{bits-back}
 use Rattle.table.specs.Reading.{systemIn}
 use Rattle.table.proofs.Layouts.{table-modest}
 use Rattle.shapes.specs.Shapes.{presentIn}
@@ -36,7 +38,7 @@ returns : tie.Need-returns Inv-loop μ-loop
 returns c =
     let a = c .before .before .before .before .before .before .before .before .before .args in
     searching-found (systemIn (a .table .now)) (presentIn (a .t)) (a .members .now) (c .before .before .before .before .before .loop .n) (c .before .before .before .before .loop-test .taken) (c .before .before .before .before .before .loop .inv)
-    (group-known (systemIn (a .table .now)) (presentIn (a .t)) (processesOf (c .before .before .before .present .result)) (c .before .before .before .before .before .loop .n) (c .before .before .numbered .result) (c .before .is-accepting .result) true (c .before .before .before .present .ensures) (c .before .before .numbered .ensures) (c .before .is-accepting .ensures) (c .if1 .taken))
+    (group-known (systemIn (a .table .now)) (presentIn (a .t)) (processesOf (c .before .before .before .present .result)) (c .before .before .before .before .before .loop .n) (c .before .before .numbered .result) (c .before .is-accepting .result) true (ap processesOf (c .before .before .before .present .ensures) ∙ bits-back (presentIn (a .t))) (c .before .before .numbered .ensures) (c .before .is-accepting .ensures) (c .if1 .taken))
 
 add-next-member : tie.Need-add-next-member Inv-loop μ-loop
 add-next-member c = omega arith
@@ -51,7 +53,7 @@ loop-again : tie.Need-loop-again Inv-loop μ-loop
 loop-again c =
     let a = c .before .before .before .before .before .before .before .before .before .before .args in
     searching-turn (systemIn (a .table .now)) (presentIn (a .t)) (a .members .now) (c .before .before .before .before .before .before .loop .n) (c .next-member2 .result) (c .before .before .before .before .before .loop-test .taken) (c .before .before .before .before .before .before .loop .inv)
-    (group-known (systemIn (a .table .now)) (presentIn (a .t)) (processesOf (c .before .before .before .before .present .result)) (c .before .before .before .before .before .before .loop .n) (c .before .before .before .numbered .result) (c .before .before .is-accepting .result) false (c .before .before .before .before .present .ensures) (c .before .before .before .numbered .ensures) (c .before .before .is-accepting .ensures) (c .before .if1 .left))
+    (group-known (systemIn (a .table .now)) (presentIn (a .t)) (processesOf (c .before .before .before .before .present .result)) (c .before .before .before .before .before .before .loop .n) (c .before .before .before .numbered .result) (c .before .before .is-accepting .result) false (ap processesOf (c .before .before .before .before .present .ensures) ∙ bits-back (presentIn (a .t))) (c .before .before .before .numbered .ensures) (c .before .before .is-accepting .ensures) (c .before .if1 .left))
     (c .next-member2 .ensures)
 
 returns-2 : tie.Need-returns-2 Inv-loop μ-loop

@@ -4,6 +4,7 @@ use Prim.Native.Nat.{ℕ, _+_}
 use Rattle.model.specs.Groups.{Processes, processesOf}
 use Rattle.automaton.specs.StateNumbers.{groupNumbered, Over}
 use Rattle.automaton.specs.StateSets.{setLength, nextMember}
+use Rattle.automaton.proofs.ProcessBits.{bits-back}
 use Rattle.automaton.proofs.StateNumbers.{numbered-over}
 use Rattle.table.specs.Reading.{systemIn}
 use Rattle.table.proofs.Layouts.{table-modest}
@@ -35,7 +36,7 @@ part-follow-all-end c = search needs
 follow-all-requires : tie.Need-follow-all-requires
 follow-all-requires c κs =
     let s = c .before .before .before .before .before in
-    let same : groupNumbered (presentIn (s .args .t)) (s .args .n) ≡ c .before .numbered .result = sym (c .before .numbered .ensures ∙ ap (λ (L : Processes). groupNumbered L (s .args .n)) (c .before .before .present .ensures)) in
+    let same : groupNumbered (presentIn (s .args .t)) (s .args .n) ≡ c .before .numbered .result = sym (c .before .numbered .ensures ∙ ap (λ (L : Processes). groupNumbered L (s .args .n)) (ap processesOf (c .before .before .present .ensures) ∙ bits-back (presentIn (s .args .t)))) in
     (s .pre .0, subst (Over (presentIn (s .args .t))) same (numbered-over (presentIn (s .args .t)) (s .args .n)), length-there (s .args .scratch .now) (s .pre .2))
 
 sub-next-member : tie.Need-sub-next-member
@@ -67,7 +68,7 @@ returns c =
       first,
       c .next-member .ensures ∙ ap (λ (l : List ℕ). nextMember l (a .n + 1)) first,
       read-known (systemIn (a .table .now)) (presentIn (a .t)) (a .letter) (there (a .scratch .now)) ys (there (withThere (a .scratch .now) ys)) (processesOf (c .before .before .before .before .before .before .before .before .present .result)) (a .n) (c .before .before .before .before .before .before .before .numbered .result)
-          (c .before .before .before .before .before .before .before .before .present .ensures) (c .before .before .before .before .before .before .before .numbered .ensures) second (c .before .before .before .before .before .follow-all .ensures),
+          (ap processesOf (c .before .before .before .before .before .before .before .before .present .ensures) ∙ bits-back (presentIn (a .t))) (c .before .before .before .before .before .before .before .numbered .ensures) second (c .before .before .before .before .before .follow-all .ensures),
     )
 
 pub read-member-spec : {M : Type 1} → statement M

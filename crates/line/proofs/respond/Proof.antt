@@ -1,6 +1,6 @@
 use mathlib.Core.Path.{sym, _∙_}
 use Rattle.listing.specs.LineText.{Lent}
-use Rattle.listing.proofs.LineTexts.{text-alone, text-reachable}
+use Rattle.listing.proofs.LineTexts.{text-alone, text-with-run}
 use Rattle.listing.proofs.Texts.{puts-front, puts-then}
 use native.Mathlib.Omega.{arith}
 use borrow.Author.Needs.{needs}
@@ -43,7 +43,7 @@ returns c =
       page-length = s .pre .0 .page-length;
     } in
     let front = puts-front (puts-then 60192 (c .before .before .before .before .before .before .before .before .before .before .before .before .before .before .before .before .before .put-answer .ensures) (q .ensures) (omega arith) (omega arith)) (omega (arith, s .pre .1)) in (
-      front .0 ∙ text-reachable (a .input .now) (a .log .now) (a .scratch .now) (a .page .now) (r .last .1 .0) (r .last .1 .1 .0) (r .result) (s .pre .0) left (r .ensures .0 .answer) (sym (c .before .before .before .before .before .before .before .before .before .before .before .before .before .before .is-reachable .ensures) ∙ c .before .before .before .before .before .before .before .before .before .before .before .before .before .if1 .taken),
+      front .0 ∙ text-with-run (a .input .now) (a .log .now) (a .scratch .now) (a .page .now) (r .last .1 .0) (r .last .1 .1 .0) (r .result) (s .pre .0) left (r .ensures .0 .answer) (sym (c .before .before .before .before .before .before .before .before .before .before .before .before .before .before .is-reachable .ensures) ∙ c .before .before .before .before .before .before .before .before .before .before .before .before .before .if1 .taken),
       front .1,
     )
 

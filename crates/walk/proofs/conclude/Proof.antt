@@ -2,7 +2,7 @@ use Prim.Native.Nat.{_-_}
 use lib.ListN.{take, drop, length}
 use Rattle.table.specs.Reading.{systemIn}
 use Rattle.firing.specs.Piles.{configuration}
-use Rattle.walk.proofs.Ends.{part-rest, refused-answer, ended-answer}
+use Rattle.walk.proofs.Ends.{part-to-end, refused-answer, ended-answer}
 use borrow.Author.Needs.{needs}
 use Rattle.walk.proofs.conclude.Statement.{statement}
 use Rattle.walk.proofs.conclude.Tie as tie
@@ -38,7 +38,7 @@ returns-2 : tie.Need-returns-2
 returns-2 c =
     let a = c .before .before .before .before .before .before .before .before .before .before .before .args in (
       ended-answer (systemIn (a .table .now)) (a .s) (a .pile .now) (take (length (a .pile .now) - a .s .placed .top) (drop (a .s .placed .top) (a .pile .now))) (c .before .before .is-accepted .result) (c .before .before .before .before .before .before .before .if1 .left)
-          (part-rest (a .pile .now) (a .s .placed .top)) (c .before .before .is-accepted .ensures .0),
+          (part-to-end (a .pile .now) (a .s .placed .top)) (c .before .before .is-accepted .ensures .0),
       c .before .before .is-accepted .ensures .1,
     )
 

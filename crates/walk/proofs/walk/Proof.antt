@@ -1,7 +1,7 @@
 -- The walk call: what it gives, and its steps in the paper's terms.
 use mathlib.Core.Path.{_∙_, ap}
 use Rattle.model.specs.Calls.{walkFigures}
-use Rattle.walk.proofs.Ends.{part-rest}
+use Rattle.walk.proofs.Ends.{part-to-end}
 use Rattle.model.proofs.Main.{demand-2-walk}
 use borrow.Author.Needs.{needs}
 use Rattle.walk.proofs.walk.Statement.{statement}
@@ -38,7 +38,7 @@ returns c =
     let a = at-walk .before .before .before .before .before .before .before .args in
     let h = at-walk .walk-table .ensures in
     let f = at-put .put-figures .ensures ∙ ap walkFigures (h .answer) in (
-      record { figures = f; rest = part-rest (a .list .now) (at-walk .walk-table .result .from) ∙ h .rest; pile = h .pile; scratch = h .scratch },
+      record { figures = f; rest = part-to-end (a .list .now) (at-walk .walk-table .result .from) ∙ h .rest; pile = h .pile; scratch = h .scratch },
       rw (f, h .pile) (demand-2-walk (a .table .now) (a .list .now) (a .pile .now) (a .scratch .now)),
     )
 

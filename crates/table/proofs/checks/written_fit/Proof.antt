@@ -2,7 +2,7 @@ use mathlib.Core.Path.{_≡_, sym, _∙_}
 use lib.ListN.{drop}
 use borrow.Author.Needs.{needs}
 use Rattle.model.specs.Tables.{byteOf}
-use Rattle.table.proofs.Scans.{part-front, part-rest}
+use Rattle.table.proofs.Scans.{part-front, part-behind}
 use Rattle.table.proofs.Values.{written-0, written-1, written-2}
 use Rattle.table.proofs.checks.written_fit.Statement.{statement}
 use Rattle.table.proofs.checks.written_fit.Tie as tie
@@ -56,7 +56,7 @@ returns-3 : tie.Need-returns-3
 returns-3 c =
     let l = c .before .before .before .before .before .before .before .before .before .args .body .now in
     let n : c .before .before .before .before .before .before .wide .result ≡ byteOf l 9 = c .before .before .before .before .before .before .wide .ensures .0 in
-    sym (rw (← n) (written-2 (c .before .before .before .before .before .before .before .before .before .args .letters) (c .before .before .before .before .before .before .wide .result) (drop 10 l) (c .before .before .before .before .before .if1 .left) (rw (← (part-front l 10 (c .before .before .before .before .before .before .wide .result))) (sym (c .before .before .before .are-letters .ensures) ∙ c .before .before .if2 .taken)) ∙ rw (← (part-rest l 10 (c .before .before .before .before .before .before .wide .result))) (sym (c .are-spare .ensures))))
+    sym (rw (← n) (written-2 (c .before .before .before .before .before .before .before .before .before .args .letters) (c .before .before .before .before .before .before .wide .result) (drop 10 l) (c .before .before .before .before .before .if1 .left) (rw (← (part-front l 10 (c .before .before .before .before .before .before .wide .result))) (sym (c .before .before .before .are-letters .ensures) ∙ c .before .before .if2 .taken)) ∙ rw (← (part-behind l 10 (c .before .before .before .before .before .before .wide .result))) (sym (c .are-spare .ensures))))
 
 pub written-fit-spec : {M : Type 1} → statement M
 written-fit-spec =

@@ -1,0 +1,69 @@
+use Prim.Native.Nat.{_-_}
+use Rattle.automaton.proofs.StateSets.{Counting, counting-end, counting-start, counting-turn}
+use native.Mathlib.Omega.{arith}
+use lib.ListN.{length, length-set}
+use borrow.Author.Needs.{needs}
+use Rattle.automaton.proofs.sets.count_equal.Statement.{statement}
+use Rattle.automaton.proofs.sets.count_equal.Tie as tie
+use Rattle.automaton.proofs.sets.count_equal.Reads as reads
+use Rattle.automaton.proofs.sets.count_equal.Lts as lts
+use Rattle.automaton.proofs.sets.one_if_equal.Reads as one-if-equal-reads
+
+abbrev Inv-loop : tie.InvT-loop
+Inv-loop bytes at n x m₀ i₀ m i =
+    Counting bytes at n x m i
+
+abbrev μ-loop : tie.MeasureT-loop
+μ-loop bytes at n x m₀ i₀ m i =
+    n - i
+
+loop-holds : tie.Need-loop-holds Inv-loop μ-loop
+loop-holds c =
+    let a = c .before .args in counting-start (a .bytes .now) (a .at) (a .n) (a .x)
+
+add-one-if-equal : tie.Need-add-one-if-equal Inv-loop μ-loop
+add-one-if-equal c = omega arith
+
+shared-slice-read-one-if-equal : tie.Need-shared-slice-read-one-if-equal Inv-loop μ-loop
+shared-slice-read-one-if-equal c = omega arith
+
+one-if-equal-requires : tie.Need-one-if-equal-requires Inv-loop μ-loop
+one-if-equal-requires c κs =
+    search needs
+
+add-m : tie.Need-add-m Inv-loop μ-loop
+add-m c = omega arith
+
+add-i : tie.Need-add-i Inv-loop μ-loop
+add-i c = omega arith
+
+loop-less : tie.Need-loop-less Inv-loop μ-loop
+loop-less c = omega arith
+
+loop-again : tie.Need-loop-again Inv-loop μ-loop
+loop-again c =
+    let a = c .before .before .before .before .before .args in
+    let t = c .before .before .before .loop in
+    counting-turn (a .bytes .now) (a .at) (a .n) (a .x) (t .m) (t .i) _ (c .before .before .loop-test .taken) (c .one-if-equal .ensures .0) (c .one-if-equal .ensures .1) (t .inv)
+
+returns : tie.Need-returns Inv-loop μ-loop
+returns c =
+    let a = c .before .before .before .args in
+    let t = c .before .loop in
+    counting-end (a .bytes .now) (a .at) (a .n) (a .x) (t .m) (t .i) (c .loop-test .left) (t .inv)
+
+pub count-equal-spec : {M : Type 1} → statement M
+count-equal-spec =
+    tie.close
+    (tie.spec
+    Inv-loop
+    μ-loop
+    loop-holds
+    add-one-if-equal
+    shared-slice-read-one-if-equal
+    one-if-equal-requires
+    add-m
+    add-i
+    loop-less
+    loop-again
+    returns)

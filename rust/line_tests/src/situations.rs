@@ -1,0 +1,41 @@
+//! The situations that the comparison is for: all of them must be met.
+
+use comparison::Demand;
+
+pub const REACHABLE: &str = "reachable";
+pub const UNREACHABLE: &str = "unreachable";
+pub const EMPTY_RUN: &str = "runs of no step";
+pub const FULL_PAGE: &str = "runs of 10,000 steps, as many as the page holds";
+pub const PAST_PAGE: &str = "runs of 10,001 steps";
+pub const PAST_CAP: &str = "runs above 1,000,000 steps";
+pub const FULL_LOG: &str = "limits of 2,000 records, as many as the log holds";
+pub const PAST_LOG: &str = "limits of 2,001 records";
+pub const EMPTY_INPUT: &str = "inputs of no byte";
+pub const LONG_INPUT: &str = "inputs longer than the buffer of line";
+pub const RUN_REFUSED: &str = "run refused 11";
+
+const OTHERS: [&str; 11] = [
+    REACHABLE,
+    UNREACHABLE,
+    EMPTY_RUN,
+    FULL_PAGE,
+    PAST_PAGE,
+    PAST_CAP,
+    FULL_LOG,
+    PAST_LOG,
+    EMPTY_INPUT,
+    LONG_INPUT,
+    RUN_REFUSED,
+];
+
+/// A whole table refused.
+pub fn refused(number: u8) -> String {
+    format!("refused {number}")
+}
+
+/// Every situation that must be met. Refusals 15 and 16 cannot be: the scratch of `line` is long
+/// enough, and it asks for a run where there is one. Refusals 12 to 14 belong to the walk.
+pub fn all() -> Vec<Demand> {
+    let refusals = (1..=10).map(|number| Demand::once(refused(number)));
+    refusals.chain(OTHERS.map(Demand::once)).collect()
+}
