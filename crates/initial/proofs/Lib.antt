@@ -1,1 +1,3 @@
-pub mod Selecting
+pub mod KeyCodes
+pub mod RoundZero
+pub mod Writing

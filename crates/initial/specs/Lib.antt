@@ -1,1 +1,1 @@
-pub mod Selecting
+pub mod Initial

@@ -25,13 +25,14 @@ use Rattle.saturate.specs.declared.Saturated.the-variants.{Limit}
 use Rattle.saturate.specs.declared.Saturated.the-variants as Saturated
 use Rattle.table.specs.declared.Table.{Table}
 use Rattle.saturate.specs.Limits.{Logged, RoundBegins, RoundCounted, RoundDone, SaturatedDone, SaturatedFull, SaturatedLimit, countOrOver}
-use Rattle.initial.specs.Selecting.{initialLog, withInitial}
+use Rattle.sorting.specs.Sorting.{keyPlace}
+use Rattle.initial.specs.Initial.{codesAt, initialLog, withInitial}
 use Rattle.table.specs.Reading.{Holds, itemsIn, systemIn}
 use Rattle.logs.proofs.Rules.{transitions-distinct}
 use Rattle.model.proofs.RecordBytes.{length-log}
-use Rattle.initial.proofs.Selecting.{initial-length}
+use Rattle.initial.proofs.RoundZero.{initial-length}
 use Rattle.table.proofs.Readings.{holds-complete}
-use Rattle.table.proofs.Layouts.{transitions-count}
+use Rattle.table.proofs.Layouts.{table-modest, transitions-count}
 
 pub counted-within : (table : List ℕ) (n round : ℕ) (log s : List ℕ) (added : Added) (log′ s′ : List ℕ) (r : ℕ) → r ≡ countOrOver added n → RoundDone table n round log s added log′ s′ → RoundCounted table n round log s r log′ s′
 unfolding countOrOver
@@ -178,36 +179,41 @@ module _ (table : List ℕ) (t : Table) (n : ℕ) (holds : Holds table t) where
   initial-size : length (logAt (systemIn table) 0) ≡ t .transitions
   initial-size = initial-length (systemIn table) (transitions-distinct table t holds) ∙ transitions-count table t holds
 
-  pub initial-full : (log s log′ : List ℕ) → n < t .transitions → log′ ≡ initialLog (systemIn table) log (t .transitions) n → SaturatedFull table n log s log′ s
-  initial-full log s log′ h e = record {
-    over = omega (arith, initial-size, limit-longest (systemIn table) (holds-bytes table t holds) 0);
-    log-length = ap length (e ∙ (let q : initialLog (systemIn table) log (t .transitions) n ≡ log = rw (lt-ltb n (t .transitions) h) in q));
-    scratch-length = refl;
-  }
+  -- the codes of the transitions have room
+  pub codes-room : (s : List ℕ) → 34000 + 4 * n ≤ length s → keyPlace codesAt (t .transitions + t .transitions) ≤ length s
+  codes-room s scratch = omega (arith, table-modest table t holds .transitions)
 
-  module _ (log s log′ : List ℕ) (few : t .transitions ≤ n) (short : n ≤ 65535) (room : n * recordLength ≤ length log) (scratch : 34000 + 4 * n ≤ length s) (e : log′ ≡ initialLog (systemIn table) log (t .transitions) n) where
-    written-is : log′ ≡ logBytes (logAt (systemIn table) 0) ++ drop (t .transitions * recordLength) log
-    written-is = e ∙ (let q : initialLog (systemIn table) log (t .transitions) n ≡ withInitial (systemIn table) log (t .transitions) = rw (le-ltb n (t .transitions) few) in q)
-
-    bytes-long : length (logBytes (logAt (systemIn table) 0)) ≡ t .transitions * recordLength
-    bytes-long = length-log (logAt (systemIn table) 0) ∙ ap (λ (k : ℕ). k * recordLength) initial-size
-
-    pub initial-kept : length log′ ≡ length log
-    initial-kept = ap length written-is ∙ length-append (logBytes (logAt (systemIn table) 0)) (drop (t .transitions * recordLength) log) ∙ omega (arith, bytes-long, length-drop (t .transitions * recordLength) log)
-
-    pub initial-begins : RoundBegins table t (t .transitions) n 1 log′ s
-    initial-begins = record {
-      holds = holds;
-      begun = omega arith;
-      late = omega arith;
-      logged = record { size = sym initial-size; bytes = ap (take (t .transitions * recordLength)) written-is ∙ take-at (logBytes (logAt (systemIn table) 0)) (drop (t .transitions * recordLength) log) (t .transitions * recordLength) bytes-long };
-      fits = few;
-      short = short;
-      room = omega (arith, initial-kept);
-      scratch = scratch;
+  module _ (log s log′ s′ : List ℕ) (kept : length s′ ≡ length s) (e : log′ ≡ initialLog (systemIn table) log (t .transitions) n) where
+    pub initial-full : n < t .transitions → SaturatedFull table n log s log′ s′
+    initial-full h = record {
+      over = omega (arith, initial-size, limit-longest (systemIn table) (holds-bytes table t holds) 0);
+      log-length = ap length (e ∙ (let q : initialLog (systemIn table) log (t .transitions) n ≡ log = rw (lt-ltb n (t .transitions) h) in q));
+      scratch-length = kept;
     }
 
--- what a call that goes on from these buffers leaves
-pub saturated-before : (table : List ℕ) (n : ℕ) (log s log′ : List ℕ) (r : Saturated) (log″ s″ : List ℕ) → length log′ ≡ length log → SaturatedDone table n log′ s r log″ s″ → SaturatedDone table n log s r log″ s″
-saturated-before table n log s log′ (Limit c k) log″ s″ l d = record { logged = d .logged; last-round = d .last-round; fits = d .fits; log-length = d .log-length ∙ l; scratch-length = d .scratch-length }
-saturated-before table n log s log′ Saturated.Full log″ s″ l d = record { over = d .over; log-length = d .log-length ∙ l; scratch-length = d .scratch-length }
+    module _ (few : t .transitions ≤ n) (short : n ≤ 65535) (room : n * recordLength ≤ length log) (scratch : 34000 + 4 * n ≤ length s) where
+      written-is : log′ ≡ logBytes (logAt (systemIn table) 0) ++ drop (t .transitions * recordLength) log
+      written-is = e ∙ (let q : initialLog (systemIn table) log (t .transitions) n ≡ withInitial (systemIn table) log (t .transitions) = rw (le-ltb n (t .transitions) few) in q)
+
+      bytes-long : length (logBytes (logAt (systemIn table) 0)) ≡ t .transitions * recordLength
+      bytes-long = length-log (logAt (systemIn table) 0) ∙ ap (λ (k : ℕ). k * recordLength) initial-size
+
+      log-kept : length log′ ≡ length log
+      log-kept = ap length written-is ∙ length-append (logBytes (logAt (systemIn table) 0)) (drop (t .transitions * recordLength) log) ∙ omega (arith, bytes-long, length-drop (t .transitions * recordLength) log)
+
+      pub initial-begins : RoundBegins table t (t .transitions) n 1 log′ s′
+      initial-begins = record {
+        holds = holds;
+        begun = omega arith;
+        late = omega arith;
+        logged = record { size = sym initial-size; bytes = ap (take (t .transitions * recordLength)) written-is ∙ take-at (logBytes (logAt (systemIn table) 0)) (drop (t .transitions * recordLength) log) (t .transitions * recordLength) bytes-long };
+        fits = few;
+        short = short;
+        room = omega (arith, log-kept);
+        scratch = omega (arith, kept);
+      }
+
+      -- what a call that goes on from these buffers leaves
+      pub saturated-all : (r : Saturated) (log″ s″ : List ℕ) → SaturatedDone table n log′ s′ r log″ s″ → SaturatedDone table n log s r log″ s″
+      saturated-all (Limit c k) log″ s″ d = record { logged = d .logged; last-round = d .last-round; fits = d .fits; log-length = d .log-length ∙ log-kept; scratch-length = d .scratch-length ∙ kept }
+      saturated-all Saturated.Full log″ s″ d = record { over = d .over; log-length = d .log-length ∙ log-kept; scratch-length = d .scratch-length ∙ kept }

@@ -83,7 +83,7 @@ pub fn saturate(table: &[u8], t: Table, log: &mut [u8], scratch: &mut [u8], n: u
     requires { ⌜ Holds (now table) t × (n ≤ 65535) × (n * recordLength ≤ length (now log)) × (34000 + 4 * n ≤ length (now scratch)) ⌝ }
     ensures { λ r. ⌜ SaturatedDone (now (table .entry)) n (now (log .entry)) (now (scratch .entry)) r (now (log .exit)) (now (scratch .exit)) ⌝ }
 {
-    if !write_initial(table, t, log, n) {
+    if !write_initial(table, t, log, scratch, n) {
         return Saturated::Full;
     }
     add_rounds(table, t, log, scratch, n)

@@ -1,63 +1,59 @@
-use mathlib.Core.Path.{_≡_, refl, sym, ap, _∙_}
-use mathlib.Core.Bool.{not}
+use mathlib.Core.Path.{sym, _∙_}
+use borrow.Author.Needs.{needs}
 use borrow.Author.Tests.{ltb-true, ltb-false}
 use Rattle.model.proofs.Tests.{not-true, not-false}
-use Rattle.saturate.proofs.Saturating.{initial-full, initial-kept, initial-begins, saturated-before}
-use native.Mathlib.Omega.{arith}
-use lib.ListN.{length, length-set}
-use borrow.Author.Needs.{needs}
+use Rattle.saturate.proofs.Saturating.{codes-room, initial-full, initial-begins, saturated-all}
 use Rattle.saturate.proofs.saturate.Statement.{statement}
 use Rattle.saturate.proofs.saturate.Tie as tie
-use Rattle.saturate.proofs.saturate.Reads as reads
-use Rattle.saturate.proofs.saturate.Lts as lts
-use Rattle.saturate.proofs.add_rounds.Reads as add-rounds-reads
-use Rattle.initial.proofs.write_initial.Reads as write-initial-reads
 
--- src/lib.rt:82:9
 write-initial-requires : tie.Need-write-initial-requires
-write-initial-requires c κs = search needs
+write-initial-requires c κs =
+    let entry = c .before .before .before .before .before in
+    let a = entry .args in
+    let p = entry .pre in
+    (p .0, p .2, codes-room (a .table .now) (a .t) (a .n) (p .0) (a .scratch .now) (p .3))
 
--- src/lib.rt:83:9
-same-length : tie.Need-same-length
-same-length c = search needs
-
--- src/lib.rt:83:9
 returns : tie.Need-returns
 returns c =
-    let a = c .before .before .before .before .before .before .before .before .args in
-    let p = c .before .before .before .before .before .before .before .before .pre in
-    initial-full (a .table .now) (a .t) (a .n) (p .0) (a .log .now) (a .scratch .now) _ (ltb-true (a .n) (a .t .transitions) (not-false _ (sym (c .before .before .before .write-initial .ensures .0) ∙ not-true _ (c .if1 .taken)))) (c .before .before .before .write-initial .ensures .1)
+    let at-write = c .before .before .before .before .before in
+    let entry = at-write .before .before .before .before .before .before in
+    let a = entry .args in
+    let written = at-write .write-initial .ensures in
+    let over = ltb-true (a .n) (a .t .transitions) (not-false _ (sym (written .0) ∙ not-true _ (c .if1 .taken))) in
+    initial-full (a .table .now) (a .t) (a .n) (entry .pre .0) (a .log .now) (a .scratch .now) _ _ (written .1 .1) (written .1 .0) over
 
--- src/lib.rt:85:5
 add-rounds-requires : tie.Need-add-rounds-requires
 add-rounds-requires c κs =
-    let a = c .before .before .before .before .before .before .before .before .before .before .args in
-    let p = c .before .before .before .before .before .before .before .before .before .before .pre in
-    initial-begins (a .table .now) (a .t) (a .n) (p .0) (a .log .now) (a .scratch .now) _ (ltb-false (a .n) (a .t .transitions) (not-true _ (sym (c .before .before .before .before .before .write-initial .ensures .0) ∙ not-false _ (c .before .before .if1 .left)))) (p .1) (p .2) (p .3) (c .before .before .before .before .before .write-initial .ensures .1)
+    let at-test = c .before .before in
+    let at-write = at-test .before .before .before .before .before in
+    let entry = at-write .before .before .before .before .before .before in
+    let a = entry .args in
+    let p = entry .pre in
+    let written = at-write .write-initial .ensures in
+    let few = ltb-false (a .n) (a .t .transitions) (not-true _ (sym (written .0) ∙ not-false _ (at-test .if1 .left))) in
+    initial-begins (a .table .now) (a .t) (a .n) (p .0) (a .log .now) (a .scratch .now) _ _ (written .1 .1) (written .1 .0) few (p .1) (p .2) (p .3)
 
--- src/lib.rt:78:1
-same-length-2 : tie.Need-same-length-2
-same-length-2 c = search needs
-
--- src/lib.rt:78:1
-same-length-3 : tie.Need-same-length-3
-same-length-3 c = search needs
-
--- src/lib.rt:78:1
 returns-2 : tie.Need-returns-2
 returns-2 c =
-    let a = c .before .before .before .before .before .before .before .before .before .before .before .before .before .before .before .args in
-    let p = c .before .before .before .before .before .before .before .before .before .before .before .before .before .before .before .pre in
-    saturated-before (a .table .now) (a .n) (a .log .now) (a .scratch .now) (c .before .before .before .before .before .before .before .before .before .before .write-initial .last .1 .1 .0) (c .before .before .before .before .add-rounds .result) (c .before .before .before .before .add-rounds .last .1 .1 .0) (c .before .before .before .before .add-rounds .last .1 .1 .1 .0) (initial-kept (a .table .now) (a .t) (a .n) (p .0) (a .log .now) (a .scratch .now) _ (ltb-false (a .n) (a .t .transitions) (not-true _ (sym (c .before .before .before .before .before .before .before .before .before .before .write-initial .ensures .0) ∙ not-false _ (c .before .before .before .before .before .before .before .if1 .left)))) (p .1) (p .2) (p .3) (c .before .before .before .before .before .before .before .before .before .before .write-initial .ensures .1)) (c .before .before .before .before .add-rounds .ensures)
+    let at-rounds = c .before .before .before .before in
+    let at-test = at-rounds .before .before .before in
+    let at-write = at-test .before .before .before .before .before in
+    let entry = at-write .before .before .before .before .before .before in
+    let a = entry .args in
+    let p = entry .pre in
+    let written = at-write .write-initial .ensures in
+    let few = ltb-false (a .n) (a .t .transitions) (not-true _ (sym (written .0) ∙ not-false _ (at-test .if1 .left))) in
+    saturated-all (a .table .now) (a .t) (a .n) (p .0) (a .log .now) (a .scratch .now) _ _ (written .1 .1) (written .1 .0) few (p .1) (p .2) (p .3) (at-rounds .add-rounds .result) _ _ (at-rounds .add-rounds .ensures)
 
 pub saturate-spec : {M : Type 1} → statement M
 saturate-spec =
     tie.close
     (tie.spec
     write-initial-requires
-    same-length
+    (λ c. search needs)
+    (λ c. search needs)
     returns
     add-rounds-requires
-    same-length-2
-    same-length-3
+    (λ c. search needs)
+    (λ c. search needs)
     returns-2)

@@ -1,0 +1,3 @@
+pub mod RegionLaws
+pub mod RuleOrder
+pub mod WriterSets

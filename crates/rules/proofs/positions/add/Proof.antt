@@ -1,0 +1,71 @@
+use Prim.Native.Nat.{_-_, _≤_}
+use native.Mathlib.Omega.{arith}
+use Rattle.rules.specs.Regions.{BytesWritten, setBytes}
+use Rattle.rules.proofs.RegionLaws.{bytes-all, bytes-more, bytes-none, set-added, sum-kept, sumByte}
+use Rattle.rules.proofs.positions.add.Statement.{statement}
+use Rattle.rules.proofs.positions.add.Tie as tie
+
+abbrev Inv-loop : tie.InvT-loop
+Inv-loop s₀ from to i₀ s i = (i ≤ setBytes) × BytesWritten to (sumByte s₀ from to) i s₀ s
+
+abbrev μ-loop : tie.MeasureT-loop
+μ-loop s₀ from to i₀ s i = setBytes - i
+
+loop-holds : tie.Need-loop-holds Inv-loop μ-loop
+loop-holds c = let a = c .args in (omega arith, bytes-none (a .to) (sumByte (a .s .now) (a .from) (a .to)) (a .s .now))
+
+slice-read-s : tie.Need-slice-read-s Inv-loop μ-loop
+slice-read-s c =
+    let at-loop = c .before .before in
+    omega (arith, c .before .loop-test .taken, at-loop .loop .inv .1 .kept .size, at-loop .before .pre .0, at-loop .before .pre .1)
+
+slice-read-s-2 : tie.Need-slice-read-s-2 Inv-loop μ-loop
+slice-read-s-2 c =
+    let at-loop = c .before .before .before in
+    omega (arith, c .before .before .loop-test .taken, at-loop .loop .inv .1 .kept .size, at-loop .before .pre .1)
+
+slice-write-s : tie.Need-slice-write-s Inv-loop μ-loop
+slice-write-s c =
+    let at-loop = c .before .before .before in
+    omega (arith, c .before .before .loop-test .taken, at-loop .loop .inv .1 .kept .size, at-loop .before .pre .0, at-loop .before .pre .1)
+
+loop-again : tie.Need-loop-again Inv-loop μ-loop
+loop-again c =
+    let inside = c .before .before .loop-test .taken in
+    let at-loop = c .before .before .before in
+    let entry = at-loop .before in
+    let a = entry .args in
+    let l = at-loop .loop in (
+      omega (arith, inside),
+      bytes-more (a .to) (sumByte (a .s .now) (a .from) (a .to)) (l .i) (a .s .now) (l .s) (l .inv .1) (omega (arith, inside, l .inv .1 .kept .size, entry .pre .0, entry .pre .1)) (sumByte (l .s) (a .from) (a .to) (l .i))
+          (sum-kept (a .from) (a .to) (l .i) (a .s .now) (l .s) (entry .pre .0) (l .inv .1) inside),
+    )
+
+same-length : tie.Need-same-length Inv-loop μ-loop
+same-length c = c .before .loop .inv .1 .kept .size
+
+returns : tie.Need-returns Inv-loop μ-loop
+returns c =
+    let at-loop = c .before in
+    let a = at-loop .before .args in
+    let all = bytes-all (a .to) (sumByte (a .s .now) (a .from) (a .to)) (at-loop .loop .i) setBytes (a .s .now) (at-loop .loop .s) (at-loop .loop .inv .0) (c .loop-test .left) (at-loop .loop .inv .1) in
+    set-added (a .from) (a .to) (a .s .now) (at-loop .loop .s) all
+
+pub add-spec : {M : Type 1} → statement M
+add-spec =
+    tie.close
+    (tie.spec
+    Inv-loop
+    μ-loop
+    loop-holds
+    (λ c. omega arith)
+    slice-read-s
+    (λ c. omega arith)
+    slice-read-s-2
+    (λ c. omega arith)
+    slice-write-s
+    (λ c. omega arith)
+    (λ c. omega arith)
+    loop-again
+    same-length
+    returns)

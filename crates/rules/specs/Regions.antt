@@ -1,0 +1,44 @@
+-- Parts of the scratch: bytes written one after the other, and sets of positions.
+use mathlib.Core.Path.{_≡_}
+use mathlib.Core.Bool.{Bool, _||_}
+use mathlib.Core.Logic.{_⊎_}
+use mathlib.Core.List.{List}
+use Prim.Native.Nat.{ℕ, _+_, _/_, _%_, _^_, _<_, _≤_}
+use lib.Bits.{bitOr}
+use lib.ListN.{drop, getD, length, set}
+use Rattle.automaton.specs.StateSets.{member}
+
+-- byte i is none of the n bytes from `at` on
+abbrev pub Outside : ℕ → ℕ → ℕ → Type 0
+Outside at n i = (i < at) ⊎ (at + n ≤ i)
+
+-- only these n bytes may have changed
+pub record KeptOutside (at n : ℕ) (s t : List ℕ) : Type 0 where
+  pub size : length t ≡ length s
+  pub outside : (i : ℕ) → Outside at n i → getD t i 0 ≡ getD s i 0
+
+-- these n bytes have been written
+pub record BytesWritten (at : ℕ) (byte : ℕ → ℕ) (n : ℕ) (s t : List ℕ) : Type 0 where
+  pub kept : KeptOutside at n s t
+  pub bytes : (j : ℕ) → j < n → getD t (at + j) 0 ≡ byte j
+
+-- ---- sets of positions
+-- a set has 32 bytes, so 256 positions
+abbrev pub setBytes : ℕ
+setBytes = 32
+
+abbrev pub positionCeiling : ℕ
+positionCeiling = 256
+
+-- position p is in the set that begins at a byte
+unfoldable pub inSet : List ℕ → ℕ → ℕ → Bool
+inSet s at p = member (drop at s) p
+
+-- the bytes with p in that set
+unfoldable pub withPosition : List ℕ → ℕ → ℕ → List ℕ
+withPosition s at p = set s (at + p / 8) (bitOr (getD s (at + p / 8) 0) (2 ^ (p % 8)))
+
+-- the set at `to` has got the positions of that at `from`
+pub record SetAdded (from to : ℕ) (s t : List ℕ) : Type 0 where
+  pub kept : KeptOutside to setBytes s t
+  pub positions : (p : ℕ) → p < positionCeiling → inSet t to p ≡ inSet s to p || inSet s from p
