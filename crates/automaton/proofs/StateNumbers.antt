@@ -20,7 +20,7 @@ unfolding stateNumber
 stateNumber-below g = omega arith
 
 -- the bits of a process in the number of a group
-digit-number : (g : Group) (i : Process) → digit (stateNumber g) i ≡ at g i % 8
+pub digit-number : (g : Group) (i : Process) → digit (stateNumber g) i ≡ at g i % 8
 unfolding stateNumber
 digit-number g p0 = omega arith
 digit-number g p1 = omega arith
@@ -55,7 +55,7 @@ numbered-over L n = record {
     digit-below p3 = omega arith
 
 -- a number is made of its bits
-digits-number : (n : ℕ) → n < stateCount → digit n p0 * 512 + digit n p1 * 64 + digit n p2 * 8 + digit n p3 ≡ n
+pub digits-number : (n : ℕ) → n < stateCount → digit n p0 * 512 + digit n p1 * 64 + digit n p2 * 8 + digit n p3 ≡ n
 digits-number n h = rw (← div-div-eq-div-mul n 64 8, ← div-div-eq-div-mul n 8 8) (whole (n / 8) (n / 8 / 8) (n / 8 / 8 / 8) refl refl refl)
   where
     whole : (x y z : ℕ) → x ≡ n / 8 → y ≡ x / 8 → z ≡ y / 8 → z % 8 * 512 + y % 8 * 64 + x % 8 * 8 + n % 8 ≡ n

@@ -7,14 +7,14 @@ use native.Mathlib.Decide.{ℕ-discrete, decLt}
 use native.Mathlib.Nat.{div-eq-of-lt, lt-trans}
 use native.Mathlib.Omega.{arith}
 use lib.Dec.{eqb, ltb, leb}
-use lib.ListN.{length, getD}
+use lib.ListN.{length, getD, drop, List·getD-eq-default}
 use lib.Pow.{pow-lt}
-use borrow.Author.Tests.{eqb-true, eq-eqb, ltb-true, leb-true, lt-ltb}
+use borrow.Author.Tests.{eqb-true, eq-eqb, ltb-true, ltb-false, leb-true, lt-ltb}
 use Rattle.model.specs.declared.Group.{Group}
 use Rattle.model.specs.Automata.{Transition}
 use Rattle.model.specs.Groups.{Process, Processes, p0, p1, p2, p3, at, has, processesOf, Within, merge}
 use Rattle.model.specs.Lists.{Each}
-use Rattle.model.specs.Log.{Record, recordAt, limit, saturatedAt}
+use Rattle.model.specs.Log.{Record, recordAt, keys, limit, saturatedAt}
 use Rattle.model.specs.Systems.{Rule}
 use Rattle.model.specs.Tables.{Item, bodies, byteOf, numberOf, absent, controlsOf, statesOf, present, locOf, ruleOf, transitionOf, groupOf, groupFits, valueFits, systemOf}
 use Rattle.model.proofs.Bounds.{Below, Bounded, log-below}
@@ -27,10 +27,11 @@ use Rattle.model.proofs.Tests.{by-test, and-left, and-right, cond-less}
 use Rattle.model.proofs.Validity.{each-at}
 use Rattle.automaton.specs.StateNumbers.{Over}
 use Rattle.table.specs.declared.Table.{Table}
-use Rattle.table.specs.Reading.{Holds, itemsIn, systemIn, pileIn}
+use Rattle.table.specs.Reading.{Holds, itemsIn, systemIn, pileIn, statesIn}
 use Rattle.table.proofs.Layouts.{count-in, loc-in, bits-in, pile-letter-in}
 use Rattle.table.proofs.Readings.{holds-complete}
-use Rattle.start.specs.RestSets.{firstProcesses, processesOfTable}
+use Rattle.start.specs.RestSets.{firstProcesses, processesOfTable, acceptsFrom}
+use Rattle.start.proofs.Sources.{From, Rooted, log-from, accepts-from}
 
 -- ---- sets of processes as bits
 bit-inside : (b n k : ℕ) → b < 2 ^ n → eqb (b / 2 ^ k % 2) 1 ≡ true → ltb k n ≡ true
@@ -55,6 +56,12 @@ first-has n p1 m = ltb-true 1 n m
 first-has n p2 m = ltb-true 2 n m
 first-has n p3 m = ltb-true 3 n m
 
+first-lacks : (n : ℕ) (i : Process) → has (firstProcesses n) i ≡ false → n ≤ numberOf i
+first-lacks n p0 m = ltb-false 0 n m
+first-lacks n p1 m = ltb-false 1 n m
+first-lacks n p2 m = ltb-false 2 n m
+first-lacks n p3 m = ltb-false 3 n m
+
 -- ---- groups of a set of processes
 over-fits : (L : Processes) (bound : Process → ℕ) (g : Group) → ((i : Process) → has L i ≡ true → bound i ≤ 8) → groupFits L bound g ≡ true → Over L g
 over-fits L bound g small e = record {
@@ -72,7 +79,16 @@ over-merge L M x g within below o = record {
     clash i m y = let e : true ≡ false = sym (within i y) ∙ m in true≢false e
 
 -- ---- the table
+-- a process has at least one state, at most 8, and no more control states than states
+record Ranged (body : List ℕ) : Type 0 where
+  some : 0 < byteOf body 1
+  small : byteOf body 1 ≤ 8
+  controls : byteOf body 0 ≤ byteOf body 1
+
 pub record Grounds (table : List ℕ) (t : Table) : Type 0 where
+  pub states : (i : Process) → has (processesOfTable t) i ≡ true → (0 < statesIn table i) × (statesIn table i ≤ 8)
+  pub lacking : (i : Process) → has (processesOfTable t) i ≡ false → statesIn table i ≡ 256
+  pub accepted : (k : ℕ) (g : Group) → acceptsFrom table k g ≡ true → (i : Process) → at g i < statesIn table i
   pub letters : (i : ℕ) → i < t .pile → Within (systemIn table .loc (pileIn table i)) (processesOfTable t)
   pub below : (r : ℕ) → r < length (limit (systemIn table)) → Below (systemIn table .loc) (λ (i : Process). 8) (recordAt (limit (systemIn table)) r .key)
   pub start : Over (processesOfTable t) (systemIn table .start .states)
@@ -94,20 +110,27 @@ module _ (table : List ℕ) (t : Table) (h : Holds table t) where
   processes-are : present (bodies 1 (itemsIn table)) ≡ processesOfTable t
   processes-are = ap firstProcesses (count-in table t h 1 (omega arith))
 
-  -- at most 8 states
-  bodies-small : Each (λ (body : List ℕ). byteOf body 0 ≤ 8 × byteOf body 1 ≤ 8) (bodies 1 (itemsIn table))
+  bodies-ranged : Each Ranged (bodies 1 (itemsIn table))
   unfolding valueFits
-  bodies-small = each-of-kind 1 (λ items body. byteOf body 0 ≤ 8 × byteOf body 1 ≤ 8) (λ items x body l q. q) bound (complete .checked)
+  bodies-ranged = each-of-kind 1 (λ items. Ranged) (λ items x body l q. q) ranged (complete .checked)
     where
-      bound : (items : List Item) (body : List ℕ) → Passes items 1 body → byteOf body 0 ≤ 8 × byteOf body 1 ≤ 8
-      bound items body p =
-          let small : byteOf body 1 ≤ 8 = leb-true (byteOf body 1) 8 (and-right (leb 1 (byteOf body 0) && leb (byteOf body 0) (byteOf body 1)) (leb (byteOf body 1) 8) (p .fits)) in
-          let less : byteOf body 0 ≤ byteOf body 1 =
-          leb-true (byteOf body 0) (byteOf body 1) (and-right (leb 1 (byteOf body 0)) (leb (byteOf body 0) (byteOf body 1)) (and-left (leb 1 (byteOf body 0) && leb (byteOf body 0) (byteOf body 1)) (leb (byteOf body 1) 8) (p .fits))) in
-          (omega arith, small)
+      ranged : (items : List Item) (body : List ℕ) → Passes items 1 body → Ranged body
+      ranged items body p =
+          let a = leb 1 (byteOf body 0) in
+          let b = leb (byteOf body 0) (byteOf body 1) in
+          let c = leb (byteOf body 1) 8 in
+          let some : 1 ≤ byteOf body 0 = leb-true 1 (byteOf body 0) (and-left a b (and-left (a && b) c (p .fits))) in
+          let less : byteOf body 0 ≤ byteOf body 1 = leb-true (byteOf body 0) (byteOf body 1) (and-right a b (and-left (a && b) c (p .fits))) in
+          record { some = omega arith; small = leb-true (byteOf body 1) 8 (and-right (a && b) c (p .fits)); controls = less }
+
+  ranged-at : (i : Process) → has (present (bodies 1 (itemsIn table))) i ≡ true → Ranged (getD (bodies 1 (itemsIn table)) (numberOf i) absent)
+  ranged-at i m = each-get Ranged (getD ps (numberOf i) absent) ps bodies-ranged (getD-mem ps (numberOf i) absent (first-has (length ps) i m))
 
   bound-small : (i : Process) → has (present (bodies 1 (itemsIn table))) i ≡ true → (controlsOf (bodies 1 (itemsIn table)) i ≤ 8) × (statesOf (bodies 1 (itemsIn table)) i ≤ 8)
-  bound-small i m = each-get (λ (body : List ℕ). byteOf body 0 ≤ 8 × byteOf body 1 ≤ 8) (getD ps (numberOf i) absent) ps bodies-small (getD-mem ps (numberOf i) absent (first-has (length ps) i m))
+  bound-small i m = let r = ranged-at i m in (omega (arith, r .small, r .controls), r .small)
+
+  lacks : (i : Process) → has (present (bodies 1 (itemsIn table))) i ≡ false → statesIn table i ≡ 256
+  lacks i m = ap (λ (body : List ℕ). byteOf body 1) (List·getD-eq-default ps absent {n = numberOf i} (first-lacks (length ps) i m))
 
   -- the processes of a letter are processes of the table
   loc-within : (a : ℕ) → a < t .letters → Within (systemIn table .loc a) (processesOfTable t)
@@ -137,6 +160,34 @@ module _ (table : List ℕ) (t : Table) (h : Holds table t) where
         (λ body f. below-8 (statesOf ps) (λ i m. bound-small i m .1) (transitionOf body) (f .fits)) (bodies 4 items) (transitions-fit (complete .checked)))) m;
   }
 
+  rooted : Rooted (systemIn table) (statesIn table)
+  unfolding systemIn systemOf
+  rooted = record {
+    rules = λ n r is. each-elem (λ (r : Rule). ControlOn (statesIn table) (systemIn table .loc (r .letter)) (r .before)) (systemIn table .rules)
+        (each-of-map (λ (r : Rule). ControlOn (statesIn table) (systemIn table .loc (r .letter)) (r .before)) ruleOf (bodies 3 items)
+        (each-map (RuleFits ps ls) (λ (body : List ℕ). ControlOn (statesIn table) (systemIn table .loc (ruleOf body .letter)) (ruleOf body .before))
+        (λ body f. from-states (controlsOf ps) (λ i m. ranged-at i m .controls) (transitionOf body) (f .fits)) (bodies 3 items) (rules-fit (complete .checked)))) n r is;
+    automaton = λ u m. each-get (From (systemIn table .loc) (statesIn table)) u (systemIn table .transitions)
+        (each-of-map (From (systemIn table .loc) (statesIn table)) transitionOf (bodies 4 items)
+        (each-map (TransitionFits ps ls) (λ (body : List ℕ). From (systemIn table .loc) (statesIn table) (transitionOf body))
+        (λ body f. from-states (statesOf ps) (λ i m. omega arith) (transitionOf body) (f .fits)) (bodies 4 items) (transitions-fit (complete .checked)))) m;
+  }
+    where
+      from-states : (bound : Process → ℕ) → ((i : Process) → has (present (bodies 1 (itemsIn table))) i ≡ true → bound i ≤ statesIn table i) → (u : Transition) → Fitting (bodies 2 (itemsIn table)) bound u
+          → From (systemIn table .loc) (statesIn table) u
+      from-states bound small u f i m =
+          let a : at (u .before) i < bound i = fits-at (locOf ls (u .letter)) bound (u .before) (f .before) i m in
+          let b : bound i ≤ statesIn table i = small i (loc-present (u .letter) (f .letter) i m) in
+          omega arith
+
+  accepting-states : (i : Process) → Each (λ (f : Group). at f i < statesIn table i) (systemIn table .accepting)
+  unfolding systemIn systemOf
+  accepting-states i = each-of-map (λ (f : Group). at f i < statesIn table i) (λ (body : List ℕ). groupOf body 0) (bodies 5 items)
+      (each-map (λ (body : List ℕ). groupFits (present ps) (statesOf ps) (groupOf body 0) ≡ true) (λ (body : List ℕ). at (groupOf body 0) i < statesIn table i)
+      (λ body e. by-test (has (present ps) i)
+      (λ m. fits-at (present ps) (statesOf ps) (groupOf body 0) e i m)
+      (λ n. omega (arith, fits-outside (present ps) (statesOf ps) (groupOf body 0) e i n, lacks i n))) (bodies 5 items) (accepting-fit (complete .checked)))
+
   over-accepting : Each (Over (present (bodies 1 (itemsIn table)))) (systemIn table .accepting)
   unfolding systemIn systemOf
   over-accepting = each-of-map (Over (present ps)) (λ (body : List ℕ). groupOf body 0) (bodies 5 items)
@@ -153,9 +204,21 @@ module _ (table : List ℕ) (t : Table) (h : Holds table t) where
 
   pub grounds : Grounds table t
   grounds = record {
+    states = λ i m. let r = ranged-at i (subst (λ (L : Processes). has L i ≡ true) (sym processes-are) m) in (r .some, r .small);
+    lacking = λ i m. lacks i (subst (λ (L : Processes). has L i ≡ false) (sym processes-are) m);
+    accepted = λ k g y i. accepts-from (systemIn table .loc) (statesIn table) i (keys (limit (systemIn table))) (systemIn table .accepting) (drop k (systemIn table .start .word)) g
+        (log-from (systemIn table) (statesIn table) rooted (saturatedAt (systemIn table))) (accepting-states i) y;
     letters = λ i l. loc-within (pileIn table i) (pile-letter-in table t h i l);
     below = λ r l. each-at (λ (r : Record). Below (systemIn table .loc) (λ (i : Process). 8) (r .key)) (limit (systemIn table))
         (each-keys (Below (systemIn table .loc) (λ (i : Process). 8)) (limit (systemIn table)) (log-below (systemIn table) (λ (i : Process). 8) bounded (saturatedAt (systemIn table)))) r l;
     start = subst (λ (L : Processes). Over L (systemIn table .start .states)) processes-are over-start;
     accepting = subst (λ (L : Processes). Each (Over L) (systemIn table .accepting)) processes-are over-accepting;
   }
+
+-- the number of states of every process, also of one that the table lacks
+pub states-range : (table : List ℕ) (t : Table) → Holds table t → (i : Process) → (0 < statesIn table i) × (statesIn table i ≤ 256)
+states-range table t h i =
+    let w = grounds table t h in
+    by-test (has (processesOfTable t) i)
+    (λ m. (w .states i m .0, omega (arith, w .states i m .1)))
+    (λ n. (omega (arith, w .lacking i n), omega (arith, w .lacking i n)))

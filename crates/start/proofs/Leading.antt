@@ -1,20 +1,20 @@
 -- Laws of the search for the lowest record that reads a letter and leads into a set.
-use mathlib.Core.Path.{_≡_, subst}
-use mathlib.Core.Bool.{Bool, true, false}
+use mathlib.Core.Path.{_≡_, sym, subst, _∙_}
+use mathlib.Core.Bool.{Bool, true, false, true≢false}
 use mathlib.Core.List.{List}
 use Prim.Native.Nat.{ℕ, _+_, _-_, _<_, _≤_}
+use native.Mathlib.Decide.{decLt}
 use native.Mathlib.Omega.{arith}
-use lib.Dec.{ltb}
-use borrow.Author.Tests.{eq-eqb, ne-eqb}
+use borrow.Author.Tests.{lt-ltb, ltb-true}
 use Rattle.model.specs.declared.Group.{Group}
-use Rattle.model.specs.Groups.{Processes, processesOf, restrict, merge}
-use Rattle.automaton.specs.StateNumbers.{stateNumber, groupNumbered}
+use Rattle.model.specs.Groups.{processesOf, restrict, merge}
+use Rattle.automaton.specs.StateNumbers.{stateNumber}
 use Rattle.automaton.specs.StateSets.{member, firstFrom}
-use Rattle.automaton.proofs.StateSets.{Fails, fails-join, fails-one, first-is, first-at}
+use Rattle.automaton.proofs.StateSets.{Fails, fails-join, fails-one, first-is, first-at, first-of}
 use Rattle.model.specs.Records.{afterAt}
 use Rattle.chains.specs.Buckets.{recordReads}
 use Rattle.start.specs.declared.Letter.{Letter}
-use Rattle.start.specs.RestSets.{leads, firstLead, continues}
+use Rattle.start.specs.RestSets.{leads, firstLead, someLead}
 
 module _ (log members : List ℕ) (a : Letter) (g : Group) where
   abbrev reads : ℕ → Bool
@@ -73,12 +73,20 @@ module _ (log members : List ℕ) (a : Letter) (g : Group) where
         fails = subst (λ (k : ℕ). Fails (leads log members a g) 0 k) e (s .fails);
       })
 
--- ---- one state of a set
-pub continues-not : (log : List ℕ) (count : ℕ) (members : List ℕ) (a : Letter) (L : Processes) (x : ℕ) → (stateNumber (groupNumbered L x) ≡ x → ⊥) → continues log count members a L x ≡ false
-unfolding continues
-continues-not log count members a L x n = rw (ne-eqb (stateNumber (groupNumbered L x)) x n)
+-- ---- whether some record does
+pub some-lead : (log members : List ℕ) (a : Letter) (g : Group) (count r : ℕ) → r < count → leads log members a g r ≡ true → someLead log count members a g ≡ true
+unfolding firstLead
+some-lead log members a g count r h t =
+    let q = firstFrom (leads log members a g) 0 count in
+    let w = first-of (leads log members a g) 0 count in
+    elim (decLt q count) [
+      | yes l ↦ lt-ltb q count l
+      | no l ↦ absurd (true≢false (sym t ∙ w .fails r (omega arith) (omega arith)))
+    ]
 
-pub continues-lead : (log : List ℕ) (count : ℕ) (members : List ℕ) (a : Letter) (L : Processes) (x : ℕ) (g : Group) → g ≡ groupNumbered L x → stateNumber g ≡ x
-    → continues log count members a L x ≡ ltb (firstLead log count members a g) count
-unfolding continues
-continues-lead log count members a L x g e is = rw (← e, eq-eqb (stateNumber g) x is)
+pub the-lead : (log members : List ℕ) (a : Letter) (g : Group) (count : ℕ) → someLead log count members a g ≡ true
+    → (firstLead log count members a g < count) × (leads log members a g (firstLead log count members a g) ≡ true)
+unfolding firstLead
+the-lead log members a g count t =
+    let less : firstFrom (leads log members a g) 0 count < count = ltb-true (firstFrom (leads log members a g) 0 count) count t in
+    (less, first-of (leads log members a g) 0 count .passes (omega arith))

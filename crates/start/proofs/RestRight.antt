@@ -1,9 +1,9 @@
 -- The sets are right: a state is in set k exactly if the records accept the rest of the start word from letter k on.
 use mathlib.Core.Path.{_≡_, refl, ap, ap₂, sym, subst, _∙_}
-use mathlib.Core.Bool.{Bool, true, false, _&&_, _||_}
-use mathlib.Core.Logic.{inl, inr}
+use mathlib.Core.Bool.{Bool, true, false, _&&_, _||_, true≢false}
+use mathlib.Core.Logic.{inl, inr, ⊎-elim}
 use mathlib.Core.List.{List, [], _∷_, map}
-use Prim.Native.Nat.{ℕ, zero, suc, _+_, _-_, _<_, _≤_}
+use Prim.Native.Nat.{ℕ, zero, suc, _+_, _-_, _%_, _<_, _≤_}
 use native.Mathlib.Decide.{decLt}
 use native.Mathlib.Numerals.{add-one}
 use native.Mathlib.Omega.{arith}
@@ -13,31 +13,34 @@ use lib.Seq.{drop-cons}
 use borrow.Author.Tests.{eq-eqb, eqb-true, lt-ltb, le-ltb}
 use Rattle.model.specs.declared.Group.{Group}
 use Rattle.model.specs.Automata.{Transition, move}
-use Rattle.model.specs.Groups.{Processes, processesOf, sameGroup, restrict, merge}
+use Rattle.model.specs.Groups.{Process, Processes, at, has, processesOf, sameGroup, restrict, merge}
 use Rattle.model.specs.Lists.{Each, anyOf}
 use Rattle.model.specs.Log.{Record, recordAt, noRecord, readsAt, keys, limit}
 use Rattle.model.specs.Systems.{System, accepts}
-use Rattle.model.proofs.Groups.{sameGroup-true, sameGroup-of}
+use Rattle.model.proofs.Groups.{at-build, sameGroup-true, sameGroup-of}
 use Rattle.model.proofs.Lists.{any-of, each-map, getD-mem}
 use Rattle.model.proofs.LogPaths.{reads-letter}
 use Rattle.model.proofs.Tests.{by-test, same-test}
-use Rattle.automaton.specs.StateNumbers.{stateNumber, Over}
+use Rattle.automaton.specs.StateNumbers.{stateCount, stateNumber, Over}
 use Rattle.automaton.specs.StateSets.{member, firstFrom}
-use Rattle.automaton.proofs.StateNumbers.{stateNumber-below, numbered-number, number-injective}
+use Rattle.automaton.proofs.StateNumbers.{stateNumber-below, number-injective}
 use Rattle.automaton.proofs.StateSets.{first-of}
 use Rattle.model.specs.Records.{afterAt}
 use Rattle.chains.specs.Buckets.{recordReads}
 use Rattle.chains.proofs.Buckets.{reads-model}
 use Rattle.table.specs.declared.Table.{Table}
-use Rattle.table.specs.Reading.{systemIn, pileIn}
+use Rattle.table.specs.Reading.{systemIn, pileIn, statesIn}
 use Rattle.table.proofs.Layouts.{pile-count}
 use Rattle.stack.specs.LimitLog.{LimitLog}
 use Rattle.stack.proofs.Limits.{limit-fits, limit-reads}
 use Rattle.start.specs.declared.Letter.{Letter}
 use Rattle.start.specs.Regions.{setAt, setsEnd, chainsPlace, SameBut, OnlySet}
-use Rattle.start.specs.RestSets.{processesOfTable, LetterAt, leads, firstLead, continues, Filled, isNumberOf, acceptsFrom, SetRight}
+use Rattle.start.specs.RestSets.{processesOfTable, LetterAt, leads, firstLead, someLead, EmptySet, Filled, isNumberOf, acceptsFrom, SetRight}
+use Rattle.start.specs.OwnGroups.{lastStates, Numbered, FrameTo, Added}
+use Rattle.start.specs.declared.Frame.{Frame}
 use Rattle.start.proofs.ScratchRegions.{same-none, same-join, same-wider, set-same}
 use Rattle.start.proofs.Leading.{lead-not, lead-reads}
+use Rattle.start.proofs.OwnGroups.{own-below}
 use Rattle.start.proofs.Grounds.{over-merge, Grounds, grounds}
 
 -- ---- some element passes a test
@@ -129,20 +132,26 @@ module _ {table : List ℕ} {t : Table} {log : List ℕ} {count : ℕ} (lent : L
         first-agree (leads log (setAt s (i + 1)) a g) (goesOn sys records (pileIn table i) (drop (i + 1) (sys .start .word)) g) 0 count (λ r p q. lead-is r (omega arith))
         ∙ ap (λ (k : ℕ). firstFrom (goesOn sys records (pileIn table i) (drop (i + 1) (sys .start .word)) g) 0 k) (sym (lent .size))
 
-    pub lead-accepts : ltb (firstLead log count (setAt s (i + 1)) a g) count ≡ acceptsFrom table i g
+    pub lead-accepts : someLead log count (setAt s (i + 1)) a g ≡ acceptsFrom table i g
     lead-accepts =
         ap₂ (λ (r n : ℕ). ltb r n) first-is-lead (sym (lent .size))
         ∙ sym (ap (λ (w : List ℕ). accepts (sys .loc) (keys records) (sys .accepting) w g) word-from ∙ accepts-first sys records (pileIn table i) (drop (i + 1) (sys .start .word)) g)
 
   -- set i from set i + 1
-  pub set-before : (s s′ : List ℕ) → SetRight table t s (i + 1) → Filled (continues log count (setAt s (i + 1)) a (processesOfTable t)) i s s′ → SetRight table t s′ i
-  unfolding continues
-  set-before s s′ next f g o =
-      let x = stateNumber g in
-      f .members x (stateNumber-below g)
-      ∙ ap (λ (h : Group). eqb (stateNumber h) x && ltb (firstLead log count (setAt s (i + 1)) a h) count) (numbered-number (processesOfTable t) g o)
-      ∙ ap (λ (b : Bool). b && ltb (firstLead log count (setAt s (i + 1)) a g) count) (eq-eqb x x refl)
-      ∙ lead-accepts s next g o
+  own-states : (g : Group) → Over (processesOfTable t) g → Numbered (processesOf (a .bits)) g
+  own-states g o j m = o .inside j (ground .letters i inside j (sym (ap (λ (L : Processes). has L j) (letter .bits .same)) ∙ m))
+
+  under-last : (g : Group) → Over (processesOfTable t) g → acceptsFrom table i g ≡ true → (j : Process) → at g j % 8 ≤ at (lastStates table) j % 8
+  unfolding lastStates
+  under-last g o y j = rw (at-build (λ j. statesIn table j - 1) j) (by-test (has (processesOfTable t) j)
+      (λ m. omega (arith, ground .accepted i g y j, ground .states j m .0, ground .states j m .1))
+      (λ n. omega (arith, o .outside j n, ground .lacking j n)))
+
+  pub set-before : (s s′ : List ℕ) (f : Frame) → SetRight table t s (i + 1) → EmptySet s i → FrameTo (processesOf (a .bits)) (lastStates table) f
+      → Added log count (setAt s (i + 1)) a f (λ (z : ℕ). z < stateCount) i s s′ → SetRight table t s′ i
+  set-before s s′ f next empty to d g o = same-test (member (setAt s′ i) (stateNumber g)) (acceptsFrom table i g)
+      (λ y. sym (lead-accepts s next g o) ∙ ⊎-elim (λ m. absurd (true≢false (sym m ∙ empty (stateNumber g)))) (λ z. z) (d .sound g (own-states g o) y))
+      (λ y. d .complete g (to .reaches g (own-states g o) (under-last g o y)) (own-below (processesOf (a .bits)) g) (lead-accepts s next g o ∙ y))
 
 -- ---- the last set
 number-same : (L : Processes) (g h : Group) → Over L g → Over L h → eqb (stateNumber g) (stateNumber h) ≡ sameGroup g h

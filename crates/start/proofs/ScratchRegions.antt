@@ -59,7 +59,7 @@ pub length-set-at : (s : List ℕ) (k : ℕ) → setPlace k + setLength ≤ leng
 unfolding setAt
 length-set-at s k h = simp (length-take, length-drop) (omega arith)
 
-byte-set : (s : List ℕ) (k i : ℕ) → i < setLength → getD (setAt s k) i 0 ≡ getD s (setPlace k + i) 0
+pub byte-set : (s : List ℕ) (k i : ℕ) → i < setLength → getD (setAt s k) i 0 ≡ getD s (setPlace k + i) 0
 unfolding setAt
 byte-set s k i h = getD-take setLength (drop (setPlace k) s) i 0 h ∙ getD-drop (setPlace k) s i 0
 

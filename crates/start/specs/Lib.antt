@@ -1,3 +1,4 @@
 pub mod Regions
 pub mod RestSets
+pub mod OwnGroups
 pub mod Search

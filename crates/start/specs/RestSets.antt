@@ -2,7 +2,7 @@
 use mathlib.Core.Path.{_≡_}
 use mathlib.Core.Bool.{Bool, false, _&&_}
 use mathlib.Core.List.{List}
-use Prim.Native.Nat.{ℕ, _/_, _^_, _<_}
+use Prim.Native.Nat.{ℕ, _<_}
 use lib.Dec.{eqb, ltb}
 use lib.ListN.{drop}
 use Rattle.model.specs.declared.Group.{Group}
@@ -10,7 +10,7 @@ use Rattle.model.specs.Groups.{Processes, processesOf, restrict, merge}
 use Rattle.model.specs.Lists.{anyOf}
 use Rattle.model.specs.Log.{keys, limit}
 use Rattle.model.specs.Systems.{accepts}
-use Rattle.automaton.specs.StateNumbers.{stateCount, stateNumber, groupNumbered, Over}
+use Rattle.automaton.specs.StateNumbers.{stateCount, stateNumber, Over}
 use Rattle.automaton.specs.StateSets.{member, firstFrom}
 use Rattle.model.specs.Records.{afterAt}
 use Rattle.chains.specs.Buckets.{recordReads}
@@ -25,10 +25,6 @@ firstProcesses n = record { b0 = ltb 0 n; b1 = ltb 1 n; b2 = ltb 2 n; b3 = ltb 3
 
 abbrev pub processesOfTable : Table → Processes
 processesOfTable t = firstProcesses (t .processes)
-
--- how far apart the numbers of the states of the first n processes are: the three bits of each other process are set
-unfoldable pub stride : ℕ → ℕ
-stride n = stateCount / 8 ^ n
 
 -- letter i of the start word, with its processes
 pub record LetterAt (table : List ℕ) (i : ℕ) (a : Letter) : Type 0 where
@@ -45,9 +41,9 @@ leads log members a g r =
 unfoldable pub firstLead : List ℕ → ℕ → List ℕ → Letter → Group → ℕ
 firstLead log count members a g = firstFrom (leads log members a g) 0 count
 
--- x is the number of a state of the processes L from which some record does
-unfoldable pub continues : List ℕ → ℕ → List ℕ → Letter → Processes → ℕ → Bool
-continues log count members a L x = eqb (stateNumber (groupNumbered L x)) x && ltb (firstLead log count members a (groupNumbered L x)) count
+-- some record does
+abbrev pub someLead : List ℕ → ℕ → List ℕ → Letter → Group → Bool
+someLead log count members a g = ltb (firstLead log count members a g) count
 
 -- set k has no state
 abbrev pub EmptySet : List ℕ → ℕ → Type 0

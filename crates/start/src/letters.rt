@@ -24,27 +24,7 @@ ghost use Rattle.model.specs.Records.{afterAt};
 ghost use Rattle.records.specs.Entries.{HasRecord};
 ghost use Rattle.table.specs.Reading.{Holds};
 ghost use Rattle.start.specs.Regions.{setPlace, setAt, Linked};
-ghost use Rattle.start.specs.RestSets.{firstProcesses, LetterAt, firstLead};
-
-// The first processes as bits.
-pub fn process_bits(processes: usize) -> u8
-    requires { ⌜ processes ≤ 4 ⌝ }
-    ensures { λ r. ⌜ processesOf r ≡ firstProcesses processes ⌝ }
-{
-    if processes == 0 {
-        return 0;
-    }
-    if processes == 1 {
-        return 1;
-    }
-    if processes == 2 {
-        return 3;
-    }
-    if processes == 3 {
-        return 7;
-    }
-    15
-}
+ghost use Rattle.start.specs.RestSets.{LetterAt, firstLead};
 
 // Letter i of the start word.
 pub fn letter_at(table: &[u8], t: Table, i: usize) -> Letter

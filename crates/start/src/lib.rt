@@ -1,5 +1,6 @@
 // The start's path: the first accepting path of the limit from the start, by record numbers. Sets of states, from the back of the start word on,
 // tell from which states the rest of the word is accepted; then each letter takes the lowest record that leads into the next set.
+pub mod groups;
 pub mod letters;
 pub mod paths;
 pub mod sets;
@@ -24,6 +25,8 @@ ghost use Rattle.start.specs.Search.{Sought};
 
 pub const SET_LENGTH: usize = 512;
 
+pub const STATES: usize = 4096;
+
 pub const CHAINS: usize = 34000;
 
 // Whether the start has an accepting path, and its steps.
@@ -36,6 +39,16 @@ pub enum StartPath {
 pub struct Letter {
     pub number: u8,
     pub bits: u8,
+}
+
+// What is gone through for a letter: its processes as a mask, the highest number of its own states, and the states of the other processes: so many of
+// process 0, so many of process 1, and those of processes 2 and 3 as bits.
+pub struct Frame {
+    pub mask: u32,
+    pub own: usize,
+    pub rows: usize,
+    pub words: usize,
+    pub rest: u64,
 }
 
 // Where a path has come to, and its steps so far.

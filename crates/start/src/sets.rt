@@ -1,27 +1,22 @@
 // The sets of states from which the rest of the start word is accepted, from the last one to the first.
-use crate::Letter;
 use crate::SET_LENGTH;
-use crate::letters::first_lead;
+use crate::groups::add_groups;
+use crate::groups::frame_of;
+use crate::groups::last_states;
 use crate::letters::letter_at;
-use crate::letters::process_bits;
 use automaton::sets::clear;
 use automaton::sets::insert;
 use automaton::states::number;
-use automaton::states::numbered;
 use table::Table;
 use table::accepting_group;
 ghost use mathlib.Core.Path.{_≡_};
-ghost use mathlib.Core.Bool.{cond};
 ghost use Prim.Native.Nat.{ℕ, _+_, _*_, _<_, _≤_};
 ghost use lib.ListN.{length};
-ghost use Rattle.model.specs.Groups.{processesOf};
-ghost use Rattle.automaton.specs.StateNumbers.{stateCount, stateNumber, groupNumbered};
+ghost use Rattle.automaton.specs.StateNumbers.{stateCount, stateNumber};
 ghost use Rattle.table.specs.Reading.{Holds, acceptingIn, systemIn};
 ghost use Rattle.stack.specs.LimitLog.{LimitLog};
-ghost use Rattle.start.specs.Regions.{setAt, setsEnd, withState, chainsPlace, Linked, SameBut, OnlySet};
-ghost use Rattle.start.specs.RestSets.{firstProcesses, stride, continues, EmptySet, Filled, isNumberOf, SetRight};
-
-const STATES: usize = 4096;
+ghost use Rattle.start.specs.Regions.{setsEnd, withState, chainsPlace, Linked, SameBut, OnlySet};
+ghost use Rattle.start.specs.RestSets.{EmptySet, Filled, isNumberOf, SetRight};
 
 fn clear_set(scratch: &mut [u8], k: usize)
     requires { ⌜ (k ≤ 64) × (chainsPlace ≤ length (now scratch)) ⌝ }
@@ -39,74 +34,6 @@ fn insert_state(scratch: &mut [u8], k: usize, x: usize)
     insert(&mut scratch[at..at + SET_LENGTH], x);
 }
 
-// Whether the letter leads into set k from the state of the processes in bits that has the number x.
-fn is_continued(
-    log: &[u8],
-    scratch: &[u8],
-    n: usize,
-    count: usize,
-    k: usize,
-    a: Letter,
-    bits: u8,
-    x: usize,
-) -> bool
-    requires { ⌜ Linked (now log) count n (now scratch) × (k ≤ 64) × (stateNumber (groupNumbered (processesOf bits) x) ≡ x) ⌝ }
-    ensures { λ b. ⌜ b ≡ continues (now (log .entry)) count (setAt (now (scratch .entry)) k) a (processesOf bits) x ⌝ }
-{
-    let g = numbered(bits, x);
-    first_lead(log, scratch, n, count, k, a, g) < count
-}
-
-// Puts x into set k if the letter leads from there into the next set.
-fn add_state(
-    log: &[u8],
-    scratch: &mut [u8],
-    n: usize,
-    count: usize,
-    k: usize,
-    a: Letter,
-    bits: u8,
-    x: usize,
-)
-    requires { ⌜ Linked (now log) count n (now scratch) × (k < 64) × (x < stateCount) × (stateNumber (groupNumbered (processesOf bits) x) ≡ x) ⌝ }
-    ensures { λ _. ⌜ now (scratch .exit) ≡ cond (continues (now (log .entry)) count (setAt (now (scratch .entry)) (k + 1)) a (processesOf bits) x) (withState (now (scratch .entry)) k x) (now (scratch .entry)) ⌝ }
-{
-    if is_continued(log, scratch, n, count, k + 1, a, bits, x) {
-        insert_state(scratch, k, x);
-        return;
-    }
-}
-
-// How far apart the numbers of the states of the first processes are: each other process has its three bits set.
-fn stride(processes: usize) -> usize
-    requires { ⌜ processes ≤ 4 ⌝ }
-    ensures { λ r. ⌜ (r ≡ stride processes) × (0 < r) × (r ≤ stateCount) ⌝ }
-{
-    STATES >> (3 * processes)
-}
-
-// Puts the states of the first processes from which the letter leads into set k + 1 into set k.
-fn add_states(
-    log: &[u8],
-    scratch: &mut [u8],
-    n: usize,
-    count: usize,
-    k: usize,
-    a: Letter,
-    processes: usize,
-)
-    requires { ⌜ Linked (now log) count n (now scratch) × (k < 64) × (processes ≤ 4) × EmptySet (now scratch) k ⌝ }
-    ensures { λ _. ⌜ Filled (continues (now (log .entry)) count (setAt (now (scratch .entry)) (k + 1)) a (firstProcesses processes)) k (now (scratch .entry)) (now (scratch .exit)) ⌝ }
-{
-    let bits = process_bits(processes);
-    let step = stride(processes);
-    let mut x = step - 1;
-    while x < STATES {
-        add_state(log, scratch, n, count, k, a, bits, x);
-        x += step;
-    }
-}
-
 // Set i from set i + 1.
 fn fill_set(
     table: &[u8],
@@ -122,7 +49,9 @@ fn fill_set(
 {
     let a = letter_at(table, t, i);
     clear_set(scratch, i);
-    add_states(log, scratch, n, count, i, a, t.processes);
+    let last = last_states(table, t);
+    let f = frame_of(a.bits, last);
+    add_groups(log, scratch, n, count, i, a, f);
 }
 
 // The sets before the last one, from the back.

@@ -1,0 +1,160 @@
+-- The own numbers of a letter's groups, and what one record adds in terms of them.
+use mathlib.Core.Path.{_≡_, refl, ap, sym, _∙_}
+use mathlib.Core.Bool.{Bool, true, false, cond, _&&_}
+use mathlib.Core.List.{List}
+use Prim.Native.Nat.{ℕ, _+_, _*_, _/_, _%_, _<_, _≤_}
+use native.Mathlib.Omega.{arith}
+use lib.ListN.{getD}
+use Rattle.model.specs.declared.Group.{Group}
+use Rattle.model.specs.Groups.{Process, Processes, p0, p1, p2, p3, at, has, restrict, merge}
+use Rattle.model.proofs.Groups.{ext, at-merge, at-restrict}
+use Rattle.model.proofs.Tests.{by-test, cond-less}
+use Rattle.model.specs.Records.{recordLength, groupAt, afterAt}
+use Rattle.packs.specs.Packs.{packed, Bytes, maskOf, mergedBits, packAt, packNumber}
+use Rattle.packs.proofs.Packs.{merge-bits, pack-group, pack-number}
+use Rattle.automaton.specs.StateNumbers.{stateCount, stateNumber, digit, groupNumbered}
+use Rattle.automaton.proofs.StateNumbers.{stateNumber-below, digit-number, digits-number, at-numbered}
+use Rattle.wordsets.specs.WordSets.{inSet, gains, inBlock, BlockFits}
+use Rattle.wordsets.proofs.States.{stated, plus, Offset, adds-like, added-offsets}
+use Rattle.start.specs.declared.Frame.{Frame}
+use Rattle.start.specs.OwnGroups.{noStates, ownNumber, Under, extent, Framed, Numbered, InFrame}
+
+-- ---- digits
+pub digit-small : (x : ℕ) (i : Process) → digit x i < 8
+digit-small x p0 = omega arith
+digit-small x p1 = omega arith
+digit-small x p2 = omega arith
+digit-small x p3 = omega arith
+
+stated-same : (D E : Process → ℕ) → ((i : Process) → D i ≡ E i) → stated D ≡ stated E
+stated-same D E e = omega (arith, e p0, e p1, e p2, e p3)
+
+digit-stated : (D : Process → ℕ) → ((i : Process) → D i < 8) → (i : Process) → digit (stated D) i ≡ D i
+digit-stated D h p0 = omega (arith, h p0, h p1, h p2, h p3)
+digit-stated D h p1 = omega (arith, h p0, h p1, h p2, h p3)
+digit-stated D h p2 = omega (arith, h p0, h p1, h p2, h p3)
+digit-stated D h p3 = omega (arith, h p0, h p1, h p2, h p3)
+
+number-stated : (g : Group) → stateNumber g ≡ stated (λ i. at g i % 8)
+unfolding stateNumber
+number-stated g = refl
+
+-- two numbers with the same digits
+digits-same : (x y : ℕ) → x < stateCount → y < stateCount → ((i : Process) → digit x i ≡ digit y i) → x ≡ y
+digits-same x y h l e = sym (digits-number x h) ∙ stated-same (digit x) (digit y) e ∙ digits-number y l
+
+-- ---- own numbers
+zero-at : (i : Process) → at noStates i ≡ 0
+zero-at p0 = refl
+zero-at p1 = refl
+zero-at p2 = refl
+zero-at p3 = refl
+
+pub own-digit : (L : Processes) (g : Group) (i : Process) → digit (ownNumber L g) i ≡ cond (has L i) (at g i % 8) 0
+unfolding ownNumber
+own-digit L g i = digit-number (merge L g noStates) i ∙ ap (λ (n : ℕ). n % 8) (at-merge L g noStates i)
+    ∙ by-test (has L i) (λ y. rw y) (λ n. rw (n, zero-at i))
+
+pub own-below : (L : Processes) (g : Group) → ownNumber L g < stateCount
+unfolding ownNumber
+own-below L g = stateNumber-below (merge L g noStates)
+
+-- the letter's states are found again from the own number
+pub numbered-own : (L : Processes) (g : Group) → Numbered L g → groupNumbered L (ownNumber L g) ≡ restrict L g
+numbered-own L g h = ext (λ i. at-numbered L (ownNumber L g) i ∙ by-test (has L i)
+    (λ y. rw (at-restrict L g i, own-digit L g i, y) (let b : at g i < 8 = h i y in omega arith))
+    (λ n. rw (at-restrict L g i, n)))
+
+-- the own number after a record, from its bytes
+pub own-packed : (L : Processes) (log : List ℕ) (r : ℕ) → ((m : ℕ) → getD log m 0 < 256) → packNumber (mergedBits (maskOf L) (packAt log (r * recordLength + 5)) 0) ≡ ownNumber L (afterAt log r)
+unfolding ownNumber afterAt groupAt packed
+own-packed L log r bytes =
+    let g = groupAt log (r * recordLength + 5) in
+    let small : Bytes g = bytes-at g (bytes _) (bytes _) (bytes _) (bytes _) in
+    let none : Bytes noStates = λ i. rw (zero-at i) (omega arith) in
+    ap (λ (n : ℕ). packNumber (mergedBits (maskOf L) n 0)) (pack-group log (r * recordLength + 5))
+    ∙ ap packNumber (merge-bits L g noStates small none)
+    ∙ pack-number (merge L g noStates) (λ i. rw (at-merge L g noStates i) (cond-less (has L i) (at g i) (at noStates i) 256 (λ m. small i) (none i)))
+  where
+    bytes-at : (g : Group) → g .s0 < 256 → g .s1 < 256 → g .s2 < 256 → g .s3 < 256 → Bytes g
+    bytes-at g a b c d p0 = a
+    bytes-at g a b c d p1 = b
+    bytes-at g a b c d p2 = c
+    bytes-at g a b c d p3 = d
+
+-- ---- what a record with the own numbers x before and y after adds
+module _ (L : Processes) (f : Frame) (fr : Framed L f) (x : ℕ) (xb : x < stateCount) (under : Under (f .own) x) (after : Group) where
+  abbrev y : ℕ
+  y = ownNumber L after
+
+  no-own : (i : Process) → has L i ≡ false → digit x i ≡ 0
+  no-own i n = omega (arith, under i, fr .own i n)
+
+  fits : (v : ℕ) → v < 8 → (i : Process) → (has L i ≡ false → v ≡ 0) → v + extent L f i ≤ 8
+  fits v h i z = by-test (has L i) (λ m. omega (arith, fr .alone i m)) (λ n. omega (arith, z n, fr .small i))
+
+  own-offset : Offset (digit x) (digit (ownNumber L after)) (extent L f) (f .rest)
+  own-offset = record {
+    before = λ i. fits (digit x i) (digit-small x i) i (no-own i);
+    after = λ i. fits (digit y i) (digit-small y i) i (λ n. own-digit L after i ∙ ap (λ (b : Bool). cond b (at after i % 8) 0) n);
+    some = fr .some;
+    bits = fr .rest;
+  }
+
+  -- its words lie in the sets
+  pub own-fits : BlockFits (ownNumber L after) x (f .rows) (f .words)
+  own-fits = record {
+    short = fr .small p1;
+    after = in-words y (own-below L after) (own-offset .after p0) (own-offset .after p1);
+    before = in-words x xb (own-offset .before p0) (own-offset .before p1);
+  }
+    where
+      in-words : (z : ℕ) → z < stateCount → digit z p0 + f .rows ≤ 8 → digit z p1 + f .words ≤ 8 → z / 64 + 8 * f .rows + f .words ≤ 72
+      in-words z b h l = omega arith
+
+  module _ (s : List ℕ) (from : ℕ) (g : Group) where
+    abbrev n : ℕ
+    n = stateNumber g
+
+    -- offsets A lead from x to g's number
+    record To (A : Process → ℕ) : Type 0 where
+      inside : (i : Process) → A i < extent L f i
+      reaches : (i : Process) → at g i % 8 ≡ digit x i + A i
+
+    -- they are 0 at the letter's processes
+    like-digit : (A : Process → ℕ) → To A → (i : Process) → digit (ownNumber L after) i + A i ≡ at (merge L after g) i % 8
+    like-digit A t i = rw (own-digit L after i, at-merge L after g i) (by-test (has L i)
+        (λ m. let z : A i ≡ 0 = omega (arith, t .inside i, fr .alone i m) in rw (m, z) (omega arith))
+        (λ n. let z : digit x i ≡ 0 = no-own i n in let e : at g i % 8 ≡ digit x i + A i = t .reaches i in rw n (omega arith)))
+
+    gain-like : (A : Process → ℕ) → To A
+        → (inBlock x (f .rows) (f .words) (stateNumber g) && gains s from (ownNumber L after) x (f .rest) (stateNumber g)) ≡ inSet s from (stateNumber (merge L after g))
+    gain-like A t =
+        let xs : stated (digit x) ≡ x = digits-number x xb in
+        let ys : stated (digit (ownNumber L after)) ≡ ownNumber L after = digits-number (ownNumber L after) (own-below L after) in
+        let here : stated (plus (digit x) A) ≡ stateNumber g = sym (number-stated g ∙ stated-same (λ i. at g i % 8) (plus (digit x) A) (t .reaches)) in
+        let there : stated (plus (digit (ownNumber L after)) A) ≡ stateNumber (merge L after g) =
+        stated-same (plus (digit (ownNumber L after)) A) (λ i. at (merge L after g) i % 8) (like-digit A t) ∙ sym (number-stated (merge L after g)) in
+        rw (← xs, ← ys, ← here, ← there) (adds-like s from (f .rest) (digit x) (digit (ownNumber L after)) (extent L f) own-offset A (t .inside))
+
+    -- every state with the own number x is added whose like is in the set
+    pub gains-lead : InFrame L f g → ownNumber L g ≡ x
+        → (inBlock x (f .rows) (f .words) (stateNumber g) && gains s from (ownNumber L after) x (f .rest) (stateNumber g)) ≡ inSet s from (stateNumber (merge L after g))
+    gains-lead w e = gain-like (λ i. cond (has L i) 0 (at g i % 8)) (record {
+      inside = λ i. by-test (has L i) (λ m. rw m (fr .some i)) (λ n. rw n (w .others i n));
+      reaches = λ i. rw (← e, own-digit L g i) (by-test (has L i) (λ m. rw m (omega arith)) (λ n. rw n (omega arith)));
+    })
+
+    -- and no other
+    pub gains-own : (inBlock x (f .rows) (f .words) (stateNumber g) && gains s from (ownNumber L after) x (f .rest) (stateNumber g)) ≡ true
+        → (ownNumber L g ≡ x) × (inSet s from (stateNumber (merge L after g)) ≡ true)
+    gains-own h =
+        let xs : stated (digit x) ≡ x = digits-number x xb in
+        let ys : stated (digit (ownNumber L after)) ≡ ownNumber L after = digits-number (ownNumber L after) (own-below L after) in
+        let o = added-offsets s from (f .rest) (digit x) (digit (ownNumber L after)) (extent L f) own-offset (stateNumber g) (rw (xs, ys) h) in
+        let to : To (o .offset) = record { inside = o .inside; reaches = λ i. sym (digit-number g i) ∙ ap (λ (m : ℕ). digit m i) (o .is) ∙ digit-stated (plus (digit x) (o .offset)) (λ j. omega (arith, own-offset .before j, o .inside j)) i } in (
+          digits-same (ownNumber L g) x (own-below L g) xb (λ i. own-digit L g i ∙ by-test (has L i)
+              (λ m. let z : o .offset i ≡ 0 = omega (arith, o .inside i, fr .alone i m) in rw m (to .reaches i ∙ omega arith))
+              (λ n. rw n (sym (no-own i n)))),
+          sym (gain-like (o .offset) to) ∙ h,
+        )

@@ -1,0 +1,108 @@
+-- The records with one group before in turn.
+use mathlib.Core.Path.{_≡_, subst}
+use Prim.Native.Nat.{ℕ, _+_, _-_, _<_}
+use native.Mathlib.Omega.{arith}
+use Rattle.model.specs.Groups.{processesOf}
+use Rattle.model.specs.Records.{afterAt}
+use Rattle.wordsets.specs.WordSets.{RecordAdded}
+use Rattle.start.specs.Regions.{setPlace, setAt}
+use Rattle.start.specs.OwnGroups.{ownNumber}
+use Rattle.start.proofs.ScratchRegions.{same-join}
+use Rattle.start.proofs.OwnGroups.{own-fits}
+use Rattle.start.proofs.Adding.{sets-apart, only-outside, only-next, only-linked, Taking, taking-start, taking-later, taking-turn, taking-end}
+use Rattle.start.proofs.groups.add_group.Statement.{statement}
+use Rattle.start.proofs.groups.add_group.Tie as tie
+
+abbrev Inv-loop : tie.InvT-loop
+Inv-loop log scratch₀ n count k a f x before r₀ scratch r = Taking log count (setAt scratch₀ (k + 1)) a f k x before r scratch₀ scratch
+
+abbrev μ-loop : tie.MeasureT-loop
+μ-loop log scratch₀ n count k a f x before r₀ scratch r = count - r
+
+numbered-requires : tie.Need-numbered-requires Inv-loop μ-loop
+numbered-requires c κs = tt
+
+first-match-requires : tie.Need-first-match-requires Inv-loop μ-loop
+first-match-requires c κs = let p = c .before .before .before .before .pre in (p .0 .room, p .0 .chained)
+
+loop-holds : tie.Need-loop-holds Inv-loop μ-loop
+loop-holds c =
+    let a = c .before .before .before .before .before .args in
+    let before = c .before .before .numbered in
+    taking-start (a .log .now) (a .count) (setAt (a .scratch .now) (a .k + 1)) (a .a) (a .f) (a .k) (a .x) (before .result) (c .first-match .result) (a .scratch .now) (before .ensures) (c .first-match .ensures)
+
+own-after-requires : tie.Need-own-after-requires Inv-loop μ-loop
+own-after-requires c κs = omega (arith, c .before .before .before .before .before .before .before .pre .0 .room .records)
+
+add-record-requires : tie.Need-add-record-requires Inv-loop μ-loop
+add-record-requires c κs =
+    let at-loop = c .before .before .before in
+    let at-start = at-loop .before .before .before .before .before .before in
+    let a = at-start .args in
+    let p = at-start .pre in
+    let y : c .before .own-after .result ≡ ownNumber (processesOf (a .a .bits)) (afterAt (a .log .now) (at-loop .loop .r)) = c .before .own-after .ensures (processesOf (a .a .bits)) (p .2 .mask) in (
+      sets-apart (at-loop .loop .scratch) (a .k) (p .1) (omega (arith, p .0 .room .room, at-loop .loop .inv .added .same .size)),
+      rw y (own-fits (processesOf (a .a .bits)) (a .f) (p .2) (a .x) (p .3) (p .4) (afterAt (a .log .now) (at-loop .loop .r))),
+    )
+
+next-match-requires : tie.Need-next-match-requires Inv-loop μ-loop
+next-match-requires c κs =
+    let at-loop = c .before .before .before .before .before .before .before in
+    let at-start = at-loop .before .before .before .before .before .before in
+    let a = at-start .args in
+    let p = at-start .pre in
+    let linked = only-linked (p .1) (same-join (at-loop .loop .inv .added .same) (only-outside (a .k) (c .before .before .before .add-record .ensures .outside))) (p .0) in
+    let less = c .before .before .before .before .before .before .loop-test .taken in
+    (linked .room, linked .chained, less, at-loop .loop .inv .reading less)
+
+loop-less : tie.Need-loop-less Inv-loop μ-loop
+loop-less c =
+    let at-loop = c .before .before .before .before .before .before .before .before in
+    let at-start = at-loop .before .before .before .before .before .before in
+    let a = at-start .args in
+    let later : at-loop .loop .r < c .next-match .result = taking-later (a .log .now) (a .count) (setAt (a .scratch .now) (a .k + 1)) (a .a) (a .f) (a .k) (at-loop .before .before .before .numbered .result) (at-loop .loop .r) (c .next-match .result) (c .next-match .ensures) in
+    omega (arith, c .before .before .before .before .before .before .before .loop-test .taken)
+
+loop-again : tie.Need-loop-again Inv-loop μ-loop
+loop-again c =
+    let at-add = c .before .before .before .before in
+    let at-loop = at-add .before .before .before .before in
+    let at-start = at-loop .before .before .before .before .before .before in
+    let a = at-start .args in
+    let p = at-start .pre in
+    let before = at-loop .before .before .before .numbered in
+    let y : at-add .before .before .own-after .result ≡ ownNumber (processesOf (a .a .bits)) (afterAt (a .log .now) (at-loop .loop .r)) = at-add .before .before .own-after .ensures (processesOf (a .a .bits)) (p .2 .mask) in
+    let added : RecordAdded (setPlace (a .k + 1)) (setPlace (a .k)) (ownNumber (processesOf (a .a .bits)) (afterAt (a .log .now) (at-loop .loop .r))) (a .x) (a .f .rest) (a .f .rows) (a .f .words) (at-loop .loop .scratch) (at-add .add-record .last .0) =
+    subst (λ (z : ℕ). RecordAdded (setPlace (a .k + 1)) (setPlace (a .k)) z (a .x) (a .f .rest) (a .f .rows) (a .f .words) (at-loop .loop .scratch) (at-add .add-record .last .0)) y (at-add .add-record .ensures) in
+    taking-turn (a .log .now) (a .count) (setAt (a .scratch .now) (a .k + 1)) (a .a) (a .f) (a .k) (p .2) (a .x) (p .3) (p .4) (before .result) (before .ensures) (at-loop .loop .r) (c .next-match .result) (a .scratch .now) (at-loop .loop .scratch) (at-add .add-record .last .0)
+    (only-next (p .1) (omega (arith, p .0 .room .room)) (at-loop .loop .inv .added .same)) (at-loop .loop .inv) (at-add .before .before .before .loop-test .taken) (c .next-match .ensures) added
+
+same-length : tie.Need-same-length Inv-loop μ-loop
+same-length c = c .before .loop .inv .added .same .size
+
+returns : tie.Need-returns Inv-loop μ-loop
+returns c =
+    let at-start = c .before .before .before .before .before .before .before in
+    let a = at-start .args in
+    let t = c .before .loop in
+    taking-end (a .log .now) (a .count) (setAt (a .scratch .now) (a .k + 1)) (a .a) (a .f) (a .k) (a .x) (c .before .before .before .before .numbered .result) (t .r) (a .scratch .now) (t .scratch) (c .loop-test .left) (t .inv)
+
+pub add-group-spec : {M : Type 1} → statement M
+add-group-spec =
+    tie.close
+    (tie.spec
+    Inv-loop
+    μ-loop
+    numbered-requires
+    first-match-requires
+    loop-holds
+    own-after-requires
+    (λ c. omega arith)
+    (λ c. omega arith)
+    (λ c. omega arith)
+    add-record-requires
+    next-match-requires
+    loop-less
+    loop-again
+    same-length
+    returns)

@@ -1,0 +1,151 @@
+// The groups of a letter's processes in turn, and what the records with such a group before add to a set.
+use crate::CHAINS;
+use crate::Frame;
+use crate::Letter;
+use crate::SET_LENGTH;
+use crate::STATES;
+use automaton::groups::merged;
+use automaton::states;
+use automaton::states::numbered;
+use chains::first_match;
+use chains::next_match;
+use model::Group;
+use packs::mask_of;
+use packs::pack_at;
+use records::RECORD_LENGTH;
+use table::Table;
+use table::local_states;
+use wordsets::add_record;
+use wordsets::rest_bits;
+ghost use mathlib.Core.Path.{_≡_};
+ghost use mathlib.Core.Bool.{cond};
+ghost use Prim.Native.Nat.{ℕ, _+_, _%_, _<_};
+ghost use Rattle.model.specs.Groups.{processesOf};
+ghost use Rattle.automaton.specs.StateNumbers.{stateCount};
+ghost use Rattle.records.specs.Entries.{HasRecord};
+ghost use Rattle.table.specs.Reading.{Holds, statesIn, processAt};
+ghost use Rattle.start.specs.Regions.{setAt, Linked};
+ghost use Rattle.start.specs.OwnGroups.{OwnAfter, lastStates, Under, NextUnder, Framed, FrameTo, Added};
+
+fn last_state(table: &[u8], t: Table, p: usize) -> u8
+    requires { ⌜ Holds (now table) t × (p < 4) ⌝ }
+    ensures { λ r. ⌜ r + 1 ≡ statesIn (now (table .entry)) (processAt p) ⌝ }
+{
+    (local_states(table, t, p) - 1) as u8
+}
+
+// The highest state of each process.
+pub fn last_states(table: &[u8], t: Table) -> Group
+    requires { ⌜ Holds (now table) t ⌝ }
+    ensures { λ r. ⌜ r ≡ lastStates (now (table .entry)) ⌝ }
+{
+    Group {
+        s0: last_state(table, t, 0),
+        s1: last_state(table, t, 1),
+        s2: last_state(table, t, 2),
+        s3: last_state(table, t, 3),
+    }
+}
+
+// How many states of a process are gone through beside the letter's own ones.
+fn extent(own: bool, last: u8) -> usize
+    ensures { λ r. ⌜ r ≡ cond own 1 (last % 8 + 1) ⌝ }
+{
+    if own { 1 } else { (last % 8) as usize + 1 }
+}
+
+// What is gone through for a letter of the processes in bits, up to the highest states.
+pub fn frame_of(bits: u8, last: Group) -> Frame
+    ensures { λ r. ⌜ FrameTo (processesOf bits) last r ⌝ }
+{
+    let none = Group {
+        s0: 0,
+        s1: 0,
+        s2: 0,
+        s3: 0,
+    };
+    Frame {
+        mask: mask_of(bits),
+        own: states::number(merged(bits, last, none)),
+        rows: extent(bits % 2 == 1, last.s0),
+        words: extent(bits / 2 % 2 == 1, last.s1),
+        rest: rest_bits(bits / 4 % 2 == 1, bits / 8 % 2 == 1),
+    }
+}
+
+// The own number after record r, which reads a letter of the processes of the mask.
+fn own_after(log: &[u8], r: usize, mask: u32) -> usize
+    requires { ⌜ HasRecord (now log) r ⌝ }
+    ensures { λ y. ⌜ OwnAfter (now (log .entry)) r mask y ⌝ }
+{
+    packs::number(packs::merged(mask, pack_at(log, r * RECORD_LENGTH + 5), 0))
+}
+
+// Puts the states whose own number is x, and from which a record of the letter leads into set k + 1, into set k.
+fn add_group(
+    log: &[u8],
+    scratch: &mut [u8],
+    n: usize,
+    count: usize,
+    k: usize,
+    a: Letter,
+    f: Frame,
+    x: usize,
+)
+    requires { ⌜ Linked (now log) count n (now scratch) × (k < 64) × Framed (processesOf (a .bits)) f × (x < stateCount) × Under (f .own) x ⌝ }
+    ensures { λ _. ⌜ Added (now (log .entry)) count (setAt (now (scratch .entry)) (k + 1)) a f (λ (z : ℕ). z ≡ x) k (now (scratch .entry)) (now (scratch .exit)) ⌝ }
+{
+    let before = numbered(a.bits, x);
+    let mut r = first_match(log, scratch, CHAINS, n, count, a.number, before);
+    while r < count {
+        let y = own_after(log, r, f.mask);
+        add_record(
+            scratch,
+            SET_LENGTH * (k + 1),
+            SET_LENGTH * k,
+            y,
+            x,
+            f.rest,
+            f.rows,
+            f.words,
+        );
+        r = next_match(log, scratch, CHAINS, n, count, r, a.number, before);
+    }
+}
+
+// The next number after x that is at no process above top, or 4,096: from the last process on, the first state that can be raised is, and those behind
+// it begin anew.
+fn next_under(top: usize, x: usize) -> usize
+    requires { ⌜ (x < stateCount) × Under top x ⌝ }
+    ensures { λ r. ⌜ NextUnder top x r ⌝ }
+{
+    let mut k: usize = 0;
+    while k < 12 {
+        let high = x >> k;
+        if high % 8 < (top >> k) % 8 {
+            return (high + 1) << k;
+        }
+        k += 3;
+    }
+    STATES
+}
+
+// All own numbers in turn.
+pub fn add_groups(
+    log: &[u8],
+    scratch: &mut [u8],
+    n: usize,
+    count: usize,
+    k: usize,
+    a: Letter,
+    f: Frame,
+)
+    requires { ⌜ Linked (now log) count n (now scratch) × (k < 64) × Framed (processesOf (a .bits)) f ⌝ }
+    ensures { λ _. ⌜ Added (now (log .entry)) count (setAt (now (scratch .entry)) (k + 1)) a f (λ (z : ℕ). z < stateCount) k (now (scratch .entry)) (now (scratch .exit)) ⌝ }
+{
+    let mut x = 0;
+    while x < STATES {
+        add_group(log, scratch, n, count, k, a, f, x);
+        x = next_under(f.own, x);
+    }
+}

@@ -1,0 +1,223 @@
+-- Bits of numbers and of lists of bytes.
+use mathlib.Core.Path.{_≡_, refl, ap, ap₂, sym, subst, _∙_}
+use mathlib.Core.Bool.{Bool, false, _&&_, _||_}
+use mathlib.Core.List.{List, [], _∷_}
+use Prim.Native.Nat.{ℕ, zero, suc, _+_, _-_, _*_, _/_, _%_, _^_, _<_, _≤_, min, max}
+use native.Mathlib.Nat.{mul-assoc, mul-mod-left, zero-div}
+use native.Mathlib.Decide.{ℕ-discrete, decLt}
+use native.Mathlib.Omega.{arith}
+use lib.Bits.{bitAnd, bitOr, or-shr, or-step, and-shr, and-step}
+use lib.Pow.{pow-add, shl-shr, shr-shr, field, mod-mod-pow}
+use lib.Dec.{eqb, leb}
+use lib.ListN.{length, getD, set, length-set, List·getD-eq-default}
+use lib.Seq.{sets, length-sets, getD-set-same, getD-set-other}
+use borrow.Author.Tests.{eqb-true, eqb-false, le-leb, lt-leb}
+use Rattle.model.specs.Records.{littleEndian, numberAt}
+use Rattle.model.proofs.Tests.{by-test}
+use Rattle.wordsets.specs.WordSets.{hasBit, inSet, eightAt, withEight, wordSum}
+
+-- ---- one number
+bit-is : (x j y k : ℕ) → x / 2 ^ j % 2 ≡ y / 2 ^ k % 2 → hasBit x j ≡ hasBit y k
+unfolding hasBit
+bit-is x j y k e = ap (λ (n : ℕ). eqb n 1) e
+
+bit-zero : (x j : ℕ) → x / 2 ^ j % 2 ≡ 0 → hasBit x j ≡ false
+unfolding hasBit
+bit-zero x j e = ap (λ (n : ℕ). eqb n 1) e
+
+-- a digit is 0 or 1
+by-digit {ℓ} : {C : Type ℓ} (n : ℕ) → (n % 2 ≡ 0 → C) → (n % 2 ≡ 1 → C) → C
+by-digit n f g = by-test (eqb (n % 2) 1) (λ t. g (eqb-true (n % 2) 1 t)) (λ e. f (let ne : n % 2 ≡ 1 → ⊥ = eqb-false (n % 2) 1 e in omega arith))
+
+bit-or : (a b j : ℕ) → hasBit (bitOr a b) j ≡ hasBit a j || hasBit b j
+unfolding hasBit
+bit-or a b j =
+    let x = a / 2 ^ j in
+    let y = b / 2 ^ j in
+    let e : bitOr a b / 2 ^ j % 2 ≡ bitOr x y % 2 = ap (λ (n : ℕ). n % 2) (or-shr a b j) in
+    by-digit x
+    (λ p. by-digit y
+    (λ q. let z : bitOr x y % 2 ≡ 0 = omega (arith, or-step x y, ap₂ max p q) in rw (e ∙ z, p, q))
+    (λ q. let z : bitOr x y % 2 ≡ 1 = omega (arith, or-step x y, ap₂ max p q) in rw (e ∙ z, p, q)))
+    (λ p. by-digit y
+    (λ q. let z : bitOr x y % 2 ≡ 1 = omega (arith, or-step x y, ap₂ max p q) in rw (e ∙ z, p))
+    (λ q. let z : bitOr x y % 2 ≡ 1 = omega (arith, or-step x y, ap₂ max p q) in rw (e ∙ z, p)))
+
+bit-and : (a b j : ℕ) → hasBit (bitAnd a b) j ≡ hasBit a j && hasBit b j
+unfolding hasBit
+bit-and a b j =
+    let x = a / 2 ^ j in
+    let y = b / 2 ^ j in
+    let e : bitAnd a b / 2 ^ j % 2 ≡ bitAnd x y % 2 = ap (λ (n : ℕ). n % 2) (and-shr a b j) in
+    by-digit x
+    (λ p. by-digit y
+    (λ q. let z : bitAnd x y % 2 ≡ 0 = omega (arith, and-step x y, ap₂ min p q) in rw (e ∙ z, p))
+    (λ q. let z : bitAnd x y % 2 ≡ 0 = omega (arith, and-step x y, ap₂ min p q) in rw (e ∙ z, p)))
+    (λ p. by-digit y
+    (λ q. let z : bitAnd x y % 2 ≡ 0 = omega (arith, and-step x y, ap₂ min p q) in rw (e ∙ z, p, q))
+    (λ q. let z : bitAnd x y % 2 ≡ 1 = omega (arith, and-step x y, ap₂ min p q) in rw (e ∙ z, p, q)))
+
+bit-shr : (x k j : ℕ) → hasBit (x / 2 ^ k) j ≡ hasBit x (k + j)
+bit-shr x k j = bit-is (x / 2 ^ k) j x (k + j) (ap (λ (n : ℕ). n % 2) (shr-shr x k j))
+
+-- the low bits are those of the remainder
+bit-mod : (x w j : ℕ) → j < w → hasBit (x % 2 ^ w) j ≡ hasBit x j
+bit-mod x w j h =
+    let d = w - (1 + j) in
+    let e : d + (1 + j) ≡ w = omega arith in
+    let a : x % 2 ^ w % 2 ^ (1 + j) ≡ x % 2 ^ (1 + j) = subst (λ (k : ℕ). x % 2 ^ k % 2 ^ (1 + j) ≡ x % 2 ^ (1 + j)) e (mod-mod-pow x d (1 + j)) in
+    bit-is (x % 2 ^ w) j x j (sym (field (x % 2 ^ w) 1 j) ∙ ap (λ (n : ℕ). n / 2 ^ j) a ∙ field x 1 j)
+
+shl-low : (x k j : ℕ) → j < k → x * 2 ^ k / 2 ^ j % 2 ≡ 0
+shl-low x k j h =
+    let d = k - (1 + j) in
+    let e : (d + 1) + j ≡ k = omega arith in
+    subst (λ (i : ℕ). x * 2 ^ i / 2 ^ j % 2 ≡ 0) e
+    (ap (λ (n : ℕ). n / 2 ^ j % 2) (ap (λ (n : ℕ). x * n) (pow-add 2 (d + 1) j) ∙ sym (mul-assoc x (2 ^ (d + 1)) (2 ^ j)))
+    ∙ ap (λ (n : ℕ). n % 2) (shl-shr (x * 2 ^ (d + 1)) j)
+    ∙ ap (λ (n : ℕ). x * n % 2) (pow-add 2 d 1)
+    ∙ ap (λ (n : ℕ). n % 2) (sym (mul-assoc x (2 ^ d) 2))
+    ∙ mul-mod-left (x * 2 ^ d) 2)
+
+shl-high : (x k j : ℕ) → x * 2 ^ k / 2 ^ (k + j) ≡ x / 2 ^ j
+shl-high x k j = sym (shr-shr (x * 2 ^ k) k j) ∙ ap (λ (n : ℕ). n / 2 ^ j) (shl-shr x k)
+
+bit-shl : (x k w j : ℕ) → j < w → hasBit (x * 2 ^ k % 2 ^ w) j ≡ leb k j && hasBit x (j - k)
+bit-shl x k w j h = bit-mod (x * 2 ^ k) w j h ∙ elim (decLt j k) [
+  | yes l ↦ bit-zero (x * 2 ^ k) j (shl-low x k j l) ∙ sym (ap (λ (b : Bool). b && hasBit x (j - k)) (lt-leb k j l))
+  | no l ↦
+      let e : k + (j - k) ≡ j = omega arith in
+      subst (λ (i : ℕ). hasBit (x * 2 ^ k) i ≡ hasBit x (j - k)) e (bit-is (x * 2 ^ k) (k + (j - k)) x (j - k) (ap (λ (n : ℕ). n % 2) (shl-high x k (j - k))))
+      ∙ sym (ap (λ (b : Bool). b && hasBit x (j - k)) (le-leb k j (omega arith)))
+]
+
+-- ---- a byte and the bytes above it
+bit-low : (a b j : ℕ) → a < 256 → j < 8 → hasBit (a + 256 * b) j ≡ hasBit a j
+bit-low a b j h l =
+    let e : (a + 256 * b) % 2 ^ 8 ≡ a = omega arith in
+    sym (bit-mod (a + 256 * b) 8 j l) ∙ ap (λ (n : ℕ). hasBit n j) e
+
+bit-high : (a b j : ℕ) → a < 256 → hasBit (a + 256 * b) (8 + j) ≡ hasBit b j
+bit-high a b j h =
+    let e : (a + 256 * b) / 2 ^ 8 ≡ b = omega arith in
+    sym (bit-shr (a + 256 * b) 8 j) ∙ ap (λ (n : ℕ). hasBit n j) e
+
+-- ---- numbers in bytes
+in-next : (s : List ℕ) (i j : ℕ) → inSet s (suc i) j ≡ inSet s i (8 + j)
+unfolding inSet
+in-next s i j =
+    let a : i + (8 + j) / 8 ≡ suc i + j / 8 = omega arith in
+    let b : (8 + j) % 8 ≡ j % 8 = omega arith in
+    rw (a, b)
+
+in-first : (s : List ℕ) (i j : ℕ) → j < 8 → inSet s i j ≡ hasBit (getD s i 0) j
+unfolding inSet
+in-first s i j h =
+    let a : i + j / 8 ≡ i = omega arith in
+    let b : j % 8 ≡ j = omega arith in
+    rw (a, b)
+
+-- the bits of k bytes are those of their number
+number-bit : (k : ℕ) (s : List ℕ) (i j : ℕ) → ((m : ℕ) → getD s m 0 < 256) → j < 8 * k → hasBit (numberAt k s i) j ≡ inSet s i j
+number-bit zero s i j f h = absurd (omega arith)
+number-bit (suc k) s i j f h = elim (decLt j 8) [
+  | yes l ↦ bit-low (getD s i 0) (numberAt k s (suc i)) j (f i) l ∙ sym (in-first s i j l)
+  | no l ↦
+      let e : 8 + (j - 8) ≡ j = omega arith in
+      subst (λ (n : ℕ). hasBit (getD s i 0 + 256 * numberAt k s (suc i)) n ≡ inSet s i n) e
+      (bit-high (getD s i 0) (numberAt k s (suc i)) (j - 8) (f i) ∙ number-bit k s (suc i) (j - 8) f (omega arith) ∙ in-next s i (j - 8))
+]
+
+pub eight-bit : (s : List ℕ) (i j : ℕ) → ((m : ℕ) → getD s m 0 < 256) → j < 64 → hasBit (eightAt s i) j ≡ inSet s i j
+unfolding eightAt
+eight-bit s i j f h = number-bit 8 s i j f h
+
+-- ---- bytes written
+sets-before : (vs l : List ℕ) (i j : ℕ) → j < i → getD (sets l i vs) j 0 ≡ getD l j 0
+sets-before [] l i j h = refl
+sets-before (v ∷ vs) l i j h = sets-before vs (set l i v) (suc i) j (omega arith) ∙ getD-set-other l i j v 0 (λ e. omega arith)
+
+sets-behind : (vs l : List ℕ) (i j : ℕ) → i + length vs ≤ j → getD (sets l i vs) j 0 ≡ getD l j 0
+sets-behind [] l i j h = refl
+sets-behind (v ∷ vs) l i j h = sets-behind vs (set l i v) (suc i) j (omega arith) ∙ getD-set-other l i j v 0 (λ e. omega arith)
+
+number-written : (k : ℕ) (s : List ℕ) (i x j : ℕ) → i + k ≤ length s → j < 8 * k → inSet (sets s i (littleEndian k x)) i j ≡ hasBit x j
+number-written zero s i x j r h = absurd (omega arith)
+number-written (suc k) s i x j r h = elim (decLt j 8) [
+  | yes l ↦ in-first (sets (set s i (x % 256)) (suc i) (littleEndian k (x / 256))) i j l
+      ∙ ap (λ (n : ℕ). hasBit n j) (sets-before (littleEndian k (x / 256)) (set s i (x % 256)) (suc i) i (omega arith) ∙ getD-set-same s i (x % 256) 0 (omega arith))
+      ∙ bit-mod x 8 j l
+  | no l ↦
+      let e : 8 + (j - 8) ≡ j = omega arith in
+      let t = sets (set s i (x % 256)) (suc i) (littleEndian k (x / 256)) in
+      subst (λ (n : ℕ). inSet t i n ≡ hasBit x n) e
+      (sym (in-next t i (j - 8)) ∙ number-written k (set s i (x % 256)) (suc i) (x / 256) (j - 8) (omega (arith, length-set s i (x % 256))) (omega arith) ∙ bit-shr x 8 (j - 8))
+]
+
+pub eight-written : (s : List ℕ) (i x j : ℕ) → i + 8 ≤ length s → j < 64 → inSet (withEight s i x) i j ≡ hasBit x j
+unfolding withEight
+eight-written s i x j r h = number-written 8 s i x j r h
+
+pub eight-before : (s : List ℕ) (i x j : ℕ) → j < i → getD (withEight s i x) j 0 ≡ getD s j 0
+unfolding withEight
+eight-before s i x j h = sets-before (littleEndian 8 x) s i j h
+
+pub eight-behind : (s : List ℕ) (i x j : ℕ) → i + 8 ≤ j → getD (withEight s i x) j 0 ≡ getD s j 0
+unfolding withEight
+eight-behind s i x j h = sets-behind (littleEndian 8 x) s i j h
+
+-- ---- one word more
+pub sum-bit : (f t after before rest j : ℕ) → j < 64
+    → hasBit (wordSum f t after before rest) j ≡ hasBit t j || (leb before j && (hasBit f (after + (j - before)) && hasBit rest (j - before)))
+unfolding wordSum
+sum-bit f t after before rest j h =
+    bit-or t (bitAnd (f / 2 ^ after) rest * 2 ^ before % 2 ^ 64) j
+    ∙ ap (λ (b : Bool). hasBit t j || b) (bit-shl (bitAnd (f / 2 ^ after) rest) before 64 j h
+    ∙ ap (λ (b : Bool). leb before j && b) (bit-and (f / 2 ^ after) rest (j - before)
+    ∙ ap (λ (b : Bool). b && hasBit rest (j - before)) (bit-shr f after (j - before))))
+
+-- ---- no bits above
+number-none : (k : ℕ) (s : List ℕ) (i j : ℕ) → ((m : ℕ) → getD s m 0 < 256) → 8 * k ≤ j → hasBit (numberAt k s i) j ≡ false
+number-none zero s i j f h = bit-zero 0 j (ap (λ (n : ℕ). n % 2) (zero-div (2 ^ j)))
+number-none (suc k) s i j f h =
+    let e : 8 + (j - 8) ≡ j = omega arith in
+    subst (λ (n : ℕ). hasBit (getD s i 0 + 256 * numberAt k s (suc i)) n ≡ false) e
+    (bit-high (getD s i 0) (numberAt k s (suc i)) (j - 8) (f i) ∙ number-none k s (suc i) (j - 8) f (omega arith))
+
+pub eight-none : (s : List ℕ) (i j : ℕ) → ((m : ℕ) → getD s m 0 < 256) → 64 ≤ j → hasBit (eightAt s i) j ≡ false
+unfolding eightAt
+eight-none s i j f h = number-none 8 s i j f h
+
+-- ---- bytes stay bytes
+set-small : (l : List ℕ) (i v : ℕ) → v < 256 → ((m : ℕ) → getD l m 0 < 256) → (m : ℕ) → getD (set l i v) m 0 < 256
+set-small l i v h f m = elim (decLt m (length l)) [
+  | yes r ↦ elim (ℕ-discrete m i) [
+    | yes e ↦ subst (λ (k : ℕ). getD (set l i v) k 0 < 256) (sym e) (rw (getD-set-same l i v 0 (omega arith)) h)
+    | no e ↦ rw (getD-set-other l i m v 0 e) (f m)
+  ]
+  | no r ↦ rw (List·getD-eq-default (set l i v) 0 {n = m} (omega (arith, length-set l i v))) (omega arith)
+]
+
+number-small : (k : ℕ) (l : List ℕ) (i x : ℕ) → ((m : ℕ) → getD l m 0 < 256) → (m : ℕ) → getD (sets l i (littleEndian k x)) m 0 < 256
+number-small zero l i x f m = f m
+number-small (suc k) l i x f m = number-small k (set l i (x % 256)) (suc i) (x / 256) (set-small l i (x % 256) (omega arith) f) m
+
+pub eight-small : (l : List ℕ) (i x : ℕ) → ((m : ℕ) → getD l m 0 < 256) → (m : ℕ) → getD (withEight l i x) m 0 < 256
+unfolding withEight
+eight-small l i x f m = number-small 8 l i x f m
+
+pub eight-length : (l : List ℕ) (i x : ℕ) → length (withEight l i x) ≡ length l
+unfolding withEight
+eight-length l i x = length-sets l i (littleEndian 8 x)
+
+-- the bits of a set, byte by byte and word by word
+pub in-same : (s t : List ℕ) (at n : ℕ) → getD t (at + n / 8) 0 ≡ getD s (at + n / 8) 0 → inSet t at n ≡ inSet s at n
+unfolding inSet
+in-same s t at n e = ap (λ (b : ℕ). hasBit b (n % 8)) e
+
+pub in-word : (s : List ℕ) (at v j : ℕ) → inSet s at (64 * v + j) ≡ inSet s (at + 8 * v) j
+unfolding inSet
+in-word s at v j =
+    let a : at + (64 * v + j) / 8 ≡ at + 8 * v + j / 8 = omega arith in
+    let b : (64 * v + j) % 8 ≡ j % 8 = omega arith in
+    rw (a, b)

@@ -1,0 +1,4 @@
+pub mod Bits
+pub mod WordSets
+pub mod States
+pub mod RestBits

@@ -1,0 +1,228 @@
+-- Laws of sets by words: what one record adds.
+use mathlib.Core.Path.{_≡_, refl, ap, ap₂, sym, subst, _∙_}
+use mathlib.Core.Bool.{Bool, true, false, _&&_, _||_}
+use mathlib.Core.Logic.{⊎-elim}
+use mathlib.Core.List.{List}
+use Prim.Native.Nat.{ℕ, _+_, _-_, _*_, _/_, _%_, _<_, _≤_}
+use native.Mathlib.Decide.{ℕ-discrete, decLt}
+use native.Mathlib.Omega.{arith}
+use lib.Dec.{leb, ltb}
+use lib.ListN.{length, getD}
+use borrow.Author.Tests.{le-leb, lt-leb, lt-ltb, le-ltb, leb-true, ltb-true}
+use Rattle.model.proofs.Tests.{by-test, same-test}
+use Rattle.wordsets.specs.WordSets.{hasBit, inSet, eightAt, withEight, wordSum, gains, inWords, OutsideSet, SetsApart, RowAdded, inBlock, BlockFits, RecordAdded}
+use Rattle.wordsets.proofs.Bits.{eight-bit, eight-none, eight-written, eight-before, eight-behind, eight-small, eight-length, sum-bit, in-same, in-word}
+
+abbrev AllBytes : List ℕ → Type 0
+AllBytes s = (m : ℕ) → getD s m 0 < 256
+
+and-false : (a : Bool) → (a && false) ≡ false
+and-false true = refl
+and-false false = refl
+
+and-swap : (a b : Bool) → (a && b) ≡ (b && a)
+and-swap true b = by-test b (λ t. rw t) (λ f. rw f)
+and-swap false b = sym (and-false b)
+
+or-false : (a : Bool) → (a || false) ≡ a
+or-false true = refl
+or-false false = refl
+
+-- the words below w are added
+pub record Adding (from to y x rest low w : ℕ) (s t : List ℕ) : Type 0 where
+  pub later : low ≤ w
+  pub row : RowAdded from to y x rest low w s t
+  pub bytes : AllBytes t
+
+no-words : (x low n : ℕ) → inWords x low low n ≡ false
+unfolding inWords
+no-words x low n = elim (decLt (n / 64) (x / 64 + low)) [
+  | yes l ↦ rw (lt-leb (x / 64 + low) (n / 64) l)
+  | no l ↦ rw (le-leb (x / 64 + low) (n / 64) (omega arith), le-ltb (n / 64) (x / 64 + low) (omega arith))
+]
+
+pub adding-start : (from to y x rest low : ℕ) (s : List ℕ) → AllBytes s → Adding from to y x rest low low s s
+adding-start from to y x rest low s b = record {
+  later = omega arith;
+  row = record {
+    outside = record { size = refl; before = λ i h. refl; behind = λ i h. refl };
+    members = λ n h. rw (no-words x low n) (sym (or-false (inSet s to n)));
+  };
+  bytes = b;
+}
+
+module _ (from to y x rest low high w : ℕ) (s t : List ℕ) (sep : SetsApart s from to) (less : w < high) (fy : y / 64 + high ≤ 64) (fx : x / 64 + high ≤ 64) (a : Adding from to y x rest low w s t) where
+  abbrev source : ℕ
+  source = from + 8 * (y / 64 + w)
+
+  abbrev target : ℕ
+  target = to + 8 * (x / 64 + w)
+
+  abbrev value : ℕ
+  value = wordSum (eightAt t source) (eightAt t target) (y % 64) (x % 64) rest
+
+  abbrev next : List ℕ
+  next = withEight t target value
+
+  room : target + 8 ≤ length t
+  room = omega (arith, sep .to-room, a .row .outside .size)
+
+  -- the set `from` is as it was
+  from-same : (q : ℕ) → q < 4096 → inSet t from q ≡ inSet s from q
+  from-same q h = in-same s t from q (⊎-elim
+      (λ (l : from + 512 ≤ to). a .row .outside .before (from + q / 8) (omega arith))
+      (λ (l : to + 512 ≤ from). a .row .outside .behind (from + q / 8) (omega arith))
+      (sep .apart))
+
+  -- bit q of the word that is read
+  read-bit : (q : ℕ) → hasBit (eightAt t source) q ≡ ltb q 64 && inSet s from (64 * (y / 64 + w) + q)
+  read-bit q = elim (decLt q 64) [
+    | yes l ↦ eight-bit t source q (a .bytes) l ∙ sym (in-word t from (y / 64 + w) q) ∙ from-same (64 * (y / 64 + w) + q) (omega arith)
+        ∙ sym (ap (λ (b : Bool). b && inSet s from (64 * (y / 64 + w) + q)) (lt-ltb q 64 l))
+    | no l ↦ eight-none t source q (a .bytes) (omega arith) ∙ sym (ap (λ (b : Bool). b && inSet s from (64 * (y / 64 + w) + q)) (le-ltb q 64 (omega arith)))
+  ]
+
+  -- the word that is written
+  here : (j : ℕ) → j < 64 → inSet next to (64 * (x / 64 + w) + j)
+      ≡ inSet t to (64 * (x / 64 + w) + j) || (leb (x % 64) j && (hasBit rest (j - x % 64) && (ltb (y % 64 + (j - x % 64)) 64 && inSet s from (64 * (y / 64 + w) + (y % 64 + (j - x % 64))))))
+  here j h =
+      let q = y % 64 + (j - x % 64) in
+      in-word next to (x / 64 + w) j ∙ eight-written t target value j room h ∙ sum-bit (eightAt t source) (eightAt t target) (y % 64) (x % 64) rest j h
+      ∙ ap₂ (λ (b c : Bool). b || (leb (x % 64) j && c)) (eight-bit t target j (a .bytes) h ∙ sym (in-word t to (x / 64 + w) j))
+      (and-swap (hasBit (eightAt t source) q) (hasBit rest (j - x % 64)) ∙ ap (λ (b : Bool). hasBit rest (j - x % 64) && b) (read-bit q))
+
+  words-here : (n : ℕ) → n / 64 ≡ x / 64 + w → (inWords x low w n ≡ false) × (inWords x low (w + 1) n ≡ true)
+  unfolding inWords
+  words-here n e =
+      let l : leb (x / 64 + low) (n / 64) ≡ true = le-leb (x / 64 + low) (n / 64) (omega (arith, a .later)) in
+      (rw (l, le-ltb (n / 64) (x / 64 + w) (omega arith)), rw (l, lt-ltb (n / 64) (x / 64 + (w + 1)) (omega arith)))
+
+  words-other : (n : ℕ) → (n / 64 ≡ x / 64 + w → ⊥) → inWords x low (w + 1) n ≡ inWords x low w n
+  unfolding inWords
+  words-other n ne = ap (λ (b : Bool). leb (x / 64 + low) (n / 64) && b) (elim (decLt (n / 64) (x / 64 + w)) [
+    | yes l ↦ lt-ltb (n / 64) (x / 64 + (w + 1)) (omega arith) ∙ sym (lt-ltb (n / 64) (x / 64 + w) l)
+    | no l ↦ le-ltb (n / 64) (x / 64 + (w + 1)) (omega arith) ∙ sym (le-ltb (n / 64) (x / 64 + w) (omega arith))
+  ])
+
+  gains-here : (n : ℕ) → n / 64 ≡ x / 64 + w → gains s from y x rest n
+      ≡ leb (x % 64) (n % 64) && (hasBit rest (n % 64 - x % 64) && (ltb (y % 64 + (n % 64 - x % 64)) 64 && inSet s from (64 * (y / 64 + w) + (y % 64 + (n % 64 - x % 64)))))
+  unfolding gains
+  gains-here n e = let z : n / 64 - x / 64 + y / 64 ≡ y / 64 + w = omega arith in rw z
+
+  turn-members : (n : ℕ) → n < 4096 → inSet next to n ≡ inSet s to n || (inWords x low (w + 1) n && gains s from y x rest n)
+  turn-members n h = elim (ℕ-discrete (n / 64) (x / 64 + w)) [
+    | yes e ↦
+        let is : 64 * (x / 64 + w) + n % 64 ≡ n = omega arith in
+        let words = words-here n e in
+        let old : inSet t to n ≡ inSet s to n = a .row .members n h ∙ ap (λ (b : Bool). inSet s to n || (b && gains s from y x rest n)) (words .0) ∙ or-false (inSet s to n) in
+        subst (λ (k : ℕ). inSet next to k ≡ inSet t to k || (leb (x % 64) (n % 64) && (hasBit rest (n % 64 - x % 64) && (ltb (y % 64 + (n % 64 - x % 64)) 64 && inSet s from (64 * (y / 64 + w) + (y % 64 + (n % 64 - x % 64)))))))
+        is (here (n % 64) (omega arith))
+        ∙ ap₂ (λ (b c : Bool). b || c) old (sym (gains-here n e) ∙ sym (ap (λ (b : Bool). b && gains s from y x rest n) (words .1)))
+    | no ne ↦
+        in-same t next to n (elim (decLt (n / 64) (x / 64 + w)) [
+          | yes l ↦ eight-before t target value (to + n / 8) (omega arith)
+          | no l ↦ eight-behind t target value (to + n / 8) (omega arith)
+        ])
+        ∙ a .row .members n h ∙ ap (λ (b : Bool). inSet s to n || (b && gains s from y x rest n)) (sym (words-other n ne))
+  ]
+
+  turn : Adding from to y x rest low (w + 1) s next
+  turn = record {
+    later = omega (arith, a .later);
+    row = record {
+      outside = record {
+        size = eight-length t target value ∙ a .row .outside .size;
+        before = λ i l. eight-before t target value i (omega arith) ∙ a .row .outside .before i l;
+        behind = λ i l. eight-behind t target value i (omega arith) ∙ a .row .outside .behind i l;
+      };
+      members = turn-members;
+    };
+    bytes = eight-small t target value (a .bytes);
+  }
+
+pub adding-turn : {from to y x rest low high w : ℕ} {s t : List ℕ} → SetsApart s from to → w < high → y / 64 + high ≤ 64 → x / 64 + high ≤ 64 → Adding from to y x rest low w s t
+    → Adding from to y x rest low (w + 1) s (withEight t (to + 8 * (x / 64 + w)) (wordSum (eightAt t (from + 8 * (y / 64 + w))) (eightAt t (to + 8 * (x / 64 + w))) (y % 64) (x % 64) rest))
+adding-turn {from} {to} {y} {x} {rest} {low} {high} {w} {s} {t} sep less fy fx a = turn from to y x rest low high w s t sep less fy fx a
+
+-- ---- row after row
+no-block : (x words n : ℕ) → inBlock x 0 words n ≡ false
+unfolding inBlock
+no-block x words n =
+    let w = n / 64 - x / 64 in
+    ap (λ (b : Bool). leb (x / 64) (n / 64) && (b && ltb (w % 8) words)) (le-ltb (w / 8) 0 (omega arith)) ∙ and-false (leb (x / 64) (n / 64))
+
+pub record-start : (from to y x rest words : ℕ) (s : List ℕ) → RecordAdded from to y x rest 0 words s s
+record-start from to y x rest words s = record {
+  outside = record { size = refl; before = λ i h. refl; behind = λ i h. refl };
+  members = λ n l. rw (no-block x words n) (sym (or-false (inSet s to n)));
+}
+
+-- one row more of the block
+block-turn : (x h words n : ℕ) → words ≤ 8 → inBlock x (h + 1) words n ≡ inBlock x h words n || inWords x (8 * h) (8 * h + words) n
+unfolding inBlock inWords
+block-turn x h words n f =
+    let v = n / 64 in
+    let k = x / 64 in
+    let w = v - k in
+    let row = leb (k + 8 * h) v && ltb v (k + (8 * h + words)) in
+    elim (decLt v k) [
+      | yes q ↦ rw (lt-leb k v q, lt-leb (k + 8 * h) v (omega arith))
+      | no q ↦ rw (le-leb k v (omega arith)) (elim (ℕ-discrete (w / 8) h) [
+        | yes e ↦
+            let d : ltb (w % 8) words ≡ ltb v (k + (8 * h + words)) = same-test (ltb (w % 8) words) (ltb v (k + (8 * h + words)))
+            (λ t. lt-ltb v (k + (8 * h + words)) (omega (arith, ltb-true (w % 8) words t)))
+            (λ t. lt-ltb (w % 8) words (omega (arith, ltb-true v (k + (8 * h + words)) t))) in
+            rw (lt-ltb (w / 8) (h + 1) (omega arith), le-ltb (w / 8) h (omega arith), le-leb (k + 8 * h) v (omega arith)) d
+        | no e ↦ elim (decLt (w / 8) h) [
+          | yes m ↦ rw (lt-ltb (w / 8) (h + 1) (omega arith), lt-ltb (w / 8) h m, lt-leb (k + 8 * h) v (omega arith)) (sym (or-false (ltb (w % 8) words)))
+          | no m ↦ rw (le-ltb (w / 8) (h + 1) (omega arith), le-ltb (w / 8) h (omega arith)) (sym (ap (λ (b : Bool). leb (k + 8 * h) v && b) (le-ltb v (k + (8 * h + words)) (omega arith)) ∙ and-false (leb (k + 8 * h) v)))
+        ]
+      ])
+    ]
+
+-- what a word of the row gains does not hang on the set that is filled
+gains-same : (from to y x rest low high n : ℕ) (s t : List ℕ) → SetsApart s from to → OutsideSet to s t → y / 64 + high ≤ 64
+    → (inWords x low high n && gains t from y x rest n) ≡ (inWords x low high n && gains s from y x rest n)
+unfolding gains inWords
+gains-same from to y x rest low high n s t sep out f = by-test (leb (x / 64 + low) (n / 64))
+    (λ m. by-test (ltb (n / 64) (x / 64 + high))
+    (λ l. rw (m, l) (ap (λ (b : Bool). leb (x % 64) (n % 64) && (hasBit rest (n % 64 - x % 64) && b)) (inner (leb-true (x / 64 + low) (n / 64) m) (ltb-true (n / 64) (x / 64 + high) l))))
+    (λ l. rw (m, l)))
+    (λ m. rw m)
+  where
+    q : ℕ
+    q = y % 64 + (n % 64 - x % 64)
+
+    k : ℕ
+    k = 64 * (n / 64 - x / 64 + y / 64) + q
+
+    inner : x / 64 + low ≤ n / 64 → n / 64 < x / 64 + high → (ltb q 64 && inSet t from k) ≡ (ltb q 64 && inSet s from k)
+    inner h l = by-test (ltb q 64)
+        (λ m. let small : q < 64 = ltb-true q 64 m in
+        let low-enough : k < 4096 = omega arith in
+        ap (λ (b : Bool). ltb q 64 && b) (in-same s t from k (⊎-elim
+        (λ (z : from + 512 ≤ to). out .before (from + k / 8) (omega arith))
+        (λ (z : to + 512 ≤ from). out .behind (from + k / 8) (omega arith))
+        (sep .apart))))
+        (λ m. rw m)
+
+join-rows : (a b c g : Bool) → ((a || (b && g)) || (c && g)) ≡ (a || ((b || c) && g))
+join-rows true b c g = refl
+join-rows false true c true = refl
+join-rows false true c false = and-false c
+join-rows false false c g = refl
+
+pub record-turn : {from to y x rest rows words h : ℕ} {s t u : List ℕ} → SetsApart s from to → BlockFits y x rows words → h < rows → RecordAdded from to y x rest h words s t
+    → RowAdded from to y x rest (8 * h) (8 * h + words) t u → RecordAdded from to y x rest (h + 1) words s u
+record-turn {from} {to} {y} {x} {rest} {rows} {words} {h} {s} {t} {u} sep fits l b r = record {
+  outside = record {
+    size = r .outside .size ∙ b .outside .size;
+    before = λ i q. r .outside .before i q ∙ b .outside .before i q;
+    behind = λ i q. r .outside .behind i q ∙ b .outside .behind i q;
+  };
+  members = λ n q.
+      r .members n q
+      ∙ ap₂ (λ (c d : Bool). c || d) (b .members n q) (gains-same from to y x rest (8 * h) (8 * h + words) n s t sep (b .outside) (omega (arith, fits .after, fits .short)))
+      ∙ join-rows (inSet s to n) (inBlock x h words n) (inWords x (8 * h) (8 * h + words) n) (gains s from y x rest n)
+      ∙ ap (λ (c : Bool). inSet s to n || (c && gains s from y x rest n)) (sym (block-turn x h words n (fits .short)));
+}

@@ -1,0 +1,69 @@
+-- The rows of a record in turn.
+use Rattle.wordsets.proofs.WordSets.{record-start, record-turn}
+use Rattle.wordsets.specs.WordSets.{RecordAdded}
+use Prim.Native.Nat.{ℕ, _-_, _≤_}
+use mathlib.Core.Path.{_≡_, subst}
+use native.Mathlib.Omega.{arith}
+use Rattle.wordsets.proofs.add_record.Statement.{statement}
+use Rattle.wordsets.proofs.add_record.Tie as tie
+
+abbrev Inv-loop : tie.InvT-loop
+Inv-loop s₀ from to y x rest rows words h₀ s h = (h ≤ rows) × RecordAdded from to y x rest h words s₀ s
+
+abbrev μ-loop : tie.MeasureT-loop
+μ-loop s₀ from to y x rest rows words h₀ s h = rows - h
+
+loop-holds : tie.Need-loop-holds Inv-loop μ-loop
+loop-holds c = let a = c .before .args in (omega arith, record-start (a .from) (a .to) (a .y) (a .x) (a .rest) (a .words) (a .s .now))
+
+mul-add-row : tie.Need-mul-add-row Inv-loop μ-loop
+mul-add-row c = omega (arith, c .before .before .before .before .pre .1 .before)
+
+mul-add-row-2 : tie.Need-mul-add-row-2 Inv-loop μ-loop
+mul-add-row-2 c = omega (arith, c .before .before .before .before .pre .1 .before)
+
+add-add-row : tie.Need-add-add-row Inv-loop μ-loop
+add-add-row c = omega (arith, c .before .before .before .before .pre .1 .before)
+
+add-row-requires : tie.Need-add-row-requires Inv-loop μ-loop
+add-row-requires c κs =
+    let sep = c .before .before .before .before .pre .0 in
+    let fits = c .before .before .before .before .pre .1 in
+    let size = c .before .before .loop .inv .1 .outside .size in (
+      record { apart = sep .apart; from-room = omega (arith, sep .from-room, size); to-room = omega (arith, sep .to-room, size) },
+      omega arith,
+      omega (arith, fits .after),
+      omega (arith, fits .before),
+    )
+
+loop-again : tie.Need-loop-again Inv-loop μ-loop
+loop-again c =
+    let p = c .before .before .before .before .before .before .before .pre in
+    (omega arith, record-turn (p .0) (p .1) (c .before .before .before .before .loop-test .taken) (c .before .before .before .before .before .loop .inv .1) (c .before .before .add-row .ensures))
+
+same-length : tie.Need-same-length Inv-loop μ-loop
+same-length c = c .before .loop .inv .1 .outside .size
+
+returns : tie.Need-returns Inv-loop μ-loop
+returns c =
+    let a = c .before .before .before .args in
+    let t = c .before .loop in
+    let e : t .h ≡ a .rows = omega (arith, t .inv .0) in
+    subst (λ (k : ℕ). RecordAdded (a .from) (a .to) (a .y) (a .x) (a .rest) k (a .words) (a .s .now) (t .s)) e (t .inv .1)
+
+pub add-record-spec : {M : Type 1} → statement M
+add-record-spec =
+    tie.close
+    (tie.spec
+    Inv-loop
+    μ-loop
+    loop-holds
+    mul-add-row
+    mul-add-row-2
+    add-add-row
+    add-row-requires
+    (λ c. omega arith)
+    (λ c. omega arith)
+    loop-again
+    same-length
+    returns)

@@ -1,0 +1,112 @@
+// Sets of state numbers in lent bytes, 64 numbers at a time.
+use packs::pack_at;
+ghost use mathlib.Core.Path.{_≡_};
+ghost use mathlib.Core.Bool.{cond};
+ghost use Prim.Native.Nat.{_+_, _*_, _/_, _<_, _≤_};
+ghost use lib.ListN.{length};
+ghost use Rattle.wordsets.specs.WordSets.{eightAt, withEight, wordSum, RestBits, SetsApart, RowAdded, BlockFits, RecordAdded};
+
+fn as_u64(x: u32) -> u64
+    ensures { λ r. ⌜ (r ≡ x) × (r < 4294967296) ⌝ }
+{
+    x as u64
+}
+
+fn eight_at(s: &[u8], i: usize) -> u64
+    requires { ⌜ i + 8 ≤ length (now s) ⌝ }
+    ensures { λ r. ⌜ r ≡ eightAt (now (s .entry)) i ⌝ }
+{
+    as_u64(pack_at(s, i)) + 4294967296 * as_u64(pack_at(s, i + 4))
+}
+
+fn put_eight(s: &mut [u8], i: usize, x: u64)
+    requires { ⌜ i + 8 ≤ length (now s) ⌝ }
+    ensures { λ _. ⌜ now (s .exit) ≡ withEight (now (s .entry)) i x ⌝ }
+{
+    s[i] = (x % 256) as u8;
+    s[i + 1] = (x / 256 % 256) as u8;
+    s[i + 2] = (x / 256 / 256 % 256) as u8;
+    s[i + 3] = (x / 256 / 256 / 256 % 256) as u8;
+    s[i + 4] = (x / 256 / 256 / 256 / 256 % 256) as u8;
+    s[i + 5] = (x / 256 / 256 / 256 / 256 / 256 % 256) as u8;
+    s[i + 6] = (x / 256 / 256 / 256 / 256 / 256 / 256 % 256) as u8;
+    s[i + 7] = (x / 256 / 256 / 256 / 256 / 256 / 256 / 256 % 256) as u8;
+}
+
+// Adds to the word at `to` what the word at `from` has, of the numbers in rest.
+fn add_word(s: &mut [u8], from: usize, to: usize, after: usize, before: usize, rest: u64)
+    requires { ⌜ (from + 8 ≤ length (now s)) × (to + 8 ≤ length (now s)) × (after < 64) × (before < 64) ⌝ }
+    ensures { λ _. ⌜ now (s .exit) ≡ withEight (now (s .entry)) to (wordSum (eightAt (now (s .entry)) from) (eightAt (now (s .entry)) to) after before rest) ⌝ }
+{
+    let found = (eight_at(s, from) >> after) & rest;
+    let word = eight_at(s, to) | (found << before);
+    put_eight(s, to, word);
+}
+
+// Adds to the set at `to` the numbers with the own part x whose likes with the own part y are in the set at `from`: those in the words from low on
+// and below high behind the word of x.
+fn add_row(
+    s: &mut [u8],
+    from: usize,
+    to: usize,
+    y: usize,
+    x: usize,
+    rest: u64,
+    low: usize,
+    high: usize,
+)
+    requires { ⌜ SetsApart (now s) from to × (low ≤ high) × (y / 64 + high ≤ 64) × (x / 64 + high ≤ 64) ⌝ }
+    ensures { λ _. ⌜ RowAdded from to y x rest low high (now (s .entry)) (now (s .exit)) ⌝ }
+{
+    let mut w = low;
+    while w < high {
+        add_word(
+            s,
+            from + 8 * (y / 64 + w),
+            to + 8 * (x / 64 + w),
+            y % 64,
+            x % 64,
+            rest,
+        );
+        w += 1;
+    }
+}
+
+// Adds to the set at `to` all that one record gives: the numbers with the own part x whose likes with the own part y are in the set at `from`. The
+// other processes' states: those below rows of process 0, below words of process 1, and as the bits of rest those of processes 2 and 3. Of a process
+// that the record has a part in it is 0 alone.
+pub fn add_record(
+    s: &mut [u8],
+    from: usize,
+    to: usize,
+    y: usize,
+    x: usize,
+    rest: u64,
+    rows: usize,
+    words: usize,
+)
+    requires { ⌜ SetsApart (now s) from to × BlockFits y x rows words ⌝ }
+    ensures { λ _. ⌜ RecordAdded from to y x rest rows words (now (s .entry)) (now (s .exit)) ⌝ }
+{
+    let mut h = 0;
+    while h < rows {
+        add_row(s, from, to, y, x, rest, 8 * h, 8 * h + words);
+        h += 1;
+    }
+}
+
+// The bits of rest for a record that has a part in process 2, or not, and in process 3, or not: 0 alone, else all eight states.
+pub fn rest_bits(second: bool, third: bool) -> u64
+    ensures { λ r. ⌜ RestBits r (cond second 1 8) (cond third 1 8) ⌝ }
+{
+    if second {
+        if third {
+            return 1;
+        }
+        return 255;
+    }
+    if third {
+        return 72340172838076673;
+    }
+    18446744073709551615
+}
