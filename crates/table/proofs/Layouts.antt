@@ -2,7 +2,7 @@
 use mathlib.Core.Bool.{true, _&&_}
 use mathlib.Core.List.{List, [], _∷_}
 use mathlib.Core.Logic.{⊎-elim}
-use mathlib.Core.Path.{_≡_, sym, ap, _∙_, subst}
+use mathlib.Core.Path.{_≡_, refl, sym, ap, _∙_, subst}
 use Prim.Native.Nat.{ℕ, zero, suc, _+_, _-_, _*_, _^_, _<_, _≤_}
 use native.Mathlib.Nat.{not-suc-le-zero, le-of-suc-le-suc, eq-or-lt-of-le, mul-le-mul-right, suc-mul}
 use native.Mathlib.Omega.{arith}
@@ -12,15 +12,15 @@ use lib.Seq.{getD-take, getD-drop}
 use borrow.Author.Tests.{ltb-true, leb-true}
 use Rattle.model.proofs.Tests.{and-left, and-right}
 use Rattle.model.specs.Automata.{Transition}
-use Rattle.model.specs.Groups.{Processes, processesOf}
+use Rattle.model.specs.Groups.{Process, Processes, processesOf}
 use Rattle.model.specs.Systems.{Rule}
-use Rattle.model.specs.Tables.{locOf, writtenPlaces, bodyLength, bodies, byteOf, groupOf, ruleOf, transitionOf, valueFits, systemOf}
+use Rattle.model.specs.Tables.{locOf, statesOf, writtenPlaces, bodyLength, bodies, byteOf, groupOf, numberOf, absent, ruleOf, transitionOf, valueFits, systemOf}
 use Rattle.table.specs.Places.{bodiesAt, offset, placeOf, bodyOf, counts, processesIn, lettersIn, Modest, Heads}
-use Rattle.table.specs.Reading.{Holds, itemsIn, systemIn, ruleIn, transitionIn, acceptingIn, pileIn}
+use Rattle.table.specs.Reading.{Holds, itemsIn, systemIn, ruleIn, transitionIn, acceptingIn, pileIn, statesIn, processAt}
 use Rattle.table.specs.declared.Table.{Table}
 use Rattle.table.proofs.Accepted.{Fit, layout}
 use Rattle.table.proofs.Bodies.{body-length, bodies-length, bodies-at}
-use Rattle.table.proofs.Places.{bodies-below, second-item}
+use Rattle.table.proofs.Places.{bodies-below, first-item, second-item}
 use Rattle.table.proofs.Scans.{all-at}
 use Rattle.table.proofs.Values.{power-bound, rule-letter, rule-count, rule-written, transition-letter}
 
@@ -39,6 +39,13 @@ item-ends : (n : ℕ → ℕ) (k j : ℕ) → j < n k → placeOf n k j + 1 + bo
 item-ends n k j h =
     let e : j * (1 + bodyLength k) + (1 + bodyLength k) ≤ n k * (1 + bodyLength k) = subst (λ (x : ℕ). x ≤ n k * (1 + bodyLength k)) (suc-mul j (1 + bodyLength k)) (mul-le-mul-right {m = suc j} {n = n k} (1 + bodyLength k) h) in
     omega arith
+
+number-at : (i : ℕ) → i < 4 → numberOf (processAt i) ≡ i
+number-at zero h = refl
+number-at (suc zero) h = refl
+number-at (suc (suc zero)) h = refl
+number-at (suc (suc (suc zero))) h = refl
+number-at (suc (suc (suc (suc i)))) h = absurd (omega arith)
 
 module _ (bytes : List ℕ) (t : Table) (h : Holds bytes t) where
   -- the counts are at most the ceilings
@@ -77,6 +84,12 @@ module _ (bytes : List ℕ) (t : Table) (h : Holds bytes t) where
   body-in k j d m l = ap (λ (bs : List (List ℕ)). getD bs j d) (bodies-in k m) ∙ bodies-at bytes (bodyLength k) (offset (counts t 1) k) (counts t 1 k) j d l
 
   -- ---- processes and letters
+  processes-are : bodies 1 (itemsIn bytes) ≡ processesIn bytes t
+  processes-are = bodies-in 1 (omega arith) ∙ ap (λ (p : ℕ). bodiesAt bytes 2 p (t .processes)) (first-item t)
+
+  pub states-at : (i : ℕ) → i < 4 → statesIn bytes (processAt i) ≡ byteOf (getD (processesIn bytes t) i absent) 1
+  states-at i l = ap (λ (ps : List (List ℕ)). statesOf ps (processAt i)) processes-are ∙ ap (λ (j : ℕ). byteOf (getD (processesIn bytes t) j absent) 1) (number-at i l)
+
   pub letters-are : bodies 2 (itemsIn bytes) ≡ lettersIn bytes t
   letters-are = bodies-in 2 (omega arith) ∙ ap (λ (p : ℕ). bodiesAt bytes 1 p (t .letters)) (second-item t)
 

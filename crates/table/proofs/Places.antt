@@ -126,7 +126,11 @@ lastKind-snoc [] x = refl
 lastKind-snoc (y ∷ []) x = refl
 lastKind-snoc (y ∷ z ∷ xs) x = lastKind-snoc (z ∷ xs) x
 
--- letters stand behind the processes
+-- processes stand first, then letters
+pub first-item : (t : Table) → offset (counts t 1) 1 ≡ 0
+unfolding offset
+first-item t = omega arith
+
 pub second-item : (t : Table) → offset (counts t 1) 2 ≡ 3 * t .processes
 unfolding offset
 second-item t = omega arith

@@ -2,13 +2,13 @@
 use mathlib.Core.Bool.{Bool, cond, not, _&&_, _||_}
 use mathlib.Core.List.{List, []}
 use mathlib.Core.Path.{_≡_}
-use Prim.Native.Nat.{ℕ, suc, _<_, _≤_}
+use Prim.Native.Nat.{ℕ, zero, suc, _<_, _≤_}
 use lib.Dec.{eqb, ltb}
 use lib.ListN.{getD, drop}
 use Rattle.model.specs.Automata.{Transition}
-use Rattle.model.specs.Groups.{Processes, processesOf}
+use Rattle.model.specs.Groups.{Process, p0, p1, p2, p3, Processes, processesOf}
 use Rattle.model.specs.Systems.{Rule, System}
-use Rattle.model.specs.Tables.{Item, bodies, count, groupOf, controlsOf, locOf, ruleOf, transitionOf, valueFits, cooperates, leavesControl, isTwin, Reading, accepted, refused, readFrom, read, systemOf}
+use Rattle.model.specs.Tables.{Item, bodies, count, groupOf, controlsOf, statesOf, locOf, ruleOf, transitionOf, valueFits, cooperates, leavesControl, isTwin, Reading, accepted, refused, readFrom, read, systemOf}
 use Rattle.model.specs.declared.Group.{Group}
 use Rattle.table.specs.Places.{itemsBefore, Passed}
 use Rattle.table.specs.declared.Cursor.{Cursor}
@@ -54,6 +54,17 @@ acceptingIn bytes k = getD (systemIn bytes .accepting) k (groupOf [] 0)
 
 abbrev pub pileIn : List ℕ → ℕ → ℕ
 pileIn bytes k = getD (systemIn bytes .start .word) k 0
+
+-- the number of states of a process
+abbrev pub statesIn : List ℕ → Process → ℕ
+statesIn bytes i = statesOf (bodies 1 (itemsIn bytes)) i
+
+-- process i, for i below 4
+abbrev pub processAt : ℕ → Process
+processAt zero = p0
+processAt (suc zero) = p1
+processAt (suc (suc zero)) = p2
+processAt (suc (suc (suc i))) = p3
 
 -- bits that stand for a set of processes
 pub record BitsOf (L : Processes) (bits : ℕ) : Type 0 where

@@ -15,6 +15,7 @@ use crate::items::check_item;
 pub use fields::accepting_group;
 pub use fields::group_at;
 pub use fields::letter_bits;
+pub use fields::local_states;
 pub use fields::pile_letter;
 pub use fields::rule_after;
 pub use fields::rule_before;
