@@ -1,3 +1,4 @@
 pub mod RegionLaws
 pub mod RuleOrder
 pub mod WriterSets
+pub mod ActivePositions
