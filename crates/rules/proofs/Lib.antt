@@ -1,3 +1,5 @@
 pub mod RegionLaws
 pub mod RuleOrder
 pub mod WriterSets
+pub mod ActivePositions
+pub mod HeadRuns

@@ -1,9 +1,9 @@
 -- Bytes written one after the other, and sets of positions: one put into a set is in it, every other stays in or out.
 use mathlib.Core.Path.{_≡_, refl, ap, ap₂, sym, subst, _∙_}
-use mathlib.Core.Bool.{Bool, true, false, _||_}
+use mathlib.Core.Bool.{false, _||_}
 use mathlib.Core.Logic.{_⊎_, inl, inr, ⊎-elim}
 use mathlib.Core.List.{List}
-use Prim.Native.Nat.{ℕ, suc, _+_, _-_, _*_, _/_, _%_, _^_, _<_, _≤_, max}
+use Prim.Native.Nat.{ℕ, _+_, _-_, _/_, _%_, _^_, _<_, _≤_, max}
 use native.Mathlib.Decide.{decLt}
 use native.Mathlib.Omega.{arith}
 use lib.Bits.{bitOr, or-shr, or-step}
@@ -14,7 +14,7 @@ use borrow.Author.Tests.{eqb-false, eqb-true}
 use Rattle.model.proofs.Tests.{by-test}
 use Rattle.automaton.specs.StateSets.{inserted, member}
 use Rattle.automaton.proofs.StateSets.{member-byte, member-inserted}
-use Rattle.rules.specs.Regions.{BytesWritten, KeptOutside, Outside, SetAdded, inSet, positionCeiling, setBytes, withPosition}
+use Rattle.rules.specs.Regions.{BytesWritten, KeptOutside, SetAdded, inSet, positionCeiling, setBytes, withPosition}
 
 -- ---- regions
 pub kept-none : (at n : ℕ) (s : List ℕ) → KeptOutside at n s s

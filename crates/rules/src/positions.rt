@@ -4,8 +4,10 @@ ghost use Prim.Native.Nat.{_+_, _<_, _≤_};
 ghost use lib.ListN.{length};
 ghost use Rattle.rules.specs.Regions.{BytesWritten, SetAdded, inSet, positionCeiling, setBytes, withPosition};
 
-// The bytes of a set.
+// The bytes of a set, and the positions that it may have.
 pub const SET: usize = 32;
+
+pub const POSITIONS: usize = 8 * SET;
 
 // Position p is in the set at `at`.
 pub fn contains(s: &[u8], at: usize, p: usize) -> bool

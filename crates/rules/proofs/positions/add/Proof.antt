@@ -1,3 +1,4 @@
+-- The bytes of both sets are joined one after the other.
 use Prim.Native.Nat.{_-_, _≤_}
 use native.Mathlib.Omega.{arith}
 use Rattle.rules.specs.Regions.{BytesWritten, setBytes}

@@ -1,3 +1,4 @@
+-- Zeros are written one after the other.
 use mathlib.Core.Path.{refl}
 use Prim.Native.Nat.{_-_, _≤_}
 use native.Mathlib.Omega.{arith}

@@ -1,3 +1,4 @@
+-- The bit is the one tested.
 use borrow.Author.Needs.{needs}
 use Rattle.rules.proofs.RegionLaws.{contains-is}
 use Rattle.rules.proofs.positions.contains.Statement.{statement}

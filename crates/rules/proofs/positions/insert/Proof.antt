@@ -1,3 +1,4 @@
+-- The bit is the one set.
 use Prim.Native.Nat.{_%_}
 use native.Mathlib.Omega.{arith}
 use borrow.Author.Needs.{needs}
