@@ -1,5 +1,5 @@
 -- Laws of the loops that put the states into a set from which a letter leads into the next one.
-use mathlib.Core.Path.{_≡_, refl, ap, sym, _∙_}
+use mathlib.Core.Path.{_≡_, refl, ap, sym, subst, _∙_}
 use mathlib.Core.Bool.{Bool, true, false, _&&_, _||_, true≢false}
 use mathlib.Core.Logic.{_⊎_, inl, inr, ⊎-elim}
 use mathlib.Core.List.{List}
@@ -23,7 +23,7 @@ use Rattle.start.specs.RestSets.{leads, firstLead, someLead}
 use Rattle.start.specs.OwnGroups.{ownNumber, Under, NextUnder, Framed, Numbered, InFrame, Added}
 use Rattle.start.proofs.ScratchRegions.{same-none, same-join, linked-same, byte-set, set-same}
 use Rattle.start.proofs.Leading.{lead-not, lead-reads, some-lead, the-lead}
-use Rattle.start.proofs.OwnGroups.{own-below, numbered-own, gains-lead, gains-own}
+use Rattle.start.proofs.OwnGroups.{own-below, numbered-own, own-place, gains-lead, gains-own}
 
 zero-under : (top : ℕ) → Under top 0
 zero-under top p0 = omega arith
@@ -102,9 +102,12 @@ module _ (log : List ℕ) (count : ℕ) (members : List ℕ) (a : Letter) (f : F
         taken = λ g i is q h t. absurd (true≢false (sym t ∙ lead-not log members a g q (reads-own g x before q b (i .states) is ∙ w .fails q (omega arith) h)));
       }
 
-  module _ (fr : Framed (processesOf (a .bits)) f) (x : ℕ) (xb : x < stateCount) (under : Under (f .own) x) (before : Group) (b : before ≡ groupNumbered (processesOf (a .bits)) x) (r next : ℕ) (s t u : List ℕ)
-      (same : setAt t (k + 1) ≡ members) (w : Taking x before r s t) (h : r < count) (n : next ≡ firstFrom (recordReads log (a .number) before) (r + 1) (count - (r + 1)))
-      (d : RecordAdded (setPlace (k + 1)) (setPlace k) (ownNumber (processesOf (a .bits)) (afterAt log r)) x (f .rest) (f .rows) (f .words) t u) where
+  module _ (fr : Framed (processesOf (a .bits)) f) (x : ℕ) (xb : x < stateCount) (under : Under (f .own) x) (before : Group) (b : before ≡ groupNumbered (processesOf (a .bits)) x) (r : ℕ) (s t u : List ℕ)
+      (same : setAt t (k + 1) ≡ members) (w : Taking x before r s t) (h : r < count)
+      (y : ℕ) (own : y ≡ ownNumber (processesOf (a .bits)) (afterAt log r)) (common : ℕ) (call : RecordAdded (setPlace (k + 1)) (setPlace k) y x (f .rest) (f .rows) (f .words) t u common) where
+    d : RecordAdded (setPlace (k + 1)) (setPlace k) (ownNumber (processesOf (a .bits)) (afterAt log r)) x (f .rest) (f .rows) (f .words) t u common
+    d = subst (λ (z : ℕ). RecordAdded (setPlace (k + 1)) (setPlace k) z x (f .rest) (f .rows) (f .words) t u common) own call
+
     gained : Group → Bool
     gained g = inBlock x (f .rows) (f .words) (stateNumber g) && gains t (setPlace (k + 1)) (ownNumber L (afterAt log r)) x (f .rest) (stateNumber g)
 
@@ -132,19 +135,23 @@ module _ (log : List ℕ) (count : ℕ) (members : List ℕ) (a : Letter) (f : F
     kept-now : (m : ℕ) → m < stateCount → member (setAt t k) m ≡ true → member (setAt u k) m ≡ true
     kept-now m l y = now m l ∙ or-left (member (setAt t k) m) _ y
 
-    pub taking-turn : Taking x before next s u
+    joined : Added log count members a f (λ (z : ℕ). ⊥) k s u
     unfolding gained
-    taking-turn =
+    joined = record {
+      same = same-join (w .added .same) (only-outside k (d .outside));
+      kept = λ m l y. kept-now m l (w .added .kept m l y);
+      sound = λ g i y. ⊎-elim (w .added .sound g i) (λ z. inr (gained-leads g i z)) (or-cases (member (setAt t k) (stateNumber g)) (gained g) (sym (now (stateNumber g) (stateNumber-below g)) ∙ y));
+      complete = λ g i z y. absurd z;
+    }
+
+    pub taking-turn : (next : ℕ) → next ≡ firstFrom (recordReads log (a .number) before) (r + 1) (count - (r + 1)) → Taking x before next s u
+    unfolding gained
+    taking-turn next n =
         let first = first-at (reads before) (r + 1) (count - (r + 1)) next n in
         record {
           high = omega (arith, first .high);
           reading = λ l. first .passes (omega arith);
-          added = record {
-            same = same-join (w .added .same) (only-outside k (d .outside));
-            kept = λ m l y. kept-now m l (w .added .kept m l y);
-            sound = λ g i y. ⊎-elim (w .added .sound g i) (λ z. inr (gained-leads g i z)) (or-cases (member (setAt t k) (stateNumber g)) (gained g) (sym (now (stateNumber g) (stateNumber-below g)) ∙ y));
-            complete = λ g i z y. absurd z;
-          };
+          added = joined;
           taken = λ g i e q l y. elim (decLt q r) [
             | yes less ↦ kept-now (stateNumber g) (stateNumber-below g) (w .taken g i e q less y)
             | no later ↦ elim (ℕ-discrete q r) [
@@ -153,6 +160,18 @@ module _ (log : List ℕ) (count : ℕ) (members : List ℕ) (a : Letter) (f : F
             ]
           ];
         }
+
+    -- all states with the own number x are in
+    pub taking-full : common ≡ f .rest → Added log count members a f (λ (z : ℕ). z ≡ x) k s u
+    taking-full all = record {
+      same = joined .same;
+      kept = joined .kept;
+      sound = joined .sound;
+      complete = λ g i e y.
+          let p = own-place L f fr x xb under (afterAt log r) t (setPlace (k + 1)) g i e in
+          sym (in-set u k (stateNumber g) (stateNumber-below g)) ∙ ap (λ (m : ℕ). inSet u (setPlace k) m) (p .is)
+          ∙ d .shared (p .bit) (p .row) (p .word) (ap (λ (m : ℕ). hasBit m (p .bit)) all ∙ p .has-bit) (p .inside) (p .in-rows) (p .in-words);
+    }
 
   pub taking-end : (x : ℕ) (before : Group) (r : ℕ) (s t : List ℕ) → count ≤ r → Taking x before r s t → Added log count members a f (λ (z : ℕ). z ≡ x) k s t
   taking-end x before r s t h w = record {

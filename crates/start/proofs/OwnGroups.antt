@@ -14,8 +14,8 @@ use Rattle.packs.specs.Packs.{packed, Bytes, maskOf, mergedBits, packAt, packNu
 use Rattle.packs.proofs.Packs.{merge-bits, pack-group, pack-number}
 use Rattle.automaton.specs.StateNumbers.{stateCount, stateNumber, digit, groupNumbered}
 use Rattle.automaton.proofs.StateNumbers.{stateNumber-below, digit-number, digits-number, at-numbered}
-use Rattle.wordsets.specs.WordSets.{inSet, gains, inBlock, BlockFits}
-use Rattle.wordsets.proofs.States.{stated, plus, Offset, adds-like, added-offsets}
+use Rattle.wordsets.specs.WordSets.{hasBit, inSet, gains, inBlock, BlockFits}
+use Rattle.wordsets.proofs.States.{stated, plus, rest-has, Offset, adds-like, added-offsets}
 use Rattle.start.specs.declared.Frame.{Frame}
 use Rattle.start.specs.OwnGroups.{noStates, ownNumber, Under, extent, Framed, Numbered, InFrame}
 
@@ -82,6 +82,26 @@ own-packed L log r bytes =
     bytes-at g a b c d p2 = c
     bytes-at g a b c d p3 = d
 
+bit-inside : (x a b : ℕ) → digit x p2 + a < 8 → digit x p3 + b < 8 → x % 64 + (8 * a + b) < 64
+bit-inside x a b h l = omega arith
+
+place-is : (x a b c d : ℕ) → x < stateCount → (digit x p0 + a) * 512 + (digit x p1 + b) * 64 + (digit x p2 + c) * 8 + (digit x p3 + d) ≡ 64 * (x / 64 + (8 * a + b)) + (x % 64 + (8 * c + d))
+place-is x a b c d h =
+    let high : x / 64 ≡ 8 * digit x p0 + digit x p1 = omega arith in
+    let low : x % 64 ≡ 8 * digit x p2 + digit x p3 = omega arith in
+    omega arith
+
+-- a number in the words of a frame behind x: its row, its word in the row, and its bit of rest
+pub record Place (L : Processes) (f : Frame) (x n : ℕ) : Type 0 where
+  pub row : ℕ
+  pub word : ℕ
+  pub bit : ℕ
+  pub in-rows : row < f .rows
+  pub in-words : word < f .words
+  pub inside : x % 64 + bit < 64
+  pub has-bit : hasBit (f .rest) bit ≡ true
+  pub is : n ≡ 64 * (x / 64 + (8 * row + word)) + (x % 64 + bit)
+
 -- ---- what a record with the own numbers x before and y after adds
 module _ (L : Processes) (f : Frame) (fr : Framed L f) (x : ℕ) (xb : x < stateCount) (under : Under (f .own) x) (after : Group) where
   abbrev y : ℕ
@@ -137,13 +157,36 @@ module _ (L : Processes) (f : Frame) (fr : Framed L f) (x : ℕ) (xb : x < state
         stated-same (plus (digit (ownNumber L after)) A) (λ i. at (merge L after g) i % 8) (like-digit A t) ∙ sym (number-stated (merge L after g)) in
         rw (← xs, ← ys, ← here, ← there) (adds-like s from (f .rest) (digit x) (digit (ownNumber L after)) (extent L f) own-offset A (t .inside))
 
+    -- the offsets from x to a state that is gone through
+    own-to : InFrame L f g → ownNumber L g ≡ x → To (λ i. cond (has L i) 0 (at g i % 8))
+    own-to w e = record {
+      inside = λ i. by-test (has L i) (λ m. rw m (fr .some i)) (λ n. rw n (w .others i n));
+      reaches = λ i. rw (← e, own-digit L g i) (by-test (has L i) (λ m. rw m (omega arith)) (λ n. rw n (omega arith)));
+    }
+
     -- every state with the own number x is added whose like is in the set
     pub gains-lead : InFrame L f g → ownNumber L g ≡ x
         → (inBlock x (f .rows) (f .words) (stateNumber g) && gains s from (ownNumber L after) x (f .rest) (stateNumber g)) ≡ inSet s from (stateNumber (merge L after g))
-    gains-lead w e = gain-like (λ i. cond (has L i) 0 (at g i % 8)) (record {
-      inside = λ i. by-test (has L i) (λ m. rw m (fr .some i)) (λ n. rw n (w .others i n));
-      reaches = λ i. rw (← e, own-digit L g i) (by-test (has L i) (λ m. rw m (omega arith)) (λ n. rw n (omega arith)));
-    })
+    gains-lead w e = gain-like (λ i. cond (has L i) 0 (at g i % 8)) (own-to w e)
+
+    -- where it stands, behind x
+    pub own-place : InFrame L f g → ownNumber L g ≡ x → Place L f x (stateNumber g)
+    own-place w e =
+        let A : Process → ℕ = λ i. cond (has L i) 0 (at g i % 8) in
+        let t = own-to w e in
+        let small : (i : Process) → A i < 8 = λ i. omega (arith, t .inside i, fr .small i) in
+        let is : stateNumber g ≡ stated (plus (digit x) A) = number-stated g ∙ stated-same (λ i. at g i % 8) (plus (digit x) A) (t .reaches) in
+        let sum : (i : Process) → digit x i + A i < 8 = λ i. omega (arith, own-offset .before i, t .inside i) in
+        record {
+          row = A p0;
+          word = A p1;
+          bit = 8 * A p2 + A p3;
+          in-rows = t .inside p0;
+          in-words = t .inside p1;
+          inside = bit-inside x (A p2) (A p3) (sum p2) (sum p3);
+          has-bit = rest-has (f .rest) (extent L f p2) (extent L f p3) (A p2) (A p3) (small p2) (small p3) (fr .rest) (t .inside p2) (t .inside p3);
+          is = is ∙ place-is x (A p0) (A p1) (A p2) (A p3) xb;
+        }
 
     -- and no other
     pub gains-own : (inBlock x (f .rows) (f .words) (stateNumber g) && gains s from (ownNumber L after) x (f .rest) (stateNumber g)) ≡ true

@@ -81,7 +81,8 @@ fn own_after(log: &[u8], r: usize, mask: u32) -> usize
     packs::number(packs::merged(mask, pack_at(log, r * RECORD_LENGTH + 5), 0))
 }
 
-// Puts the states whose own number is x, and from which a record of the letter leads into set k + 1, into set k.
+// Puts the states whose own number is x, and from which a record of the letter leads into set k + 1, into set k. Once all of them are in, the other
+// records are not tried.
 fn add_group(
     log: &[u8],
     scratch: &mut [u8],
@@ -99,7 +100,7 @@ fn add_group(
     let mut r = first_match(log, scratch, CHAINS, n, count, a.number, before);
     while r < count {
         let y = own_after(log, r, f.mask);
-        add_record(
+        let common = add_record(
             scratch,
             SET_LENGTH * (k + 1),
             SET_LENGTH * k,
@@ -109,6 +110,9 @@ fn add_group(
             f.rows,
             f.words,
         );
+        if common == f.rest {
+            return;
+        }
         r = next_match(log, scratch, CHAINS, n, count, r, a.number, before);
     }
 }

@@ -43,7 +43,7 @@ bit-or a b j =
     (λ q. let z : bitOr x y % 2 ≡ 1 = omega (arith, or-step x y, ap₂ max p q) in rw (e ∙ z, p))
     (λ q. let z : bitOr x y % 2 ≡ 1 = omega (arith, or-step x y, ap₂ max p q) in rw (e ∙ z, p)))
 
-bit-and : (a b j : ℕ) → hasBit (bitAnd a b) j ≡ hasBit a j && hasBit b j
+pub bit-and : (a b j : ℕ) → hasBit (bitAnd a b) j ≡ hasBit a j && hasBit b j
 unfolding hasBit
 bit-and a b j =
     let x = a / 2 ^ j in
@@ -57,7 +57,7 @@ bit-and a b j =
     (λ q. let z : bitAnd x y % 2 ≡ 0 = omega (arith, and-step x y, ap₂ min p q) in rw (e ∙ z, p, q))
     (λ q. let z : bitAnd x y % 2 ≡ 1 = omega (arith, and-step x y, ap₂ min p q) in rw (e ∙ z, p, q)))
 
-bit-shr : (x k j : ℕ) → hasBit (x / 2 ^ k) j ≡ hasBit x (k + j)
+pub bit-shr : (x k j : ℕ) → hasBit (x / 2 ^ k) j ≡ hasBit x (k + j)
 bit-shr x k j = bit-is (x / 2 ^ k) j x (k + j) (ap (λ (n : ℕ). n % 2) (shr-shr x k j))
 
 -- the low bits are those of the remainder

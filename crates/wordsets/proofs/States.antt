@@ -48,6 +48,11 @@ whole-is n x0 x1 x2 x3 w m p q = omega arith
 past-is : (a b c : ℕ) → b ≤ a → b ≡ c → a ≡ c + (a - b)
 past-is a b c h e = omega arith
 
+-- a number that rest has
+pub rest-has : (rest second third a b : ℕ) → a < 8 → b < 8 → RestBits rest second third → a < second → b < third → hasBit rest (8 * a + b) ≡ true
+rest-has rest second third a b ha hb bits p q =
+    bits (8 * a + b) (omega arith) ∙ rw (high-digit a b hb, low-digit a b hb, lt-ltb a second p) (lt-ltb b third q)
+
 -- by process
 abbrev by-process : ℕ → ℕ → ℕ → ℕ → Process → ℕ
 by-process a b c d p0 = a
@@ -93,8 +98,7 @@ module _ (s : List ℕ) (from rest : ℕ) (X Y hi : Process → ℕ) (o : Offset
       let yl : y % 64 ≡ 8 * Y p2 + Y p3 = low-part (Y p0) (Y p1) (Y p2) (Y p3) (by p2) (by p3) in
       let nh : n / 64 ≡ 8 * (X p0 + A p0) + (X p1 + A p1) = high-part (X p0 + A p0) (X p1 + A p1) (X p2 + A p2) (X p3 + A p3) (bn p2) (bn p3) in
       let nl : n % 64 ≡ 8 * (X p2 + A p2) + (X p3 + A p3) = low-part (X p0 + A p0) (X p1 + A p1) (X p2 + A p2) (X p3 + A p3) (bn p2) (bn p3) in
-      let bit : hasBit rest (8 * A p2 + A p3) ≡ true = o .bits (8 * A p2 + A p3) (omega (arith, a p2, a p3))
-      ∙ rw (high-digit (A p2) (A p3) (a p3), low-digit (A p2) (A p3) (a p3), lt-ltb (A p2) (hi p2) (inside p2)) (lt-ltb (A p3) (hi p3) (inside p3)) in
+      let bit : hasBit rest (8 * A p2 + A p3) ≡ true = rest-has rest (hi p2) (hi p3) (A p2) (A p3) (a p2) (a p3) (o .bits) (inside p2) (inside p3) in
       rw (
         xh,
         xl,

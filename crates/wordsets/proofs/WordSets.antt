@@ -1,17 +1,18 @@
 -- Laws of sets by words: what one record adds.
 use mathlib.Core.Path.{_≡_, refl, ap, ap₂, sym, subst, _∙_}
-use mathlib.Core.Bool.{Bool, true, false, _&&_, _||_}
+use mathlib.Core.Bool.{Bool, true, false, _&&_, _||_, false≢true}
 use mathlib.Core.Logic.{⊎-elim}
 use mathlib.Core.List.{List}
-use Prim.Native.Nat.{ℕ, _+_, _-_, _*_, _/_, _%_, _<_, _≤_}
+use Prim.Native.Nat.{ℕ, _+_, _-_, _*_, _/_, _%_, _^_, _<_, _≤_}
 use native.Mathlib.Decide.{ℕ-discrete, decLt}
 use native.Mathlib.Omega.{arith}
+use lib.Bits.{bitAnd}
 use lib.Dec.{leb, ltb}
 use lib.ListN.{length, getD}
 use borrow.Author.Tests.{le-leb, lt-leb, lt-ltb, le-ltb, leb-true, ltb-true}
-use Rattle.model.proofs.Tests.{by-test, same-test}
+use Rattle.model.proofs.Tests.{by-test, same-test, and-left, and-right}
 use Rattle.wordsets.specs.WordSets.{hasBit, inSet, eightAt, withEight, wordSum, gains, inWords, OutsideSet, SetsApart, RowAdded, inBlock, BlockFits, RecordAdded}
-use Rattle.wordsets.proofs.Bits.{eight-bit, eight-none, eight-written, eight-before, eight-behind, eight-small, eight-length, sum-bit, in-same, in-word}
+use Rattle.wordsets.proofs.Bits.{bit-and, bit-shr, eight-bit, eight-none, eight-written, eight-before, eight-behind, eight-small, eight-length, sum-bit, in-same, in-word}
 
 abbrev AllBytes : List ℕ → Type 0
 AllBytes s = (m : ℕ) → getD s m 0 < 256
@@ -28,10 +29,18 @@ or-false : (a : Bool) → (a || false) ≡ a
 or-false true = refl
 or-false false = refl
 
+or-left : (a b : Bool) → a ≡ true → (a || b) ≡ true
+or-left a b e = rw e
+
+or-more : (a b c g : Bool) → (b ≡ true → c ≡ true) → (a || (b && g)) ≡ true → (a || (c && g)) ≡ true
+or-more true b c g m e = refl
+or-more false true c g m e = rw (m refl) e
+or-more false false c g m e = absurd (false≢true e)
+
 -- the words below w are added
-pub record Adding (from to y x rest low w : ℕ) (s t : List ℕ) : Type 0 where
+pub record Adding (from to y x rest low w : ℕ) (s t : List ℕ) (common : ℕ) : Type 0 where
   pub later : low ≤ w
-  pub row : RowAdded from to y x rest low w s t
+  pub row : RowAdded from to y x rest low w s t common
   pub bytes : AllBytes t
 
 no-words : (x low n : ℕ) → inWords x low low n ≡ false
@@ -41,17 +50,18 @@ no-words x low n = elim (decLt (n / 64) (x / 64 + low)) [
   | no l ↦ rw (le-leb (x / 64 + low) (n / 64) (omega arith), le-ltb (n / 64) (x / 64 + low) (omega arith))
 ]
 
-pub adding-start : (from to y x rest low : ℕ) (s : List ℕ) → AllBytes s → Adding from to y x rest low low s s
+pub adding-start : (from to y x rest low : ℕ) (s : List ℕ) → AllBytes s → Adding from to y x rest low low s s rest
 adding-start from to y x rest low s b = record {
   later = omega arith;
   row = record {
     outside = record { size = refl; before = λ i h. refl; behind = λ i h. refl };
     members = λ n h. rw (no-words x low n) (sym (or-false (inSet s to n)));
+    shared = λ j w b l p q. absurd (omega arith);
   };
   bytes = b;
 }
 
-module _ (from to y x rest low high w : ℕ) (s t : List ℕ) (sep : SetsApart s from to) (less : w < high) (fy : y / 64 + high ≤ 64) (fx : x / 64 + high ≤ 64) (a : Adding from to y x rest low w s t) where
+module _ (from to y x rest low high w : ℕ) (s t : List ℕ) (common : ℕ) (sep : SetsApart s from to) (less : w < high) (fy : y / 64 + high ≤ 64) (fx : x / 64 + high ≤ 64) (a : Adding from to y x rest low w s t common) where
   abbrev source : ℕ
   source = from + 8 * (y / 64 + w)
 
@@ -104,6 +114,9 @@ module _ (from to y x rest low high w : ℕ) (s t : List ℕ) (sep : SetsApart s
     | no l ↦ le-ltb (n / 64) (x / 64 + (w + 1)) (omega arith) ∙ sym (le-ltb (n / 64) (x / 64 + w) (omega arith))
   ])
 
+  words-more : (n : ℕ) → inWords x low w n ≡ true → inWords x low (w + 1) n ≡ true
+  words-more n m = elim (ℕ-discrete (n / 64) (x / 64 + w)) [ yes e ↦ words-here n e .1 | no ne ↦ words-other n ne ∙ m ]
+
   gains-here : (n : ℕ) → n / 64 ≡ x / 64 + w → gains s from y x rest n
       ≡ leb (x % 64) (n % 64) && (hasBit rest (n % 64 - x % 64) && (ltb (y % 64 + (n % 64 - x % 64)) 64 && inSet s from (64 * (y / 64 + w) + (y % 64 + (n % 64 - x % 64)))))
   unfolding gains
@@ -126,7 +139,21 @@ module _ (from to y x rest low high w : ℕ) (s t : List ℕ) (sep : SetsApart s
         ∙ a .row .members n h ∙ ap (λ (b : Bool). inSet s to n || (b && gains s from y x rest n)) (sym (words-other n ne))
   ]
 
-  turn : Adding from to y x rest low (w + 1) s next
+  -- what was in the set stays
+  kept : (n : ℕ) → n < 4096 → inSet t to n ≡ true → inSet next to n ≡ true
+  kept n h m = turn-members n h ∙ or-more (inSet s to n) (inWords x low w n) (inWords x low (w + 1) n) (gains s from y x rest n) (words-more n) (sym (a .row .members n h) ∙ m)
+
+  turn-shared : (j v : ℕ) → hasBit (bitAnd common (value / 2 ^ (x % 64))) j ≡ true → x % 64 + j < 64 → low ≤ v → v < w + 1 → inSet next to (64 * (x / 64 + v) + (x % 64 + j)) ≡ true
+  turn-shared j v b l p q =
+      let both : (hasBit common j && hasBit (value / 2 ^ (x % 64)) j) ≡ true = sym (bit-and common (value / 2 ^ (x % 64)) j) ∙ b in
+      elim (ℕ-discrete w v) [
+        | yes e ↦ subst (λ (i : ℕ). inSet next to (64 * (x / 64 + i) + (x % 64 + j)) ≡ true) e
+            (in-word next to (x / 64 + w) (x % 64 + j) ∙ eight-written t target value (x % 64 + j) room l
+            ∙ sym (bit-shr value (x % 64) j) ∙ and-right (hasBit common j) (hasBit (value / 2 ^ (x % 64)) j) both)
+        | no e ↦ kept (64 * (x / 64 + v) + (x % 64 + j)) (omega arith) (a .row .shared j v (and-left (hasBit common j) (hasBit (value / 2 ^ (x % 64)) j) both) l p (omega arith))
+      ]
+
+  turn : Adding from to y x rest low (w + 1) s next (bitAnd common (value / 2 ^ (x % 64)))
   turn = record {
     later = omega (arith, a .later);
     row = record {
@@ -136,13 +163,15 @@ module _ (from to y x rest low high w : ℕ) (s t : List ℕ) (sep : SetsApart s
         behind = λ i l. eight-behind t target value i (omega arith) ∙ a .row .outside .behind i l;
       };
       members = turn-members;
+      shared = turn-shared;
     };
     bytes = eight-small t target value (a .bytes);
   }
 
-pub adding-turn : {from to y x rest low high w : ℕ} {s t : List ℕ} → SetsApart s from to → w < high → y / 64 + high ≤ 64 → x / 64 + high ≤ 64 → Adding from to y x rest low w s t
+pub adding-turn : {from to y x rest low high w : ℕ} {s t : List ℕ} {common : ℕ} → SetsApart s from to → w < high → y / 64 + high ≤ 64 → x / 64 + high ≤ 64 → Adding from to y x rest low w s t common
     → Adding from to y x rest low (w + 1) s (withEight t (to + 8 * (x / 64 + w)) (wordSum (eightAt t (from + 8 * (y / 64 + w))) (eightAt t (to + 8 * (x / 64 + w))) (y % 64) (x % 64) rest))
-adding-turn {from} {to} {y} {x} {rest} {low} {high} {w} {s} {t} sep less fy fx a = turn from to y x rest low high w s t sep less fy fx a
+    (bitAnd common (wordSum (eightAt t (from + 8 * (y / 64 + w))) (eightAt t (to + 8 * (x / 64 + w))) (y % 64) (x % 64) rest / 2 ^ (x % 64)))
+adding-turn {from} {to} {y} {x} {rest} {low} {high} {w} {s} {t} {common} sep less fy fx a = turn from to y x rest low high w s t common sep less fy fx a
 
 -- ---- row after row
 no-block : (x words n : ℕ) → inBlock x 0 words n ≡ false
@@ -151,10 +180,11 @@ no-block x words n =
     let w = n / 64 - x / 64 in
     ap (λ (b : Bool). leb (x / 64) (n / 64) && (b && ltb (w % 8) words)) (le-ltb (w / 8) 0 (omega arith)) ∙ and-false (leb (x / 64) (n / 64))
 
-pub record-start : (from to y x rest words : ℕ) (s : List ℕ) → RecordAdded from to y x rest 0 words s s
+pub record-start : (from to y x rest words : ℕ) (s : List ℕ) → RecordAdded from to y x rest 0 words s s rest
 record-start from to y x rest words s = record {
   outside = record { size = refl; before = λ i h. refl; behind = λ i h. refl };
   members = λ n l. rw (no-block x words n) (sym (or-false (inSet s to n)));
+  shared = λ j h w b l p q. absurd (omega arith);
 }
 
 -- one row more of the block
@@ -212,9 +242,9 @@ join-rows false true c true = refl
 join-rows false true c false = and-false c
 join-rows false false c g = refl
 
-pub record-turn : {from to y x rest rows words h : ℕ} {s t u : List ℕ} → SetsApart s from to → BlockFits y x rows words → h < rows → RecordAdded from to y x rest h words s t
-    → RowAdded from to y x rest (8 * h) (8 * h + words) t u → RecordAdded from to y x rest (h + 1) words s u
-record-turn {from} {to} {y} {x} {rest} {rows} {words} {h} {s} {t} {u} sep fits l b r = record {
+pub record-turn : {from to y x rest rows words h : ℕ} {s t u : List ℕ} (common row : ℕ) → SetsApart s from to → BlockFits y x rows words → h < rows → RecordAdded from to y x rest h words s t common
+    → RowAdded from to y x rest (8 * h) (8 * h + words) t u row → RecordAdded from to y x rest (h + 1) words s u (bitAnd common row)
+record-turn {from} {to} {y} {x} {rest} {rows} {words} {h} {s} {t} {u} common row sep fits l b r = record {
   outside = record {
     size = r .outside .size ∙ b .outside .size;
     before = λ i q. r .outside .before i q ∙ b .outside .before i q;
@@ -225,4 +255,11 @@ record-turn {from} {to} {y} {x} {rest} {rows} {words} {h} {s} {t} {u} sep fits l
       ∙ ap₂ (λ (c d : Bool). c || d) (b .members n q) (gains-same from to y x rest (8 * h) (8 * h + words) n s t sep (b .outside) (omega (arith, fits .after, fits .short)))
       ∙ join-rows (inSet s to n) (inBlock x h words n) (inWords x (8 * h) (8 * h + words) n) (gains s from y x rest n)
       ∙ ap (λ (c : Bool). inSet s to n || (c && gains s from y x rest n)) (sym (block-turn x h words n (fits .short)));
+  shared = λ j i w bit f p q.
+      let both : (hasBit common j && hasBit row j) ≡ true = sym (bit-and common row j) ∙ bit in
+      let place = 64 * (x / 64 + (8 * i + w)) + (x % 64 + j) in
+      elim (ℕ-discrete h i) [
+        | yes e ↦ r .shared j (8 * i + w) (and-right (hasBit common j) (hasBit row j) both) f (omega arith) (omega arith)
+        | no e ↦ r .members place (omega (arith, fits .before)) ∙ or-left (inSet t to place) _ (b .shared j i w (and-left (hasBit common j) (hasBit row j) both) f (omega arith) q)
+      ];
 }

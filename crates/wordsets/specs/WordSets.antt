@@ -1,6 +1,6 @@
 -- Sets of state numbers in lent bytes, 64 numbers at a time: the bytes of a set as words of 64 bits, the low byte first.
 use mathlib.Core.Path.{_≡_}
-use mathlib.Core.Bool.{Bool, _&&_, _||_}
+use mathlib.Core.Bool.{Bool, true, _&&_, _||_}
 use mathlib.Core.Logic.{_⊎_}
 use mathlib.Core.List.{List}
 use Prim.Native.Nat.{ℕ, _+_, _-_, _*_, _/_, _%_, _^_, _<_, _≤_}
@@ -57,10 +57,11 @@ pub record SetsApart (s : List ℕ) (from to : ℕ) : Type 0 where
   pub from-room : from + 512 ≤ length s
   pub to-room : to + 512 ≤ length s
 
--- words low to high of the rest are added for a record
-pub record RowAdded (from to y x rest low high : ℕ) (s t : List ℕ) : Type 0 where
+-- words low to high of the rest are added for a record; what stands at a bit of `common` behind x is then in the set in each of them
+pub record RowAdded (from to y x rest low high : ℕ) (s t : List ℕ) (common : ℕ) : Type 0 where
   pub outside : OutsideSet to s t
   pub members : (n : ℕ) → n < 4096 → inSet t to n ≡ inSet s to n || (inWords x low high n && gains s from y x rest n)
+  pub shared : (j w : ℕ) → hasBit common j ≡ true → x % 64 + j < 64 → low ≤ w → w < high → inSet t to (64 * (x / 64 + w) + (x % 64 + j)) ≡ true
 
 -- n's word is 8 h + w behind that of x, with h below rows and w below words
 unfoldable pub inBlock : ℕ → ℕ → ℕ → ℕ → Bool
@@ -69,9 +70,10 @@ inBlock x rows words n =
     leb (x / 64) (n / 64) && (ltb (w / 8) rows && ltb (w % 8) words)
 
 -- everything is added for a record
-pub record RecordAdded (from to y x rest rows words : ℕ) (s t : List ℕ) : Type 0 where
+pub record RecordAdded (from to y x rest rows words : ℕ) (s t : List ℕ) (common : ℕ) : Type 0 where
   pub outside : OutsideSet to s t
   pub members : (n : ℕ) → n < 4096 → inSet t to n ≡ inSet s to n || (inBlock x rows words n && gains s from y x rest n)
+  pub shared : (j h w : ℕ) → hasBit common j ≡ true → x % 64 + j < 64 → h < rows → w < words → inSet t to (64 * (x / 64 + (8 * h + w)) + (x % 64 + j)) ≡ true
 
 -- the words lie in the sets
 pub record BlockFits (y x rows words : ℕ) : Type 0 where

@@ -2,7 +2,7 @@
 use packs::pack_at;
 ghost use mathlib.Core.Path.{_≡_};
 ghost use mathlib.Core.Bool.{cond};
-ghost use Prim.Native.Nat.{_+_, _*_, _/_, _<_, _≤_};
+ghost use Prim.Native.Nat.{_+_, _*_, _/_, _^_, _<_, _≤_};
 ghost use lib.ListN.{length};
 ghost use Rattle.wordsets.specs.WordSets.{eightAt, withEight, wordSum, RestBits, SetsApart, RowAdded, BlockFits, RecordAdded};
 
@@ -33,18 +33,19 @@ fn put_eight(s: &mut [u8], i: usize, x: u64)
     s[i + 7] = (x / 256 / 256 / 256 / 256 / 256 / 256 / 256 % 256) as u8;
 }
 
-// Adds to the word at `to` what the word at `from` has, of the numbers in rest.
-fn add_word(s: &mut [u8], from: usize, to: usize, after: usize, before: usize, rest: u64)
+// Adds to the word at `to` what the word at `from` has, of the numbers in rest, and gives the word, shifted back.
+fn add_word(s: &mut [u8], from: usize, to: usize, after: usize, before: usize, rest: u64) -> u64
     requires { ⌜ (from + 8 ≤ length (now s)) × (to + 8 ≤ length (now s)) × (after < 64) × (before < 64) ⌝ }
-    ensures { λ _. ⌜ now (s .exit) ≡ withEight (now (s .entry)) to (wordSum (eightAt (now (s .entry)) from) (eightAt (now (s .entry)) to) after before rest) ⌝ }
+    ensures { λ r. ⌜ (now (s .exit) ≡ withEight (now (s .entry)) to (wordSum (eightAt (now (s .entry)) from) (eightAt (now (s .entry)) to) after before rest)) × (r ≡ wordSum (eightAt (now (s .entry)) from) (eightAt (now (s .entry)) to) after before rest / 2 ^ before) ⌝ }
 {
     let found = (eight_at(s, from) >> after) & rest;
     let word = eight_at(s, to) | (found << before);
     put_eight(s, to, word);
+    word >> before
 }
 
 // Adds to the set at `to` the numbers with the own part x whose likes with the own part y are in the set at `from`: those in the words from low on
-// and below high behind the word of x.
+// and below high behind the word of x. Gives the bits of rest at which each of these now has its number.
 fn add_row(
     s: &mut [u8],
     from: usize,
@@ -54,13 +55,14 @@ fn add_row(
     rest: u64,
     low: usize,
     high: usize,
-)
+) -> u64
     requires { ⌜ SetsApart (now s) from to × (low ≤ high) × (y / 64 + high ≤ 64) × (x / 64 + high ≤ 64) ⌝ }
-    ensures { λ _. ⌜ RowAdded from to y x rest low high (now (s .entry)) (now (s .exit)) ⌝ }
+    ensures { λ r. ⌜ RowAdded from to y x rest low high (now (s .entry)) (now (s .exit)) r ⌝ }
 {
+    let mut common = rest;
     let mut w = low;
     while w < high {
-        add_word(
+        let word = add_word(
             s,
             from + 8 * (y / 64 + w),
             to + 8 * (x / 64 + w),
@@ -68,13 +70,15 @@ fn add_row(
             x % 64,
             rest,
         );
+        common = common & word;
         w += 1;
     }
+    common
 }
 
 // Adds to the set at `to` all that one record gives: the numbers with the own part x whose likes with the own part y are in the set at `from`. The
 // other processes' states: those below rows of process 0, below words of process 1, and as the bits of rest those of processes 2 and 3. Of a process
-// that the record has a part in it is 0 alone.
+// that the record has a part in it is 0 alone. Gives the bits of rest at which every word now has its number.
 pub fn add_record(
     s: &mut [u8],
     from: usize,
@@ -84,15 +88,17 @@ pub fn add_record(
     rest: u64,
     rows: usize,
     words: usize,
-)
+) -> u64
     requires { ⌜ SetsApart (now s) from to × BlockFits y x rows words ⌝ }
-    ensures { λ _. ⌜ RecordAdded from to y x rest rows words (now (s .entry)) (now (s .exit)) ⌝ }
+    ensures { λ r. ⌜ RecordAdded from to y x rest rows words (now (s .entry)) (now (s .exit)) r ⌝ }
 {
+    let mut common = rest;
     let mut h = 0;
     while h < rows {
-        add_row(s, from, to, y, x, rest, 8 * h, 8 * h + words);
+        common = common & add_row(s, from, to, y, x, rest, 8 * h, 8 * h + words);
         h += 1;
     }
+    common
 }
 
 // The bits of rest for a record that has a part in process 2, or not, and in process 3, or not: 0 alone, else all eight states.

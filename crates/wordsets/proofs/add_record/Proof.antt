@@ -8,10 +8,10 @@ use Rattle.wordsets.proofs.add_record.Statement.{statement}
 use Rattle.wordsets.proofs.add_record.Tie as tie
 
 abbrev Inv-loop : tie.InvT-loop
-Inv-loop s₀ from to y x rest rows words h₀ s h = (h ≤ rows) × RecordAdded from to y x rest h words s₀ s
+Inv-loop s₀ from to y x rest rows words common₀ h₀ s common h = (h ≤ rows) × RecordAdded from to y x rest h words s₀ s common
 
 abbrev μ-loop : tie.MeasureT-loop
-μ-loop s₀ from to y x rest rows words h₀ s h = rows - h
+μ-loop s₀ from to y x rest rows words common₀ h₀ s common h = rows - h
 
 loop-holds : tie.Need-loop-holds Inv-loop μ-loop
 loop-holds c = let a = c .before .args in (omega arith, record-start (a .from) (a .to) (a .y) (a .x) (a .rest) (a .words) (a .s .now))
@@ -39,7 +39,7 @@ add-row-requires c κs =
 loop-again : tie.Need-loop-again Inv-loop μ-loop
 loop-again c =
     let p = c .before .before .before .before .before .before .before .pre in
-    (omega arith, record-turn (p .0) (p .1) (c .before .before .before .before .loop-test .taken) (c .before .before .before .before .before .loop .inv .1) (c .before .before .add-row .ensures))
+    (omega arith, record-turn (c .before .before .before .before .before .loop .common) (c .before .before .add-row .result) (p .0) (p .1) (c .before .before .before .before .loop-test .taken) (c .before .before .before .before .before .loop .inv .1) (c .before .before .add-row .ensures))
 
 same-length : tie.Need-same-length Inv-loop μ-loop
 same-length c = c .before .loop .inv .1 .outside .size
@@ -49,7 +49,7 @@ returns c =
     let a = c .before .before .before .args in
     let t = c .before .loop in
     let e : t .h ≡ a .rows = omega (arith, t .inv .0) in
-    subst (λ (k : ℕ). RecordAdded (a .from) (a .to) (a .y) (a .x) (a .rest) k (a .words) (a .s .now) (t .s)) e (t .inv .1)
+    subst (λ (k : ℕ). RecordAdded (a .from) (a .to) (a .y) (a .x) (a .rest) k (a .words) (a .s .now) (t .s) (t .common)) e (t .inv .1)
 
 pub add-record-spec : {M : Type 1} → statement M
 add-record-spec =

@@ -8,10 +8,10 @@ use Rattle.wordsets.proofs.add_row.Statement.{statement}
 use Rattle.wordsets.proofs.add_row.Tie as tie
 
 abbrev Inv-loop : tie.InvT-loop
-Inv-loop s₀ from to y x rest low high w₀ s w = (w ≤ high) × Adding from to y x rest low w s₀ s
+Inv-loop s₀ from to y x rest low high common₀ w₀ s common w = (w ≤ high) × Adding from to y x rest low w s₀ s common
 
 abbrev μ-loop : tie.MeasureT-loop
-μ-loop s₀ from to y x rest low high w₀ s w = high - w
+μ-loop s₀ from to y x rest low high common₀ w₀ s common w = high - w
 
 loop-holds : tie.Need-loop-holds Inv-loop μ-loop
 loop-holds c =
@@ -25,7 +25,7 @@ add-word-requires c κs =
     (omega (arith, p .0 .from-room, p .2, c .before .before .loop .inv .1 .row .outside .size), omega (arith, p .0 .to-room, p .3, c .before .before .loop .inv .1 .row .outside .size), omega arith, omega arith)
 
 loop-again : tie.Need-loop-again Inv-loop μ-loop
-loop-again c = (omega arith, rw (c .before .before .add-word .ensures) (adding-turn (c .before .before .before .before .before .before .before .pre .0) (c .before .before .before .before .loop-test .taken) (c .before .before .before .before .before .before .before .pre .2) (c .before .before .before .before .before .before .before .pre .3) (c .before .before .before .before .before .loop .inv .1)))
+loop-again c = (omega arith, rw (c .before .before .add-word .ensures .0, c .before .before .add-word .ensures .1) (adding-turn (c .before .before .before .before .before .before .before .pre .0) (c .before .before .before .before .loop-test .taken) (c .before .before .before .before .before .before .before .pre .2) (c .before .before .before .before .before .before .before .pre .3) (c .before .before .before .before .before .loop .inv .1)))
 
 same-length : tie.Need-same-length Inv-loop μ-loop
 same-length c = c .before .loop .inv .1 .row .outside .size
@@ -35,7 +35,7 @@ returns c =
     let a = c .before .before .before .args in
     let t = c .before .loop in
     let e : t .w ≡ a .high = omega (arith, t .inv .0) in
-    subst (λ (k : ℕ). RowAdded (a .from) (a .to) (a .y) (a .x) (a .rest) (a .low) k (a .s .now) (t .s)) e (t .inv .1 .row)
+    subst (λ (k : ℕ). RowAdded (a .from) (a .to) (a .y) (a .x) (a .rest) (a .low) k (a .s .now) (t .s) (t .common)) e (t .inv .1 .row)
 
 pub add-row-spec : {M : Type 1} → statement M
 add-row-spec =

@@ -7,7 +7,10 @@ use Rattle.wordsets.proofs.add_word.Tie as tie
 
 returns : tie.Need-returns
 unfolding wordSum
-returns c = c .before .before .put-eight .ensures ∙ rw (c .before .before .before .before .eight-at2 .ensures, c .before .before .before .before .before .before .eight-at .ensures)
+returns c =
+    let from = c .before .before .before .before .before .before .eight-at .ensures in
+    let to = c .before .before .before .before .eight-at2 .ensures in
+    (c .before .before .put-eight .ensures ∙ rw (to, from), rw (to, from))
 
 pub add-word-spec : {M : Type 1} → statement M
 add-word-spec =
@@ -18,5 +21,6 @@ add-word-spec =
     (λ c κs. search needs)
     (λ c. search needs)
     (λ c κs. search needs)
+    (λ c. search needs)
     (λ c. search needs)
     returns)

@@ -1,15 +1,14 @@
 -- The records with one group before in turn.
-use mathlib.Core.Path.{_≡_, subst}
-use Prim.Native.Nat.{ℕ, _+_, _-_, _<_}
+use mathlib.Core.Path.{_≡_, _∙_}
+use Prim.Native.Nat.{_+_, _-_, _<_}
 use native.Mathlib.Omega.{arith}
 use Rattle.model.specs.Groups.{processesOf}
 use Rattle.model.specs.Records.{afterAt}
-use Rattle.wordsets.specs.WordSets.{RecordAdded}
-use Rattle.start.specs.Regions.{setPlace, setAt}
+use Rattle.start.specs.Regions.{setAt}
 use Rattle.start.specs.OwnGroups.{ownNumber}
 use Rattle.start.proofs.ScratchRegions.{same-join}
 use Rattle.start.proofs.OwnGroups.{own-fits}
-use Rattle.start.proofs.Adding.{sets-apart, only-outside, only-next, only-linked, Taking, taking-start, taking-later, taking-turn, taking-end}
+use Rattle.start.proofs.Adding.{sets-apart, only-outside, only-next, only-linked, Taking, taking-start, taking-later, taking-turn, taking-full, taking-end}
 use Rattle.start.proofs.groups.add_group.Statement.{statement}
 use Rattle.start.proofs.groups.add_group.Tie as tie
 
@@ -45,43 +44,57 @@ add-record-requires c κs =
       rw y (own-fits (processesOf (a .a .bits)) (a .f) (p .2) (a .x) (p .3) (p .4) (afterAt (a .log .now) (at-loop .loop .r))),
     )
 
-next-match-requires : tie.Need-next-match-requires Inv-loop μ-loop
-next-match-requires c κs =
-    let at-loop = c .before .before .before .before .before .before .before in
+same-length : tie.Need-same-length Inv-loop μ-loop
+same-length c = c .before .before .before .before .add-record .ensures .outside .size ∙ c .before .before .before .before .before .before .before .before .loop .inv .added .same .size
+
+returns : tie.Need-returns Inv-loop μ-loop
+returns c =
+    let add = c .before .before .before .before .add-record in
+    let own-after = c .before .before .before .before .before .before .own-after in
+    let at-loop = c .before .before .before .before .before .before .before .before in
     let at-start = at-loop .before .before .before .before .before .before in
+    let before = at-loop .before .before .before .numbered in
     let a = at-start .args in
     let p = at-start .pre in
-    let linked = only-linked (p .1) (same-join (at-loop .loop .inv .added .same) (only-outside (a .k) (c .before .before .before .add-record .ensures .outside))) (p .0) in
-    let less = c .before .before .before .before .before .before .loop-test .taken in
+    taking-full (a .log .now) (a .count) (setAt (a .scratch .now) (a .k + 1)) (a .a) (a .f) (a .k) (p .2) (a .x) (p .3) (p .4) (before .result) (before .ensures) (at-loop .loop .r) (a .scratch .now) (at-loop .loop .scratch) (add .last .0)
+    (only-next (p .1) (omega (arith, p .0 .room .room)) (at-loop .loop .inv .added .same)) (at-loop .loop .inv) (c .before .before .before .before .before .before .before .loop-test .taken)
+    (own-after .result) (own-after .ensures (processesOf (a .a .bits)) (p .2 .mask)) (add .result) (add .ensures) (c .if1 .taken)
+
+next-match-requires : tie.Need-next-match-requires Inv-loop μ-loop
+next-match-requires c κs =
+    let add = c .before .before .before .before .before .add-record in
+    let at-loop = c .before .before .before .before .before .before .before .before .before in
+    let at-start = at-loop .before .before .before .before .before .before in
+    let p = at-start .pre in
+    let linked = only-linked (p .1) (same-join (at-loop .loop .inv .added .same) (only-outside (at-start .args .k) (add .ensures .outside))) (p .0) in
+    let less = c .before .before .before .before .before .before .before .before .loop-test .taken in
     (linked .room, linked .chained, less, at-loop .loop .inv .reading less)
 
 loop-less : tie.Need-loop-less Inv-loop μ-loop
 loop-less c =
-    let at-loop = c .before .before .before .before .before .before .before .before in
-    let at-start = at-loop .before .before .before .before .before .before in
-    let a = at-start .args in
+    let at-loop = c .before .before .before .before .before .before .before .before .before .before in
+    let a = at-loop .before .before .before .before .before .before .args in
     let later : at-loop .loop .r < c .next-match .result = taking-later (a .log .now) (a .count) (setAt (a .scratch .now) (a .k + 1)) (a .a) (a .f) (a .k) (at-loop .before .before .before .numbered .result) (at-loop .loop .r) (c .next-match .result) (c .next-match .ensures) in
-    omega (arith, c .before .before .before .before .before .before .before .loop-test .taken)
+    omega (arith, c .before .before .before .before .before .before .before .before .before .loop-test .taken)
 
 loop-again : tie.Need-loop-again Inv-loop μ-loop
 loop-again c =
-    let at-add = c .before .before .before .before in
-    let at-loop = at-add .before .before .before .before in
+    let add = c .before .before .before .before .before .before .add-record in
+    let own-after = c .before .before .before .before .before .before .before .before .own-after in
+    let at-loop = c .before .before .before .before .before .before .before .before .before .before in
     let at-start = at-loop .before .before .before .before .before .before in
+    let before = at-loop .before .before .before .numbered in
     let a = at-start .args in
     let p = at-start .pre in
-    let before = at-loop .before .before .before .numbered in
-    let y : at-add .before .before .own-after .result ≡ ownNumber (processesOf (a .a .bits)) (afterAt (a .log .now) (at-loop .loop .r)) = at-add .before .before .own-after .ensures (processesOf (a .a .bits)) (p .2 .mask) in
-    let added : RecordAdded (setPlace (a .k + 1)) (setPlace (a .k)) (ownNumber (processesOf (a .a .bits)) (afterAt (a .log .now) (at-loop .loop .r))) (a .x) (a .f .rest) (a .f .rows) (a .f .words) (at-loop .loop .scratch) (at-add .add-record .last .0) =
-    subst (λ (z : ℕ). RecordAdded (setPlace (a .k + 1)) (setPlace (a .k)) z (a .x) (a .f .rest) (a .f .rows) (a .f .words) (at-loop .loop .scratch) (at-add .add-record .last .0)) y (at-add .add-record .ensures) in
-    taking-turn (a .log .now) (a .count) (setAt (a .scratch .now) (a .k + 1)) (a .a) (a .f) (a .k) (p .2) (a .x) (p .3) (p .4) (before .result) (before .ensures) (at-loop .loop .r) (c .next-match .result) (a .scratch .now) (at-loop .loop .scratch) (at-add .add-record .last .0)
-    (only-next (p .1) (omega (arith, p .0 .room .room)) (at-loop .loop .inv .added .same)) (at-loop .loop .inv) (at-add .before .before .before .loop-test .taken) (c .next-match .ensures) added
+    taking-turn (a .log .now) (a .count) (setAt (a .scratch .now) (a .k + 1)) (a .a) (a .f) (a .k) (p .2) (a .x) (p .3) (p .4) (before .result) (before .ensures) (at-loop .loop .r) (a .scratch .now) (at-loop .loop .scratch) (add .last .0)
+    (only-next (p .1) (omega (arith, p .0 .room .room)) (at-loop .loop .inv .added .same)) (at-loop .loop .inv) (c .before .before .before .before .before .before .before .before .before .loop-test .taken)
+    (own-after .result) (own-after .ensures (processesOf (a .a .bits)) (p .2 .mask)) (add .result) (add .ensures) (c .next-match .result) (c .next-match .ensures)
 
-same-length : tie.Need-same-length Inv-loop μ-loop
-same-length c = c .before .loop .inv .added .same .size
+same-length-2 : tie.Need-same-length-2 Inv-loop μ-loop
+same-length-2 c = c .before .loop .inv .added .same .size
 
-returns : tie.Need-returns Inv-loop μ-loop
-returns c =
+returns-2 : tie.Need-returns-2 Inv-loop μ-loop
+returns-2 c =
     let at-start = c .before .before .before .before .before .before .before in
     let a = at-start .args in
     let t = c .before .loop in
@@ -101,8 +114,10 @@ add-group-spec =
     (λ c. omega arith)
     (λ c. omega arith)
     add-record-requires
+    same-length
+    returns
     next-match-requires
     loop-less
     loop-again
-    same-length
-    returns)
+    same-length-2
+    returns-2)
