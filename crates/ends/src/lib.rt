@@ -2,8 +2,8 @@
 use automaton::states;
 use chains::first_match;
 use chains::next_match;
-use chains::words::put_word;
 use model::Group;
+use numbers::put_word;
 use search::CHAINS;
 use search::PLACES;
 ghost use mathlib.Core.Path.{_≡_};
