@@ -22,9 +22,9 @@ use Rattle.automaton.specs.StateSets.{firstFrom}
 use Rattle.automaton.proofs.StateSets.{Fails, fails-none, fails-join, fails-one, first-of, first-is, first-at}
 use Rattle.records.specs.Entries.{Fits}
 use Rattle.records.proofs.Entries.{log-reads}
-use Rattle.chains.specs.WordBytes.{withWord}
+use Rattle.numbers.specs.WordBytes.{withWord}
 use Rattle.chains.specs.Buckets.{bucketOf, recordBucket, inBucket, recordReads, noLink, linkTo, linkPlace, linkAt, withRecord, ChainRoom, ChainedFrom, Chained, SameOutside, Emptied}
-use Rattle.chains.proofs.WordBytes.{length-word, byte-other, word-back, word-same, word-other}
+use Rattle.numbers.proofs.WordBytes.{length-word, byte-other, word-back, word-same, word-other}
 
 -- ---- links
 pub link-same : (s : List ℕ) (at k x : ℕ) → linkPlace at k + 2 ≤ length s → x ≤ noLink → linkAt (withWord s (linkPlace at k) x) at k ≡ x

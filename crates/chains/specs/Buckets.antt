@@ -12,7 +12,7 @@ use Rattle.model.specs.Groups.{sameGroup}
 use Rattle.model.specs.Records.{recordLength, letterAt, beforeAt}
 use Rattle.automaton.specs.StateNumbers.{stateNumber}
 use Rattle.automaton.specs.StateSets.{firstFrom}
-use Rattle.chains.specs.WordBytes.{wordAt, withWord}
+use Rattle.numbers.specs.WordBytes.{wordAt, withWord}
 
 -- ---- buckets
 -- the bucket, of n, of a letter and the states before

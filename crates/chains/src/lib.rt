@@ -1,13 +1,11 @@
 // Chains of the log's records in scratch, by letter and states before: n buckets, each a list of record numbers in
 // rising order. The links are numbers of 16 bits from the offset `at` on: n heads, and then n next links.
-pub mod words;
-
-use crate::words::put_word;
-use crate::words::wide;
-use crate::words::word_at;
 use automaton::groups;
 use automaton::states;
 use model::Group;
+use numbers::put_word;
+use numbers::wide;
+use numbers::word_at;
 use records::before_at;
 use records::letter_at;
 ghost use mathlib.Core.Path.{_≡_};

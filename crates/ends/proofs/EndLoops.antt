@@ -22,9 +22,9 @@ use Rattle.automaton.proofs.StateNumbers.{stateNumber-below}
 use Rattle.model.specs.Records.{afterAt, beforeAt, letterAt}
 use Rattle.records.specs.Entries.{HasRecord}
 use Rattle.chains.specs.Buckets.{ChainRoom, Chained, recordReads}
-use Rattle.chains.specs.WordBytes.{withWord}
+use Rattle.numbers.specs.WordBytes.{withWord}
 use Rattle.chains.proofs.Buckets.{chained-scratch}
-use Rattle.chains.proofs.WordBytes.{byte-other, length-word, word-back, word-other}
+use Rattle.numbers.proofs.WordBytes.{byte-other, length-word, word-back, word-other}
 use Rattle.search.specs.Jobs.{chainsAt, glances, marksOf, placeIn, placesAt}
 use Rattle.search.proofs.Searching.{glances-at, length-glances}
 use Rattle.ends.specs.Ends.{HeldMarked, NoneNew, Placed, block, heldEnd, oneIfNew, withOwnPlace}

@@ -11,7 +11,7 @@ use Rattle.model.specs.declared.Group.{Group}
 use Rattle.model.specs.Groups.{sameGroup}
 use Rattle.model.specs.Log.{Candidate, Record}
 use Rattle.automaton.specs.StateNumbers.{stateCount, stateNumber}
-use Rattle.chains.specs.WordBytes.{withWord}
+use Rattle.numbers.specs.WordBytes.{withWord}
 use Rattle.search.specs.Jobs.{marksOf, placeIn, placesAt, glances}
 use Rattle.search.specs.Visits.{endNumber}
 

@@ -16,7 +16,7 @@ use Rattle.search.specs.declared.Job.{Job}
 use Rattle.automaton.specs.StateNumbers.{stateCount}
 use Rattle.automaton.specs.StateSets.{firstFrom}
 use Rattle.chains.specs.Buckets.{Chained}
-use Rattle.chains.specs.WordBytes.{wordAt}
+use Rattle.numbers.specs.WordBytes.{wordAt}
 use Rattle.search.specs.Jobs.{FinishedRight, Searchable, chainsAt, finishedEnd, glances, marksOf, placeIn, placesAt, tailOf}
 use Rattle.search.specs.Visits.{fromMark}
 use Rattle.chains.proofs.Buckets.{chained-log, chained-scratch}

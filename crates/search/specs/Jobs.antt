@@ -16,7 +16,7 @@ use Rattle.automaton.specs.StateNumbers.{stateCount, stateNumber, Over}
 use Rattle.automaton.specs.StateSets.{member, inserted}
 use Rattle.records.specs.declared.Entry.{Entry}
 use Rattle.records.specs.Entries.{HasRecord, withEntry}
-use Rattle.chains.specs.WordBytes.{wordAt}
+use Rattle.numbers.specs.WordBytes.{wordAt}
 use Rattle.chains.specs.Buckets.{ChainRoom, Chained}
 use Rattle.search.specs.declared.Job.{Job}
 use Rattle.search.specs.declared.Places.{Places}

@@ -6,8 +6,8 @@ use Prim.Native.Nat.{ℕ, zero, suc, _+_, _-_, _*_, _<_, _≤_}
 use native.Mathlib.Numerals.{add-one}
 use native.Mathlib.Omega.{arith}
 use lib.ListN.{length, getD}
-use Rattle.chains.specs.WordBytes.{wordAt, withWord}
-use Rattle.chains.proofs.WordBytes.{word-back, word-other, word-same}
+use Rattle.numbers.specs.WordBytes.{wordAt, withWord}
+use Rattle.numbers.proofs.WordBytes.{word-back, word-other, word-same}
 use Rattle.stack.specs.StackNumbers.{stackBase, stackPlace, numbersDown, stackOf}
 
 pub length-down : (s : List ℕ) (at k : ℕ) → length (numbersDown s at k) ≡ k

@@ -1,7 +1,7 @@
 -- The stack of record numbers in scratch: numbers of 16 bits from a fixed offset on. The start's path is written there, and the unfolding goes on with it.
 use mathlib.Core.List.{List, [], _∷_}
 use Prim.Native.Nat.{ℕ, zero, suc, _+_, _*_}
-use Rattle.chains.specs.WordBytes.{wordAt}
+use Rattle.numbers.specs.WordBytes.{wordAt}
 
 -- where the stack begins: 128 bytes for the start's path, and then the 6 bytes that the scratch has for each record
 abbrev pub stackBase : ℕ

@@ -1,11 +1,11 @@
 // The stack of record numbers in scratch.
-use chains::words::put_word;
-use chains::words::wide;
-use chains::words::word_at;
+use numbers::put_word;
+use numbers::wide;
+use numbers::word_at;
 ghost use mathlib.Core.Path.{_≡_};
 ghost use Prim.Native.Nat.{_+_, _≤_};
 ghost use lib.ListN.{length};
-ghost use Rattle.chains.specs.WordBytes.{wordAt, withWord};
+ghost use Rattle.numbers.specs.WordBytes.{wordAt, withWord};
 ghost use Rattle.stack.specs.StackNumbers.{stackPlace};
 
 const STACK_BASE: usize = 33872;

@@ -24,8 +24,8 @@ use Rattle.model.proofs.Tests.{and-left, and-right}
 use Rattle.automaton.specs.StateNumbers.{Over}
 use Rattle.automaton.proofs.StateSets.{First, first-at}
 use Rattle.model.specs.Records.{afterAt}
-use Rattle.chains.specs.WordBytes.{withWord}
-use Rattle.chains.proofs.WordBytes.{length-word, byte-other}
+use Rattle.numbers.specs.WordBytes.{withWord}
+use Rattle.numbers.proofs.WordBytes.{length-word, byte-other}
 use Rattle.table.specs.declared.Table.{Table}
 use Rattle.table.specs.Reading.{systemIn, pileIn}
 use Rattle.stack.specs.StackNumbers.{stackBase, stackPlace, numbersDown, stackOf}

@@ -10,7 +10,7 @@ use Rattle.model.specs.Log.{Record, Path, push, recordAt, stepsCap, limit}
 use Rattle.model.specs.Unfolding.{acceptingPath, pathSteps}
 use Rattle.model.specs.Calls.{startPath}
 use Rattle.automaton.specs.StateNumbers.{Over}
-use Rattle.chains.specs.WordBytes.{withWord}
+use Rattle.numbers.specs.WordBytes.{withWord}
 use Rattle.table.specs.declared.Table.{Table}
 use Rattle.table.specs.Reading.{systemIn}
 use Rattle.stack.specs.StackNumbers.{stackPlace, stackOf}

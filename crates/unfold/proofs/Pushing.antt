@@ -12,8 +12,8 @@ use Rattle.model.specs.Log.{noNumber}
 use Rattle.model.proofs.Lists.{each-get, getD-mem}
 use Rattle.model.specs.Records.{placeAt}
 use Rattle.records.specs.Entries.{pathPlace}
-use Rattle.chains.specs.WordBytes.{withWord}
-use Rattle.chains.proofs.WordBytes.{length-word}
+use Rattle.numbers.specs.WordBytes.{withWord}
+use Rattle.numbers.proofs.WordBytes.{length-word}
 use Rattle.stack.specs.StackNumbers.{stackBase, stackPlace, stackOf}
 use Rattle.stack.proofs.Numbers.{length-down, stack-push}
 use Rattle.unfold.specs.Turns.{placed, placesFrom, places, StackRoom, Pushed}

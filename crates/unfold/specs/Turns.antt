@@ -11,7 +11,7 @@ use Rattle.model.specs.Records.{roundAt, ruleAt, placeAt}
 use Rattle.records.specs.Entries.{HasRecord}
 use Rattle.table.specs.declared.Table.{Table}
 use Rattle.table.specs.Reading.{Holds, ruleIn}
-use Rattle.chains.specs.WordBytes.{wordAt}
+use Rattle.numbers.specs.WordBytes.{wordAt}
 use Rattle.stack.specs.StackNumbers.{stackPlace, stackOf}
 use Rattle.unfold.specs.declared.Work.{Work}
 

@@ -1,6 +1,6 @@
 // The unfolding of a path of the limit into a run, with a stack of record numbers in scratch: the record on top goes; unless it is of round 0,
 // its rule is written to the page, and its path takes its place.
-use chains::words::wide;
+use numbers::wide;
 use records::place_at;
 use records::round_at;
 use records::rule_at;

@@ -13,7 +13,7 @@ use Rattle.search.proofs.steps_of.Tie as tie
 use Rattle.search.proofs.steps_of.Reads as reads
 use Rattle.search.proofs.steps_of.Lts as lts
 use Rattle.records.proofs.steps_at.Reads as steps-at-reads
-use Rattle.chains.proofs.words.wide.Reads as wide-reads
+use Rattle.numbers.proofs.wide.Reads as wide-reads
 use Rattle.search.proofs.capped.Reads as capped-reads
 
 -- src/lib.rt:131:9

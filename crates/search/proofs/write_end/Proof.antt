@@ -10,9 +10,9 @@ use Rattle.search.proofs.write_end.Statement.{statement}
 use Rattle.search.proofs.write_end.Tie as tie
 use Rattle.search.proofs.write_end.Reads as reads
 use Rattle.search.proofs.write_end.Lts as lts
-use Rattle.chains.proofs.words.word_at.Reads as word-at-reads
+use Rattle.numbers.proofs.word_at.Reads as word-at-reads
 use Rattle.records.proofs.put_record.Reads as put-record-reads
-use Rattle.chains.proofs.words.wide.Reads as wide-reads
+use Rattle.numbers.proofs.wide.Reads as wide-reads
 use Rattle.search.proofs.path_steps.Reads as path-steps-reads
 
 -- src/lib.rt:161:8

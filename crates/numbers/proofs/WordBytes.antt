@@ -7,7 +7,7 @@ use native.Mathlib.Omega.{arith}
 use lib.ListN.{length, getD, set, length-set}
 use lib.Seq.{getD-set-same, getD-set-other, length-sets}
 use Rattle.model.specs.Records.{littleEndian}
-use Rattle.chains.specs.WordBytes.{wordAt, withWord}
+use Rattle.numbers.specs.WordBytes.{wordAt, withWord}
 
 pub length-word : (s : List ℕ) (i x : ℕ) → length (withWord s i x) ≡ length s
 unfolding withWord

@@ -2,11 +2,11 @@ use mathlib.Core.Path.{_≡_}
 use Prim.Native.Nat.{suc, _+_}
 use lib.ListN.{getD}
 use native.Mathlib.Numerals.{add-one}
-use Rattle.chains.specs.WordBytes.{wordAt}
+use Rattle.numbers.specs.WordBytes.{wordAt}
 use native.Mathlib.Omega.{arith}
 use borrow.Author.Needs.{needs}
-use Rattle.chains.proofs.words.word_at.Statement.{statement}
-use Rattle.chains.proofs.words.word_at.Tie as tie
+use Rattle.numbers.proofs.word_at.Statement.{statement}
+use Rattle.numbers.proofs.word_at.Tie as tie
 
 shared-slice-read-as-u16 : tie.Need-shared-slice-read-as-u16
 shared-slice-read-as-u16 c = search needs

@@ -1,10 +1,10 @@
 use native.Mathlib.Numerals.{add-one}
-use Rattle.chains.specs.WordBytes.{withWord}
+use Rattle.numbers.specs.WordBytes.{withWord}
 use native.Mathlib.Omega.{arith}
 use lib.ListN.{length-set}
 use borrow.Author.Needs.{needs}
-use Rattle.chains.proofs.words.put_word.Statement.{statement}
-use Rattle.chains.proofs.words.put_word.Tie as tie
+use Rattle.numbers.proofs.put_word.Statement.{statement}
+use Rattle.numbers.proofs.put_word.Tie as tie
 
 cast-s : tie.Need-cast-s
 cast-s c = search needs
