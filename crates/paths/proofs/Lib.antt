@@ -1,0 +1,3 @@
+pub mod Arrivals
+pub mod Passing
+pub mod Arriving
