@@ -1,1 +1,1 @@
-pub mod WordBytes
+pub mod NumberBytes

@@ -2,12 +2,10 @@
 use mathlib.Core.Path.{_≡_, refl, ap, ap₂, sym, subst, _∙_}
 use mathlib.Core.Bool.{Bool, true, false, cond, _||_}
 use mathlib.Core.List.{List, [], _∷_, map}
-use Prim.Native.Nat.{ℕ, _+_, _*_, _<_, _≤_, min}
-use native.Mathlib.Decide.{decLt}
+use Prim.Native.Nat.{ℕ, zero, suc, _+_, _*_, _<_, _≤_, min}
 use native.Mathlib.Omega.{arith}
 use lib.Dec.{eqb, ltb}
-use lib.ListN.{List·getD-eq-default, getD, length, length-take, take}
-use lib.Seq.{getD-take}
+use lib.ListN.{getD, length, take}
 use Rattle.model.specs.declared.Group.{Group}
 use Rattle.model.specs.Groups.{restrict}
 use Rattle.model.specs.Lists.{Each, sumOver}
@@ -18,7 +16,7 @@ use Rattle.automaton.specs.StateSets.{inserted, member}
 use Rattle.automaton.proofs.StateNumbers.{stateNumber-below}
 use Rattle.automaton.proofs.StateSets.{length-inserted}
 use Rattle.records.specs.declared.Entry.{Entry}
-use Rattle.records.specs.Entries.{recordEntry, withEntry}
+use Rattle.records.specs.Entries.{padded, recordEntry, withEntry}
 use Rattle.packs.specs.Packs.{maskOf, packNumber, restrictedBits, unpacked}
 use Rattle.packs.proofs.Unpacked.{number-unpacked, restrict-below, restrict-unpacked}
 use Rattle.scratch.specs.Regions.{passedAt, seenBit, setBytes}
@@ -58,11 +56,13 @@ module _ (job : Job) (log s : List ℕ) (state : ℕ) (trail : Trail) (ready : S
   pub end-is : packNumber after ≡ endNumber new
   end-is = number-unpacked after (rw (ready .own) (restrict-below (jobProcesses job) state (stands .packed))) ∙ ap stateNumber after-is
 
-  place-is : (j : ℕ) → j < writtenPlaces → getD (take (job .count) (trail .places)) j noNumber ≡ getD (trail .places) j noNumber
-  place-is j h = elim (decLt j (job .count)) [
-    | yes l ↦ getD-take (job .count) (trail .places) j noNumber l
-    | no l ↦ List·getD-eq-default (take (job .count) (trail .places)) noNumber {n = j} (omega (arith, length-take (job .count) (trail .places))) ∙ sym (stands .spare j (omega arith) h)
-  ]
+  -- the places behind the path's end are those of no record
+  padded-is : (k c : ℕ) (ps : List ℕ) → length ps ≡ k → ((j : ℕ) → c ≤ j → j < k → getD ps j noNumber ≡ noNumber) → padded k (take c ps) ≡ ps
+  padded-is zero c [] e f = refl
+  padded-is zero c (p ∷ ps) e f = absurd (omega arith)
+  padded-is (suc k) c [] e f = absurd (omega arith)
+  padded-is (suc k) zero (p ∷ ps) e f = ap₂ (λ (x : ℕ) (xs : List ℕ). x ∷ xs) (sym (f 0 (omega arith) (omega arith))) (padded-is k zero ps (omega arith) (λ j a b. f (suc j) (omega arith) (omega arith)))
+  padded-is (suc k) (suc c) (p ∷ ps) e f = ap (λ (xs : List ℕ). p ∷ xs) (padded-is k c ps (omega arith) (λ j a b. f (suc j) (omega arith) (omega arith)))
 
   entry-is : recordEntry (addedRecord (job .round) (glances log (job .base)) new) ≡ endEntry job after trail
   unfolding recordEntry
@@ -72,10 +72,7 @@ module _ (job : Job) (log s : List ℕ) (state : ℕ) (trail : Trail) (ready : S
     after = sym after-is i;
     round = job .round;
     rule = job .rule;
-    p0 = place-is 0 (omega arith) i;
-    p1 = place-is 1 (omega arith) i;
-    p2 = place-is 2 (omega arith) i;
-    p3 = place-is 3 (omega arith) i;
+    path = padded-is writtenPlaces (job .count) (trail .places) (stands .size) (stands .spare) i;
     steps = sym (stands .steps) i;
   }
 

@@ -142,10 +142,7 @@ endEntry job after trail = record {
   after = unpacked after;
   round = job .round;
   rule = job .rule;
-  p0 = getD (trail .places) 0 noNumber;
-  p1 = getD (trail .places) 1 noNumber;
-  p2 = getD (trail .places) 2 noNumber;
-  p3 = getD (trail .places) 3 noNumber;
+  path = trail .places;
   steps = trail .steps;
 }
 

@@ -1,6 +1,7 @@
 // Search of the paths of the log for what a rule adds: depth first, in rising record numbers. From round 2 on only paths with a record of the last round
 // are gone through, since no other adds anything. The first path to an end that the head's search has not come by adds a record.
 use automaton::sets;
+use model::WRITTEN_PLACES;
 use packs::after_at;
 use packs::merged;
 use packs::number;
@@ -30,8 +31,6 @@ ghost use Rattle.rings.specs.Rings.{recordReads, RingRoom, Ringed, Freshened};
 ghost use Rattle.packs.specs.Packs.{unpacked};
 ghost use Rattle.scratch.specs.Regions.{passedAt, passedBit, ringsAt, seenBit, setBytes};
 ghost use Rattle.paths.specs.Jobs.{Searchable, Searched, Standing, firstTried, isPassed, longerTrail, glances, offers, storedEnd, withPassed, arrivals};
-
-const WRITTEN_PLACES: usize = 4;
 
 const STEPS_CAP: u32 = 1000001;
 
@@ -166,17 +165,13 @@ fn store(log: &mut [u8], job: Job, after: u32, trail: Trail, count: usize) -> us
     ensures { λ r. ⌜ (r ≡ min (count + 1) (job .n + 1)) × (now (log .exit) ≡ storedEnd (now (log .entry)) job after trail count) ⌝ }
 {
     if count < job.n {
-        let places = trail.places;
         let e = Entry {
             letter: job.letter,
             before: unpack(job.before),
             after: unpack(after),
             round: job.round,
             rule: job.rule,
-            p0: places[0],
-            p1: places[1],
-            p2: places[2],
-            p3: places[3],
+            path: trail.places,
             steps: trail.steps,
         };
         put_record(log, count, e);

@@ -15,16 +15,16 @@ use Rattle.automaton.specs.StateSets.{firstFrom}
 use Rattle.automaton.proofs.StateSets.{first-at, first-of, first-is}
 use Rattle.model.specs.Records.{letterAt}
 use Rattle.packs.specs.Packs.{packedBefore}
-use Rattle.numbers.specs.WordBytes.{withWord}
-use Rattle.numbers.proofs.WordBytes.{length-word, byte-other, word-back, word-other, word-same}
+use Rattle.numbers.specs.NumberBytes.{withNumber}
+use Rattle.numbers.proofs.NumberBytes.{byte-kept, length-number, number-kept, number-same, number-written}
 use Rattle.rings.specs.Rings.{bucketOf, recordBucket, inBucket, recordReads, noLink, linkPlace, linkAt, RingRoom, NoneIn, NoTail, Greatest, Ahead, Around, Ringed, Freshened, OutsideSame, withLink, started, lengthened, appended}
 
 -- ---- links
-link-same : (s : List ℕ) (at k x : ℕ) → linkPlace at k + 2 ≤ length s → x ≤ noLink → linkAt (withWord s (linkPlace at k) x) at k ≡ x
-link-same s at k x h f = word-back s (linkPlace at k) x h (omega arith)
+link-same : (s : List ℕ) (at k x : ℕ) → linkPlace at k + 2 ≤ length s → x ≤ noLink → linkAt (withNumber 2 s (linkPlace at k) x) at k ≡ x
+link-same s at k x h f = number-written 2 s (linkPlace at k) x h (omega arith)
 
-link-other : (s : List ℕ) (at k x j : ℕ) → (j ≡ k → ⊥) → linkAt (withWord s (linkPlace at k) x) at j ≡ linkAt s at j
-link-other s at k x j ne = word-other s (linkPlace at k) x (linkPlace at j) (elim (decLt k j) [ yes h ↦ inl (omega arith) | no h ↦ inr (omega arith) ])
+link-other : (s : List ℕ) (at k x j : ℕ) → (j ≡ k → ⊥) → linkAt (withNumber 2 s (linkPlace at k) x) at j ≡ linkAt s at j
+link-other s at k x j ne = number-kept 2 2 s (linkPlace at k) x (linkPlace at j) (elim (decLt k j) [ yes h ↦ inr (omega arith) | no h ↦ inl (omega arith) ])
 
 -- ---- buckets
 -- a part of n in 65,536 parts is below n
@@ -55,9 +55,9 @@ outside-join p q = record {
 
 outside-link : (n at : ℕ) (s : List ℕ) (k x : ℕ) → k < 3 * n → OutsideSame n at s (withLink s at k x)
 outside-link n at s k x l = record {
-  size = length-word s (linkPlace at k) x;
-  before = λ i h. byte-other s (linkPlace at k) x i (λ e. omega arith) (λ e. omega arith);
-  behind = λ i h. byte-other s (linkPlace at k) x i (λ e. omega arith) (λ e. omega arith);
+  size = length-number 2 s (linkPlace at k) x;
+  before = λ i h. byte-kept 2 s (linkPlace at k) x i (inl (omega arith));
+  behind = λ i h. byte-kept 2 s (linkPlace at k) x i (inr (omega arith));
 }
 
 -- ---- clearing
@@ -148,8 +148,8 @@ module _ (n at : ℕ) (s : List ℕ) (short : n ≤ noLink) (room : at + 6 * n �
   alone =
       let s1 = withLink s at (n + r) r in
       let s2 = withLink s1 at (2 * n + h) r in
-      let l1 : length s1 ≡ length s = length-word s (linkPlace at (n + r)) r in
-      let l2 : length s2 ≡ length s1 = length-word s1 (linkPlace at (2 * n + h)) r in
+      let l1 : length s1 ≡ length s = length-number 2 s (linkPlace at (n + r)) r in
+      let l2 : length s2 ≡ length s1 = length-number 2 s1 (linkPlace at (2 * n + h)) r in
       record {
         tail = link-same s2 at h r (omega arith) (omega arith);
         own = link-other s2 at h r (n + r) (λ e. omega arith) ∙ link-other s1 at (2 * n + h) r (n + r) (λ e. omega arith) ∙ link-same s at (n + r) r (omega arith) (omega arith);
@@ -171,8 +171,8 @@ module _ (n at : ℕ) (s : List ℕ) (short : n ≤ noLink) (room : at + 6 * n �
         let x = linkAt s at (n + t) in
         let s1 = withLink s at (n + r) x in
         let s2 = withLink s1 at (n + t) r in
-        let l1 : length s1 ≡ length s = length-word s (linkPlace at (n + r)) x in
-        let l2 : length s2 ≡ length s1 = length-word s1 (linkPlace at (n + t)) r in
+        let l1 : length s1 ≡ length s = length-number 2 s (linkPlace at (n + r)) x in
+        let l2 : length s2 ≡ length s1 = length-number 2 s1 (linkPlace at (n + t)) r in
         record {
           tail = link-same s2 at h r (omega arith) (omega arith);
           own = link-other s2 at h r (n + r) (λ e. omega arith) ∙ link-other s1 at (n + t) r (n + r) (λ e. omega arith) ∙ link-same s at (n + r) x (omega arith) small;
@@ -366,7 +366,7 @@ module _ (log : List ℕ) (n at lo r : ℕ) (s t : List ℕ) (short : n ≤ noLi
 
   turn-begun : Greatest (inBucket log n h) r tl → tl < lo → Appending log n at lo (suc r) s (lengthened n at begun h tl r)
   turn-begun g l =
-      let size : length begun ≡ length t = length-word t (linkPlace at (2 * n + h)) r in
+      let size : length begun ≡ length t = length-number 2 t (linkPlace at (2 * n + h)) r in
       let small : linkAt begun at (n + tl) ≤ noLink = omega (arith, next-below tl (g .below) begun-ringed) in
       let space : at + 6 * n ≤ length begun = omega arith in
       let a = behind n at begun short space h lh r lr tl (g .below) small in
@@ -537,13 +537,13 @@ stale-first {log} {lo} {base} {n} {at} {s} {h} {t} letter g l rings lh b e ne q 
 -- in any scratch with the same links
 pub ringed-scratch : (log : List ℕ) (base n at : ℕ) (s t : List ℕ) → base ≤ n → ((i : ℕ) → at ≤ i → i < at + 6 * n → getD t i 0 ≡ getD s i 0) → Ringed log base n at s → Ringed log base n at t
 ringed-scratch log base n at s t fits same w = ringed-kept log base n at s t fits
-    (λ k l. word-same s t (linkPlace at k) (same (linkPlace at k) (omega arith) (omega arith)) (same (suc (linkPlace at k)) (omega arith) (omega arith))) w
+    (λ k l. number-same 2 s t (linkPlace at k) (λ m p q. same m (omega arith) (omega arith))) w
 
 pub freshened-scratch : (log : List ℕ) (lo base n at : ℕ) (s t : List ℕ) → ((i : ℕ) → at ≤ i → i < at + 6 * n → getD t i 0 ≡ getD s i 0) → Freshened log lo base n at s → Freshened log lo base n at t
 freshened-scratch log lo base n at s t same w h l p q = kept (2 * n + h) (omega arith) ∙ w h l (omega (arith, kept h (omega arith))) (omega (arith, kept h (omega arith)))
   where
     kept : (k : ℕ) → k < 3 * n → linkAt t at k ≡ linkAt s at k
-    kept k l = word-same s t (linkPlace at k) (same (linkPlace at k) (omega arith) (omega arith)) (same (suc (linkPlace at k)) (omega arith) (omega arith))
+    kept k l = number-same 2 s t (linkPlace at k) (λ m p q. same m (omega arith) (omega arith))
 
 -- for any log whose first records have the same letters and states before
 module _ (log new : List ℕ) (base n at : ℕ) (s : List ℕ) (letters : (r : ℕ) → r < base → letterAt new r ≡ letterAt log r) (states : (r : ℕ) → r < base → packedBefore new r ≡ packedBefore log r) where

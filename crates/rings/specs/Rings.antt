@@ -10,7 +10,8 @@ use lib.Dec.{eqb, ltb}
 use lib.ListN.{length, getD}
 use Rattle.automaton.specs.StateSets.{firstFrom}
 use Rattle.model.specs.Records.{recordLength, letterAt}
-use Rattle.numbers.specs.WordBytes.{wordAt, withWord}
+use Rattle.model.specs.Records.{numberAt}
+use Rattle.numbers.specs.NumberBytes.{withNumber}
 use Rattle.packs.specs.Packs.{packedBefore}
 
 -- ---- buckets
@@ -38,7 +39,7 @@ abbrev pub linkPlace : ℕ → ℕ → ℕ
 linkPlace at k = at + 2 * k
 
 abbrev pub linkAt : List ℕ → ℕ → ℕ → ℕ
-linkAt s at k = wordAt s (linkPlace at k)
+linkAt s at k = numberAt 2 s (linkPlace at k)
 
 -- ---- rings
 
@@ -95,7 +96,7 @@ pub record OutsideSame (n at : ℕ) (s t : List ℕ) : Type 0 where
 -- ---- one record more
 -- link k is x
 abbrev pub withLink : List ℕ → ℕ → ℕ → ℕ → List ℕ
-withLink s at k x = withWord s (linkPlace at k) x
+withLink s at k x = withNumber 2 s (linkPlace at k) x
 
 -- record r alone in bucket h
 unfoldable pub started : ℕ → ℕ → List ℕ → ℕ → ℕ → List ℕ

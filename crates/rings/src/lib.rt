@@ -1,9 +1,10 @@
 // Rings of the log's records in scratch, by letter and states before: n buckets, each a ring of record numbers in rising order, and behind the
 // greatest the least. The links are numbers of 16 bits from the offset `at` on: n tails, n next links, and for each bucket its first record of the
 // round that gave it one last. Records are appended round by round; nothing is linked anew.
-use numbers::put_word;
-use numbers::wide;
-use numbers::word_at;
+use numbers::as_u64;
+use numbers::put_two;
+use numbers::two_at;
+use numbers::wide_two;
 use packs::before_at;
 use records::letter_at;
 ghost use mathlib.Core.Path.{_≡_};
@@ -17,12 +18,6 @@ ghost use Rattle.rings.specs.Rings.{bucketOf, recordBucket, recordReads,
 const NO_LINK: usize = 65535;
 
 const MIXER: u64 = 820265763;
-
-fn as_u64(x: u32) -> u64
-    ensures { λ r. ⌜ (r ≡ x) × (r < 4294967296) ⌝ }
-{
-    x as u64
-}
 
 // The bucket of a letter and the states before.
 fn bucket(n: usize, letter: u8, g: u32) -> usize
@@ -45,14 +40,14 @@ fn link_at(scratch: &[u8], at: usize, k: usize) -> usize
     requires { ⌜ linkPlace at k + 2 ≤ length (now scratch) ⌝ }
     ensures { λ r. ⌜ (r ≡ linkAt (now (scratch .entry)) at k) × (r < 65536) ⌝ }
 {
-    wide(word_at(scratch, at + 2 * k))
+    wide_two(two_at(scratch, at + 2 * k))
 }
 
 fn put_link(scratch: &mut [u8], at: usize, k: usize, x: usize)
     requires { ⌜ (linkPlace at k + 2 ≤ length (now scratch)) × (x ≤ noLink) ⌝ }
     ensures { λ _. ⌜ now (scratch .exit) ≡ withLink (now (scratch .entry)) at k x ⌝ }
 {
-    put_word(scratch, at + 2 * k, x as u16);
+    put_two(scratch, at + 2 * k, x as u16);
 }
 
 // No record is in a ring.

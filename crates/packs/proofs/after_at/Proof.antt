@@ -6,7 +6,7 @@ use Rattle.packs.proofs.after_at.Tie as tie
 
 returns : tie.Need-returns
 unfolding packedAfter
-returns c = c .pack-at .ensures
+returns c = c .four-at .ensures
 
 pub after-at-spec : {M : Type 1} → statement M
 after-at-spec = tie.close (tie.spec (λ c. search needs) (λ c. search needs) (λ c κs. search needs) returns)

@@ -6,7 +6,7 @@ use Rattle.packs.proofs.before_at.Tie as tie
 
 returns : tie.Need-returns
 unfolding packedBefore
-returns c = c .pack-at .ensures
+returns c = c .four-at .ensures
 
 pub before-at-spec : {M : Type 1} → statement M
 before-at-spec = tie.close (tie.spec (λ c. search needs) (λ c. search needs) (λ c κs. search needs) returns)

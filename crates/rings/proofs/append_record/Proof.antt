@@ -1,4 +1,4 @@
-use Rattle.numbers.proofs.WordBytes.{length-word}
+use Rattle.numbers.proofs.NumberBytes.{length-number}
 use borrow.Author.Tests.{eq-eqb, ne-eqb, lt-ltb, le-ltb}
 use Rattle.rings.specs.Rings.{appended}
 use Rattle.rings.proofs.Rings.{tail-below}
@@ -19,7 +19,7 @@ lengthen-ring-requires c κs =
     let room = c .before .before .before .before .before .before .before .before .before .before .before .before .pre .0 in
     let h = c .before .before .before .before .before .before .before .before .before .record-bucket .ensures in
     let below = tail-below (c .before .before .before .before .before .before .before .before .before .before .before .before .pre .1) (h .1) (c .before .before .before .before .before .before .before .link-at .ensures .0) (c .before .before .before .before .before .before .if1 .left) in
-    let size = ap length (c .before .before .before .put-link .ensures) ∙ length-word (c .before .before .before .before .before .before .before .before .before .before .before .before .args .scratch .now) _ _ in
+    let size = ap length (c .before .before .before .put-link .ensures) ∙ length-number 2 (c .before .before .before .before .before .before .before .before .before .before .before .before .args .scratch .now) _ _ in
     (h .1, omega (arith, below, room .fits), omega (arith, room .fits), room .short, omega (arith, room .room, size))
 
 returns-2 : tie.Need-returns-2

@@ -1,13 +1,13 @@
 -- Eight bytes are written as one number.
-use Rattle.wordsets.specs.WordSets.{withEight}
 use native.Mathlib.Numerals.{add-one}
 use Prim.Native.Nat.{suc, _+_}
 use mathlib.Core.Path.{_≡_}
 use native.Mathlib.Omega.{arith}
 use lib.ListN.{length-set}
+use Rattle.numbers.specs.NumberBytes.{withNumber}
 use borrow.Author.Needs.{needs}
-use Rattle.wordsets.proofs.put_eight.Statement.{statement}
-use Rattle.wordsets.proofs.put_eight.Tie as tie
+use Rattle.numbers.proofs.put_eight.Statement.{statement}
+use Rattle.numbers.proofs.put_eight.Tie as tie
 
 slice-write-s-2 : tie.Need-slice-write-s-2
 slice-write-s-2 c = simp length-set (omega arith)
@@ -34,7 +34,7 @@ same-length : tie.Need-same-length
 same-length c = simp length-set
 
 returns : tie.Need-returns
-unfolding withEight
+unfolding withNumber
 returns c =
     let i = c .args .i in
     let e2 : i + 2 ≡ suc (suc i) = omega arith in
