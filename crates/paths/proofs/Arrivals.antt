@@ -2,7 +2,8 @@
 use mathlib.Core.Path.{_≡_, refl, ap, ap₂, sym, subst, _∙_}
 use mathlib.Core.Bool.{Bool, true, false, cond, _||_, true≢false}
 use mathlib.Core.List.{List, [], _∷_, _++_, map}
-use Prim.Native.Nat.{ℕ, suc, _+_, _*_, _<_, _≤_}
+use Prim.Native.Nat.{ℕ, suc, _+_, _*_, _<_, _≤_, min}
+use native.Mathlib.Decide.{decLt}
 use native.Mathlib.Omega.{arith}
 use lib.Dec.{eqb, ltb}
 use lib.ListN.{drop, length, take, take-append-drop}
@@ -12,21 +13,23 @@ use Rattle.model.specs.Lists.{Each}
 use Rattle.model.specs.Log.{Candidate, Record}
 use Rattle.model.specs.Records.{recordLength}
 use Rattle.model.proofs.Tests.{by-test}
+use Rattle.automaton.specs.StateNumbers.{stateCount}
+use Rattle.automaton.proofs.StateNumbers.{stateNumber-below}
 use Rattle.records.specs.declared.Entry.{Entry}
 use Rattle.records.specs.Entries.{HasRecord, entryBytes, recordEntry, withEntry}
 use Rattle.records.proofs.Entries.{length-with}
 use Rattle.paths.specs.Arrivals.{endNumber, hit, stored, taken}
 
 -- ---- hits
-or-assoc : (a b c : Bool) → ((a || b) || c) ≡ (a || (b || c))
+pub or-assoc : (a b c : Bool) → ((a || b) || c) ≡ (a || (b || c))
 or-assoc true b c = refl
 or-assoc false b c = refl
 
-or-false : (a : Bool) → (a || false) ≡ a
+pub or-false : (a : Bool) → (a || false) ≡ a
 or-false true = refl
 or-false false = refl
 
-or-true : (a : Bool) → (a || true) ≡ true
+pub or-true : (a : Bool) → (a || true) ≡ true
 or-true true = refl
 or-true false = refl
 
@@ -35,11 +38,12 @@ hit-append [] ys x = refl
 hit-append (c ∷ xs) ys x = ap (λ (b : Bool). eqb x (endNumber c) || b) (hit-append xs ys x) ∙ sym (or-assoc (eqb x (endNumber c)) (hit xs x) (hit ys x))
 
 -- ---- what is taken
-pub taken-same : (seen seen′ : ℕ → Bool) → ((x : ℕ) → seen x ≡ seen′ x) → (cs : List Candidate) → taken seen cs ≡ taken seen′ cs
+-- only what is seen of state numbers matters
+pub taken-same : (seen seen′ : ℕ → Bool) → ((x : ℕ) → x < stateCount → seen x ≡ seen′ x) → (cs : List Candidate) → taken seen cs ≡ taken seen′ cs
 taken-same seen seen′ e [] = refl
 taken-same seen seen′ e (c ∷ cs) =
-    ap (λ (b : Bool). cond b (taken seen cs) (c ∷ taken (λ x. seen x || eqb x (endNumber c)) cs)) (e (endNumber c))
-    ∙ ap₂ (λ (xs ys : List Candidate). cond (seen′ (endNumber c)) xs (c ∷ ys)) (taken-same seen seen′ e cs) (taken-same (λ x. seen x || eqb x (endNumber c)) (λ x. seen′ x || eqb x (endNumber c)) (λ x. ap (λ (b : Bool). b || eqb x (endNumber c)) (e x)) cs)
+    ap (λ (b : Bool). cond b (taken seen cs) (c ∷ taken (λ x. seen x || eqb x (endNumber c)) cs)) (e (endNumber c) (stateNumber-below (c .key .after)))
+    ∙ ap₂ (λ (xs ys : List Candidate). cond (seen′ (endNumber c)) xs (c ∷ ys)) (taken-same seen seen′ e cs) (taken-same (λ x. seen x || eqb x (endNumber c)) (λ x. seen′ x || eqb x (endNumber c)) (λ x h. ap (λ (b : Bool). b || eqb x (endNumber c)) (e x h)) cs)
 
 pub taken-none : (seen : ℕ → Bool) (cs : List Candidate) → Each (λ (c : Candidate). seen (endNumber c) ≡ true) cs → taken seen cs ≡ []
 taken-none seen [] e = refl
@@ -53,12 +57,12 @@ seen-hit seen c e x = by-test (seen x) (λ y. rw y) (λ n. rw n (by-test (eqb x 
     absurd-seen y n = absurd (true≢false (sym e ∙ ap seen (sym (eqb-true x (endNumber c) y)) ∙ n))
 
 pub taken-append : (seen : ℕ → Bool) (xs ys : List Candidate) → taken seen (xs ++ ys) ≡ taken seen xs ++ taken (λ x. seen x || hit xs x) ys
-taken-append seen [] ys = taken-same seen (λ x. seen x || false) (λ x. sym (or-false (seen x))) ys
+taken-append seen [] ys = taken-same seen (λ x. seen x || false) (λ x h. sym (or-false (seen x))) ys
 taken-append seen (c ∷ xs) ys = by-test (seen (endNumber c))
     (λ y. rw y (taken-append seen xs ys ∙ ap (λ (l : List Candidate). taken seen xs ++ l)
-    (taken-same (λ x. seen x || hit xs x) (λ x. seen x || (eqb x (endNumber c) || hit xs x)) (λ x. ap (λ (b : Bool). b || hit xs x) (seen-hit seen c y x) ∙ or-assoc (seen x) (eqb x (endNumber c)) (hit xs x)) ys)))
+    (taken-same (λ x. seen x || hit xs x) (λ x. seen x || (eqb x (endNumber c) || hit xs x)) (λ x h. ap (λ (b : Bool). b || hit xs x) (seen-hit seen c y x) ∙ or-assoc (seen x) (eqb x (endNumber c)) (hit xs x)) ys)))
     (λ n. rw n (ap (λ (l : List Candidate). c ∷ l) (taken-append (λ x. seen x || eqb x (endNumber c)) xs ys ∙ ap (λ (l : List Candidate). taken (λ x. seen x || eqb x (endNumber c)) xs ++ l)
-    (taken-same (λ x. (seen x || eqb x (endNumber c)) || hit xs x) (λ x. seen x || (eqb x (endNumber c) || hit xs x)) (λ x. or-assoc (seen x) (eqb x (endNumber c)) (hit xs x)) ys))))
+    (taken-same (λ x. (seen x || eqb x (endNumber c)) || hit xs x) (λ x. seen x || (eqb x (endNumber c) || hit xs x)) (λ x h. or-assoc (seen x) (eqb x (endNumber c)) (hit xs x)) ys))))
 
 -- ---- the log
 has-record : (count n size : ℕ) → count < n → n * recordLength ≤ size → count * recordLength + recordLength ≤ size
@@ -83,6 +87,13 @@ stored-append n log count (r ∷ xs) ys =
 pub stored-full : (n : ℕ) (log : List ℕ) (count : ℕ) (rs : List Record) → n ≤ count → stored n log count rs ≡ log
 stored-full n log count [] h = refl
 stored-full n log count (r ∷ rs) h = rw (le-ltb count n h) (stored-full n log (suc count) rs (omega arith))
+
+-- a count past the log's end is as good as another
+pub stored-capped : (n : ℕ) (log : List ℕ) (k : ℕ) (rs : List Record) → stored n log (min k (n + 1)) rs ≡ stored n log k rs
+stored-capped n log k rs = elim (decLt n k) [
+  | yes h ↦ stored-full n log (min k (n + 1)) rs (omega arith) ∙ sym (stored-full n log k rs (omega arith))
+  | no h ↦ ap (λ (j : ℕ). stored n log j rs) (omega arith)
+]
 
 one-length : (n : ℕ) (log : List ℕ) (count : ℕ) (r : Record) → n * recordLength ≤ length log → length (cond (ltb count n) (withEntry log count (recordEntry r)) log) ≡ length log
 one-length n log count r h = by-test (ltb count n) (λ y. rw y (length-with log count (recordEntry r) (let l : count < n = ltb-true count n y in has-record count n (length log) l h))) (λ m. rw m refl)

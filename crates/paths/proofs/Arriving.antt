@@ -10,6 +10,7 @@ use Rattle.model.specs.declared.Group.{Group}
 use Rattle.model.specs.Groups.{restrict}
 use Rattle.model.specs.Lists.{Each, sumOver}
 use Rattle.model.specs.Log.{Candidate, Record, addedRecord, noNumber, recordAt, stepsCap}
+use Rattle.model.specs.Records.{recordLength}
 use Rattle.model.specs.Tables.{writtenPlaces}
 use Rattle.automaton.specs.StateNumbers.{stateCount, stateNumber}
 use Rattle.automaton.specs.StateSets.{inserted, member}
@@ -24,7 +25,7 @@ use Rattle.paths.specs.declared.Job.{Job}
 use Rattle.paths.specs.declared.Trail.{Trail}
 use Rattle.paths.specs.Arrivals.{endNumber, hit, stored, taken}
 use Rattle.paths.specs.Jobs.{PassedRight, Searchable, Searched, Standing, arrivals, endEntry, glances, jobProcesses, made, seenIn, storedEnd}
-use Rattle.paths.proofs.Arrivals.{hit-seen, taken-none}
+use Rattle.paths.proofs.Arrivals.{hit-seen, stored-length, taken-none}
 use Rattle.paths.proofs.Passing.{passed-kept, seen-bytes, seen-more, seen-passed}
 
 -- candidates whose ends were all seen change nothing
@@ -41,6 +42,10 @@ searched-nothing job cs count log s few all right =
       outside = λ i a. refl;
       passed = right;
     }
+
+-- the log keeps its length
+pub searched-log : (job : Job) (cs : List Candidate) (count : ℕ) (log s : List ℕ) (count′ : ℕ) (log′ s′ : List ℕ) → job .n * recordLength ≤ length log → Searched job cs count log s count′ log′ s′ → length log′ ≡ length log
+searched-log job cs count log s count′ log′ s′ holds d = ap length (d .written) ∙ stored-length (job .n) log count (map (addedRecord (job .round) (glances log (job .base))) (taken (seenIn s) cs)) holds
 
 -- ---- the record of an end
 module _ (job : Job) (log s : List ℕ) (state : ℕ) (trail : Trail) (ready : Searchable job log s) (stands : Standing job log (job .count) state trail) where

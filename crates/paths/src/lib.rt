@@ -165,13 +165,14 @@ fn store(log: &mut [u8], job: Job, after: u32, trail: Trail, count: usize) -> us
     ensures { λ r. ⌜ (r ≡ min (count + 1) (job .n + 1)) × (now (log .exit) ≡ storedEnd (now (log .entry)) job after trail count) ⌝ }
 {
     if count < job.n {
+        let path = trail.places;
         let e = Entry {
             letter: job.letter,
             before: unpack(job.before),
             after: unpack(after),
             round: job.round,
             rule: job.rule,
-            path: trail.places,
+            path,
             steps: trail.steps,
         };
         put_record(log, count, e);

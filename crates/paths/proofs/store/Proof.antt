@@ -15,11 +15,11 @@ returns : tie.Need-returns
 unfolding storedEnd
 returns c =
     let at-put = c .before .before in
-    let at-test = at-put .before .before .before .before in
+    let at-test = at-put .before .before .before .before .before in
     let a = at-test .before .before .before .args in (
       omega (arith, at-test .if1 .taken),
       rw (lt-ltb _ _ (at-test .if1 .taken)) (at-put .put-record .ensures
-      ∙ ap₂ (λ (b g : Group). withEntry (a .log .now) (a .count) (record { letter = a .job .letter; before = b; after = g; round = a .job .round; rule = a .job .rule; path = a .trail .places; steps = a .trail .steps })) (at-put .before .before .before .unpack .ensures) (at-put .before .before .unpack2 .ensures)),
+          ∙ ap₂ (λ (b g : Group). withEntry (a .log .now) (a .count) (record { letter = a .job .letter; before = b; after = g; round = a .job .round; rule = a .job .rule; path = a .trail .places; steps = a .trail .steps })) (at-put .before .before .before .unpack .ensures) (at-put .before .before .unpack2 .ensures)),
     )
 
 returns-2 : tie.Need-returns-2
