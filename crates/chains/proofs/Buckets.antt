@@ -22,16 +22,16 @@ use Rattle.automaton.specs.StateSets.{firstFrom}
 use Rattle.automaton.proofs.StateSets.{Fails, fails-none, fails-join, fails-one, first-of, first-is, first-at}
 use Rattle.records.specs.Entries.{Fits}
 use Rattle.records.proofs.Entries.{log-reads}
-use Rattle.chains.specs.WordBytes.{withWord}
+use Rattle.numbers.specs.NumberBytes.{withNumber}
 use Rattle.chains.specs.Buckets.{bucketOf, recordBucket, inBucket, recordReads, noLink, linkTo, linkPlace, linkAt, withRecord, ChainRoom, ChainedFrom, Chained, SameOutside, Emptied}
-use Rattle.chains.proofs.WordBytes.{length-word, byte-other, word-back, word-same, word-other}
+use Rattle.numbers.proofs.NumberBytes.{byte-kept, length-number, number-kept, number-same, number-written}
 
 -- ---- links
-pub link-same : (s : List ℕ) (at k x : ℕ) → linkPlace at k + 2 ≤ length s → x ≤ noLink → linkAt (withWord s (linkPlace at k) x) at k ≡ x
-link-same s at k x h f = word-back s (linkPlace at k) x h (omega arith)
+pub link-same : (s : List ℕ) (at k x : ℕ) → linkPlace at k + 2 ≤ length s → x ≤ noLink → linkAt (withNumber 2 s (linkPlace at k) x) at k ≡ x
+link-same s at k x h f = number-written 2 s (linkPlace at k) x h (omega arith)
 
-pub link-other : (s : List ℕ) (at k x j : ℕ) → (j ≡ k → ⊥) → linkAt (withWord s (linkPlace at k) x) at j ≡ linkAt s at j
-link-other s at k x j ne = word-other s (linkPlace at k) x (linkPlace at j) (elim (decLt k j) [ yes h ↦ inl (omega arith) | no h ↦ inr (omega arith) ])
+pub link-other : (s : List ℕ) (at k x j : ℕ) → (j ≡ k → ⊥) → linkAt (withNumber 2 s (linkPlace at k) x) at j ≡ linkAt s at j
+link-other s at k x j ne = number-kept 2 2 s (linkPlace at k) x (linkPlace at j) (elim (decLt k j) [ yes h ↦ inr (omega arith) | no h ↦ inl (omega arith) ])
 
 link-below : (base r : ℕ) → r < base → linkTo base r ≡ r
 unfolding linkTo
@@ -59,11 +59,11 @@ outside-join p q = record {
   behind = λ i h. q .behind i h ∙ p .behind i h;
 }
 
-outside-link : (n at : ℕ) (s : List ℕ) (k x : ℕ) → k < 2 * n → SameOutside n at s (withWord s (linkPlace at k) x)
+outside-link : (n at : ℕ) (s : List ℕ) (k x : ℕ) → k < 2 * n → SameOutside n at s (withNumber 2 s (linkPlace at k) x)
 outside-link n at s k x l = record {
-  size = length-word s (linkPlace at k) x;
-  before = λ i h. byte-other s (linkPlace at k) x i (λ e. omega arith) (λ e. omega arith);
-  behind = λ i h. byte-other s (linkPlace at k) x i (λ e. omega arith) (λ e. omega arith);
+  size = length-number 2 s (linkPlace at k) x;
+  before = λ i h. byte-kept 2 s (linkPlace at k) x i (inl (omega arith));
+  behind = λ i h. byte-kept 2 s (linkPlace at k) x i (inr (omega arith));
 }
 
 -- the bytes before the chains, and those behind them
@@ -86,11 +86,11 @@ pub record Emptying (n at h : ℕ) (s t : List ℕ) : Type 0 where
 pub emptying-start : (n at : ℕ) (s : List ℕ) → Emptying n at 0 s s
 emptying-start n at s = record { same = outside-none n at s; empty = λ k l. absurd (omega arith) }
 
-pub emptying-turn : {n at h : ℕ} {s t : List ℕ} → h < n → at + 4 * n ≤ length s → Emptying n at h s t → Emptying n at (h + 1) s (withWord t (linkPlace at h) noLink)
+pub emptying-turn : {n at h : ℕ} {s t : List ℕ} → h < n → at + 4 * n ≤ length s → Emptying n at h s t → Emptying n at (h + 1) s (withNumber 2 t (linkPlace at h) noLink)
 emptying-turn {n} {at} {h} {s} {t} l room w = record {
   same = outside-join (w .same) (outside-link n at t h noLink (omega arith));
   empty = λ k q. elim (ℕ-discrete k h) [
-    | yes e ↦ ap (λ (j : ℕ). linkAt (withWord t (linkPlace at h) noLink) at j) e ∙ link-same t at h noLink (omega (arith, w .same .size)) (omega arith)
+    | yes e ↦ ap (λ (j : ℕ). linkAt (withNumber 2 t (linkPlace at h) noLink) at j) e ∙ link-same t at h noLink (omega (arith, w .same .size)) (omega arith)
     | no ne ↦ link-other t at h noLink k ne ∙ w .empty k (omega arith)
   ];
 }
@@ -139,7 +139,7 @@ module _ (log : List ℕ) (base n at : ℕ) (s : List ℕ) (fits : base ≤ n) (
   unfolding withRecord
   front-outside =
       let h = recordBucket log n r in
-      let t = withWord s (linkPlace at (n + r)) (linkAt s at h) in
+      let t = withNumber 2 s (linkPlace at (n + r)) (linkAt s at h) in
       outside-join (outside-link n at s (n + r) (linkAt s at h) (omega arith)) (outside-link n at t h r (omega (arith, own-below)))
 
   -- the head of its bucket
@@ -147,15 +147,15 @@ module _ (log : List ℕ) (base n at : ℕ) (s : List ℕ) (fits : base ≤ n) (
   unfolding withRecord
   head-own =
       let h = recordBucket log n r in
-      let t = withWord s (linkPlace at (n + r)) (linkAt s at h) in
-      link-same t at h r (omega (arith, own-below, length-word s (linkPlace at (n + r)) (linkAt s at h))) (omega arith)
+      let t = withNumber 2 s (linkPlace at (n + r)) (linkAt s at h) in
+      link-same t at h r (omega (arith, own-below, length-number 2 s (linkPlace at (n + r)) (linkAt s at h))) (omega arith)
 
   -- its next link
   next-own : linkAt (withRecord log n at s r) at (n + r) ≡ linkAt s at (recordBucket log n r)
   unfolding withRecord
   next-own =
       let h = recordBucket log n r in
-      let t = withWord s (linkPlace at (n + r)) (linkAt s at h) in
+      let t = withNumber 2 s (linkPlace at (n + r)) (linkAt s at h) in
       let small : linkAt s at h ≤ noLink = rw (w .head h own-below) (link-small base (firstFrom (inBucket log n h) (suc r) (base - suc r)) (omega arith)) in
       link-other t at h r (n + r) (λ e. omega (arith, own-below)) ∙ link-same s at (n + r) (linkAt s at h) (omega arith) small
 
@@ -164,7 +164,7 @@ module _ (log : List ℕ) (base n at : ℕ) (s : List ℕ) (fits : base ≤ n) (
   unfolding withRecord
   link-kept k p q =
       let h = recordBucket log n r in
-      link-other (withWord s (linkPlace at (n + r)) (linkAt s at h)) at h r k p ∙ link-other s at (n + r) (linkAt s at h) k q
+      link-other (withNumber 2 s (linkPlace at (n + r)) (linkAt s at h)) at h r k p ∙ link-other s at (n + r) (linkAt s at h) k q
 
   chained-front : ChainedFrom r log base n at (withRecord log n at s r)
   chained-front =
@@ -316,7 +316,7 @@ chained-scratch log base n at s t fits same w = record {
 }
   where
     kept : (k : ℕ) → k < 2 * n → linkAt t at k ≡ linkAt s at k
-    kept k l = word-same s t (linkPlace at k) (same (linkPlace at k) (omega arith) (omega arith)) (same (suc (linkPlace at k)) (omega arith) (omega arith))
+    kept k l = number-same 2 s t (linkPlace at k) (λ m p q. same m (omega arith) (omega arith))
 
 -- for any log whose first records have the same letters and states before
 module _ (log new : List ℕ) (base n at : ℕ) (s : List ℕ) (letters : (r : ℕ) → r < base → letterAt new r ≡ letterAt log r) (states : (r : ℕ) → r < base → beforeAt new r ≡ beforeAt log r) where

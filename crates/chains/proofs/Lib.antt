@@ -1,2 +1,1 @@
-pub mod WordBytes
 pub mod Buckets

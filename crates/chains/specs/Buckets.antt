@@ -12,7 +12,8 @@ use Rattle.model.specs.Groups.{sameGroup}
 use Rattle.model.specs.Records.{recordLength, letterAt, beforeAt}
 use Rattle.automaton.specs.StateNumbers.{stateNumber}
 use Rattle.automaton.specs.StateSets.{firstFrom}
-use Rattle.chains.specs.WordBytes.{wordAt, withWord}
+use Rattle.model.specs.Records.{numberAt}
+use Rattle.numbers.specs.NumberBytes.{withNumber}
 
 -- ---- buckets
 -- the bucket, of n, of a letter and the states before
@@ -43,13 +44,13 @@ abbrev pub linkPlace : ℕ → ℕ → ℕ
 linkPlace at k = at + 2 * k
 
 abbrev pub linkAt : List ℕ → ℕ → ℕ → ℕ
-linkAt s at k = wordAt s (linkPlace at k)
+linkAt s at k = numberAt 2 s (linkPlace at k)
 
 -- record r put in front of its bucket's chain
 unfoldable pub withRecord : List ℕ → ℕ → ℕ → List ℕ → ℕ → List ℕ
 withRecord log n at s r =
     let h = recordBucket log n r in
-    withWord (withWord s (linkPlace at (n + r)) (linkAt s at h)) (linkPlace at h) r
+    withNumber 2 (withNumber 2 s (linkPlace at (n + r)) (linkAt s at h)) (linkPlace at h) r
 
 -- ---- chains
 -- there is room for the chains of the log's first base records in n buckets, from the offset at on

@@ -1,13 +1,11 @@
 // Chains of the log's records in scratch, by letter and states before: n buckets, each a list of record numbers in
 // rising order. The links are numbers of 16 bits from the offset `at` on: n heads, and then n next links.
-pub mod words;
-
-use crate::words::put_word;
-use crate::words::wide;
-use crate::words::word_at;
 use automaton::groups;
 use automaton::states;
 use model::Group;
+use numbers::put_two;
+use numbers::two_at;
+use numbers::wide_two;
 use records::before_at;
 use records::letter_at;
 ghost use mathlib.Core.Path.{_≡_};
@@ -43,7 +41,7 @@ fn empty_heads(scratch: &mut [u8], at: usize, n: usize)
 {
     let mut h = 0;
     while h < n {
-        put_word(scratch, at + 2 * h, NO_LINK);
+        put_two(scratch, at + 2 * h, NO_LINK);
         h += 1;
     }
 }
@@ -54,9 +52,9 @@ fn link_record(log: &[u8], scratch: &mut [u8], at: usize, n: usize, r: usize)
     ensures { λ _. ⌜ now (scratch .exit) ≡ withRecord (now (log .entry)) n at (now (scratch .entry)) r ⌝ }
 {
     let h = record_bucket(log, n, r);
-    let next = word_at(scratch, at + 2 * h);
-    put_word(scratch, at + 2 * (n + r), next);
-    put_word(scratch, at + 2 * h, r as u16);
+    let next = two_at(scratch, at + 2 * h);
+    put_two(scratch, at + 2 * (n + r), next);
+    put_two(scratch, at + 2 * h, r as u16);
 }
 
 // Links the records, the last first, so that each chain rises.
@@ -96,7 +94,7 @@ fn link_at(scratch: &[u8], at: usize, k: usize) -> usize
     requires { ⌜ linkPlace at k + 2 ≤ length (now scratch) ⌝ }
     ensures { λ r. ⌜ r ≡ linkAt (now (scratch .entry)) at k ⌝ }
 {
-    wide(word_at(scratch, at + 2 * k))
+    wide_two(two_at(scratch, at + 2 * k))
 }
 
 // The first record of a chain from `start` on that reads the letter with the states g before, or base. A link at or above base is none.

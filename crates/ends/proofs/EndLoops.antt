@@ -1,7 +1,7 @@
 -- The loops over the ends of a group of rules: marking those that the log has, counting the new ones, giving them places.
 use mathlib.Core.Path.{_∙_, _≡_, ap, refl, sym}
 use mathlib.Core.Bool.{Bool, _&&_, _||_, cond, false, false≢true, true, true≢false}
-use mathlib.Core.Logic.{_≢_, inr}
+use mathlib.Core.Logic.{_⊎_, _≢_, inl, inr}
 use mathlib.Core.List.{List}
 use Prim.Native.Nat.{_*_, _+_, _-_, _<_, _≤_, suc, zero, ℕ}
 use native.Mathlib.Omega.{arith}
@@ -22,9 +22,9 @@ use Rattle.automaton.proofs.StateNumbers.{stateNumber-below}
 use Rattle.model.specs.Records.{afterAt, beforeAt, letterAt}
 use Rattle.records.specs.Entries.{HasRecord}
 use Rattle.chains.specs.Buckets.{ChainRoom, Chained, recordReads}
-use Rattle.chains.specs.WordBytes.{withWord}
+use Rattle.numbers.specs.NumberBytes.{withNumber}
 use Rattle.chains.proofs.Buckets.{chained-scratch}
-use Rattle.chains.proofs.WordBytes.{byte-other, length-word, word-back, word-other}
+use Rattle.numbers.proofs.NumberBytes.{byte-kept, length-number, number-kept, number-written}
 use Rattle.search.specs.Jobs.{chainsAt, glances, marksOf, placeIn, placesAt}
 use Rattle.search.proofs.Searching.{glances-at, length-glances}
 use Rattle.ends.specs.Ends.{HeldMarked, NoneNew, Placed, block, heldEnd, oneIfNew, withOwnPlace}
@@ -195,7 +195,7 @@ none-in-block s x m h e z = record {
 
 -- ---- the places of the new ends
 module _ (s : List ℕ) (x place : ℕ) where
-  pub own-new : getD s x 0 ≡ 2 → withOwnPlace s x place ≡ withWord s (placesAt + 2 * x) place
+  pub own-new : getD s x 0 ≡ 2 → withOwnPlace s x place ≡ withNumber 2 s (placesAt + 2 * x) place
   unfolding withOwnPlace
   own-new e = rw (eq-eqb (getD s x 0) 2 e)
 
@@ -203,19 +203,19 @@ module _ (s : List ℕ) (x place : ℕ) where
   unfolding withOwnPlace
   own-old n = rw (ne-eqb (getD s x 0) 2 n)
 
-  own-either : (P : List ℕ → Type 0) → (getD s x 0 ≡ 2 → P (withWord s (placesAt + 2 * x) place)) → P s → P (withOwnPlace s x place)
+  own-either : (P : List ℕ → Type 0) → (getD s x 0 ≡ 2 → P (withNumber 2 s (placesAt + 2 * x) place)) → P s → P (withOwnPlace s x place)
   own-either P f p = by-test (eqb (getD s x 0) 2)
       (λ t. let e : getD s x 0 ≡ 2 = eqb-true (getD s x 0) 2 t in rw (own-new e) (f e))
       (λ n. rw (own-old (eqb-false (getD s x 0) 2 n)) p)
 
   pub own-length : length (withOwnPlace s x place) ≡ length s
-  own-length = own-either (λ (l : List ℕ). length l ≡ length s) (λ e. length-word s (placesAt + 2 * x) place) refl
+  own-length = own-either (λ (l : List ℕ). length l ≡ length s) (λ e. length-number 2 s (placesAt + 2 * x) place) refl
 
-  own-byte : (i : ℕ) → (i ≡ placesAt + 2 * x → ⊥) → (i ≡ suc (placesAt + 2 * x) → ⊥) → getD (withOwnPlace s x place) i 0 ≡ getD s i 0
-  own-byte i a b = own-either (λ (l : List ℕ). getD l i 0 ≡ getD s i 0) (λ e. byte-other s (placesAt + 2 * x) place i a b) refl
+  own-byte : (i : ℕ) → (i < placesAt + 2 * x) ⊎ (placesAt + 2 * x + 2 ≤ i) → getD (withOwnPlace s x place) i 0 ≡ getD s i 0
+  own-byte i d = own-either (λ (l : List ℕ). getD l i 0 ≡ getD s i 0) (λ e. byte-kept 2 s (placesAt + 2 * x) place i d) refl
 
   own-other : (y : ℕ) → y < x → placeIn (withOwnPlace s x place) y ≡ placeIn s y
-  own-other y h = own-either (λ (l : List ℕ). placeIn l y ≡ placeIn s y) (λ e. word-other s (placesAt + 2 * x) place (placesAt + 2 * y) (inr (omega arith))) refl
+  own-other y h = own-either (λ (l : List ℕ). placeIn l y ≡ placeIn s y) (λ e. number-kept 2 2 s (placesAt + 2 * x) place (placesAt + 2 * y) (inl (omega arith))) refl
 
 -- the new ends below x have their places
 pub record Placing (first : ℕ) (s₀ s : List ℕ) (place x : ℕ) : Type 0 where
@@ -246,7 +246,7 @@ module _ (first : ℕ) (s₀ s : List ℕ) (place x : ℕ) (w : Placing first s�
     placing-one = (h, omega (arith, w .size), λ e. place-small (sym (w .before x (omega arith)) ∙ e))
 
     own-place : getD s₀ x 0 ≡ 2 → placeIn (withOwnPlace s x place) x ≡ place
-    own-place e = ap (λ (l : List ℕ). placeIn l x) (own-new s x place (w .before x (omega arith) ∙ e)) ∙ word-back s (placesAt + 2 * x) place (omega (arith, w .size)) (place-small e)
+    own-place e = ap (λ (l : List ℕ). placeIn l x) (own-new s x place (w .before x (omega arith) ∙ e)) ∙ number-written 2 s (placesAt + 2 * x) place (omega (arith, w .size)) (place-small e)
 
     pub placing-turn : (place′ : ℕ) → place′ ≡ place + oneIfNew (getD s x 0) → Placing first s₀ (withOwnPlace s x place) place′ (x + 1)
     placing-turn place′ e = record {
@@ -259,8 +259,8 @@ module _ (first : ℕ) (s₀ s : List ℕ) (place x : ℕ) (w : Placing first s�
           (λ q. let same : y ≡ x = eqb-true y x q in
           ap (placeIn (withOwnPlace s x place)) same ∙ own-place (ap (λ (k : ℕ). getD s₀ k 0) (sym same) ∙ t) ∙ w .next ∙ ap (λ (k : ℕ). first + rank (marksOf s₀) k) (sym same))
           (λ d. let less : y < x = (let ne : y ≢ x = eqb-false y x d in omega arith) in own-other s x place y less ∙ w .places y less t);
-      before = λ i l. own-byte s x place i (λ q. omega arith) (λ q. omega arith) ∙ w .before i l;
-      behind = λ i l. own-byte s x place i (λ q. omega arith) (λ q. omega arith) ∙ w .behind i l;
+      before = λ i l. own-byte s x place i (inl (omega arith)) ∙ w .before i l;
+      behind = λ i l. own-byte s x place i (inr (omega arith)) ∙ w .behind i l;
     }
 
   -- ends that are not new have no place

@@ -11,7 +11,7 @@ use Rattle.model.specs.declared.Group.{Group}
 use Rattle.model.specs.Groups.{sameGroup}
 use Rattle.model.specs.Log.{Candidate, Record}
 use Rattle.automaton.specs.StateNumbers.{stateCount, stateNumber}
-use Rattle.chains.specs.WordBytes.{withWord}
+use Rattle.numbers.specs.NumberBytes.{withNumber}
 use Rattle.search.specs.Jobs.{marksOf, placeIn, placesAt, glances}
 use Rattle.search.specs.Visits.{endNumber}
 
@@ -44,7 +44,7 @@ oneIfNew mark = cond (eqb mark 2) 1 0
 
 -- the scratch with the place of the end x, where it is new
 unfoldable pub withOwnPlace : List ℕ → ℕ → ℕ → List ℕ
-withOwnPlace s x place = cond (eqb (getD s x 0) 2) (withWord s (placesAt + 2 * x) place) s
+withOwnPlace s x place = cond (eqb (getD s x 0) 2) (withNumber 2 s (placesAt + 2 * x) place) s
 
 -- the log has a transition on letter a with the states b before, to the end
 abbrev pub heldEnd : List Record → ℕ → Group → ℕ → Bool

@@ -3,8 +3,8 @@ use automaton::sets;
 use automaton::states;
 use chains::first_match;
 use chains::next_match;
-use chains::words::put_word;
 use model::Group;
+use numbers::put_two;
 use search::CHAINS;
 use search::PLACES;
 ghost use mathlib.Core.Path.{_≡_};
@@ -68,7 +68,7 @@ fn place_one(scratch: &mut [u8], x: usize, place: usize) -> usize
     ensures { λ r. ⌜ (now (scratch .exit) ≡ withOwnPlace (now (scratch .entry)) x place) × (r ≡ place + oneIfNew (getD (now (scratch .entry)) x 0)) ⌝ }
 {
     if scratch[x] == 2 {
-        put_word(scratch, PLACES + 2 * x, place as u16);
+        put_two(scratch, PLACES + 2 * x, place as u16);
         return place + 1;
     }
     place

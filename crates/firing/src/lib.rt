@@ -1,12 +1,12 @@
 // Firing a rule on a word that stands at the end of its buffer: only what lies above the letter that fires is moved, by one place.
 use automaton::groups;
 use model::Group;
+use numbers::wide;
 use table::Table;
 use table::letter_bits;
 use table::rule_after;
 use table::rule_before;
 use table::rule_letter;
-use table::wide;
 use table::written_count;
 use table::written_letter;
 ghost use mathlib.Core.Path.{_≡_};

@@ -1,7 +1,7 @@
 // The rules that a round looks at: those that write a letter of the last round's records.
 use crate::ACTIVE;
+use numbers::wide;
 use table::Table;
-use table::wide;
 ghost use mathlib.Core.Path.{_≡_};
 ghost use Prim.Native.Nat.{_+_, _*_, _<_, _≤_};
 ghost use lib.ListN.{length, set};

@@ -44,6 +44,7 @@ log-from (r ∷ rs) rest (suc n) h =
 
 -- ---- numbers and groups at an offset
 pub number-drop : (k : ℕ) (l : List ℕ) (a i : ℕ) → numberAt k (drop a l) i ≡ numberAt k l (a + i)
+unfolding numberAt
 number-drop zero l a i = refl
 number-drop (suc k) l a i = rw (getD-drop a l i 0, number-drop k l a (suc i), add-suc a i)
 
@@ -57,11 +58,13 @@ number-behind k xs ys n e =
     ap (λ (i : ℕ). numberAt k (xs ++ ys) i) z ∙ sym (number-drop k (xs ++ ys) n 0) ∙ ap (λ (l : List ℕ). numberAt k l 0) (drop-at xs ys n e)
 
 pub number-cons : (k x : ℕ) (l : List ℕ) (i : ℕ) → numberAt k (x ∷ l) (suc i) ≡ numberAt k l i
+unfolding numberAt
 number-cons zero x l i = refl
 number-cons (suc k) x l i = ap (λ (y : ℕ). getD l i 0 + 256 * y) (number-cons k x l (suc i))
 
 -- a number that was written is read back
 pub number-back : (k x : ℕ) (rest : List ℕ) → x < 256 ^ k → numberAt k (littleEndian k x ++ rest) 0 ≡ x
+unfolding numberAt
 number-back zero x rest h = omega arith
 number-back (suc k) x rest h =
     let back = number-back k (x / 256) rest (omega (arith, pow-suc 256 k)) in
@@ -82,7 +85,7 @@ module _ (r : Record) (rest : List ℕ) where
   front-after = refl
 
   front-round : r .round < 65536 → numberAt 2 (recordBytes r ++ rest) 9 ≡ r .round
-  unfolding recordBytes
+  unfolding recordBytes numberAt
   front-round h = number-back 2 (r .round) [] h
 
 -- ---- record n of a list of bytes

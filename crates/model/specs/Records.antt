@@ -36,7 +36,7 @@ logBytes log = concatMap recordBytes log
 
 -- ---- reading
 -- the number that so many bytes from an offset on stand for, the low one first
-abbrev pub numberAt : ℕ → List ℕ → ℕ → ℕ
+unfoldable pub numberAt : ℕ → List ℕ → ℕ → ℕ
 numberAt zero l i = 0
 numberAt (suc k) l i = getD l i 0 + 256 * numberAt k l (suc i)
 

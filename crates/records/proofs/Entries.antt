@@ -1,33 +1,65 @@
 -- Laws of the records of the log: what the writer leaves are records, and what the readers give are their fields.
-use mathlib.Core.Path.{_≡_, refl, ap, sym, _∙_}
+use mathlib.Core.Path.{_≡_, refl, ap, ap₂, sym, _∙_}
 use mathlib.Core.List.{List, [], _∷_, _++_, append-assoc}
 use Prim.Native.Nat.{ℕ, zero, suc, _+_, _-_, _*_, _/_, _%_, _^_, _<_}
 use native.Mathlib.Omega.{arith}
 use native.Mathlib.Nat.{add-suc, add-assoc, pow-suc}
 use lib.ListN.{length, take, drop, getD, set, length-append, length-take, length-drop}
-use lib.Seq.{getD-drop, drop-append-add, drop-at, take-at, set-split, split-at, length-take-le}
+use lib.Seq.{getD-drop, drop-append-add, drop-at, take-at, set-split, split-at, length-take-le, ext-getD}
 use Rattle.model.specs.Lists.{Each}
 use Rattle.model.specs.Tables.{writtenPlaces}
-use Rattle.model.specs.Log.{Record, recordAt, noRecord}
+use Rattle.model.specs.Log.{Record, recordAt, noNumber, noRecord}
 use Rattle.model.specs.Records.{recordLength, littleEndian, pathBytes, recordBytes, logBytes, numberAt, groupAt, letterAt, beforeAt, afterAt, roundAt, ruleAt, placeAt, stepsAt}
 use Rattle.model.proofs.RecordBytes.{length-path, length-record, length-log, log-around, number-drop, number-behind, number-cons, number-back, from-number, from-letter, from-before, from-after, from-round, record-from}
 use Rattle.records.specs.declared.Entry.{Entry}
-use Rattle.records.specs.Entries.{pathPlace, recordEntry, entryBytes, HasRecord, withEntry, Fits, Reads}
-use Rattle.records.proofs.Parts.{part-back, part-rest}
+use Rattle.records.specs.Entries.{padded, pathPlace, recordEntry, entryBytes, HasRecord, withEntry, Fits, Reads}
+use Rattle.numbers.specs.NumberBytes.{withNumber}
+use Rattle.records.proofs.Parts.{Front, front-number, part-back, part-rest}
 
 -- ---- the bytes of an entry are those of its record
-path-places : (ns : List ℕ) → pathBytes writtenPlaces (pathPlace ns 0 ∷ pathPlace ns 1 ∷ pathPlace ns 2 ∷ pathPlace ns 3 ∷ []) ≡ pathBytes writtenPlaces ns
-path-places [] = refl
-path-places (a ∷ []) = refl
-path-places (a ∷ b ∷ []) = refl
-path-places (a ∷ b ∷ c ∷ []) = refl
-path-places (a ∷ b ∷ c ∷ d ∷ ns) = refl
+path-padded : (k : ℕ) (ns : List ℕ) → pathBytes k (padded k ns) ≡ pathBytes k ns
+path-padded zero ns = refl
+path-padded (suc k) [] = ap (λ (l : List ℕ). littleEndian 2 noNumber ++ l) (path-padded k [])
+path-padded (suc k) (n ∷ ns) = ap (λ (l : List ℕ). littleEndian 2 n ++ l) (path-padded k ns)
 
 pub entry-bytes : (r : Record) → entryBytes (recordEntry r) ≡ recordBytes r
 unfolding entryBytes recordEntry recordBytes
-entry-bytes r = rw (← path-places (r .path))
+entry-bytes r = rw (path-padded writtenPlaces (r .path))
 
 -- ---- places of a path
+length-padded : (k : ℕ) (ns : List ℕ) → length (padded k ns) ≡ k
+length-padded zero ns = refl
+length-padded (suc k) [] = ap suc (length-padded k [])
+length-padded (suc k) (n ∷ ns) = ap suc (length-padded k ns)
+
+place-padded : (k : ℕ) (ns : List ℕ) (j : ℕ) → j < k → pathPlace (padded k ns) j ≡ pathPlace ns j
+place-padded zero ns j h = absurd (omega arith)
+place-padded (suc k) [] zero h = refl
+place-padded (suc k) [] (suc j) h = place-padded k [] j (omega arith)
+place-padded (suc k) (n ∷ ns) zero h = refl
+place-padded (suc k) (n ∷ ns) (suc j) h = place-padded k ns j (omega arith)
+
+-- the places are known one by one
+pub padded-is : (ns l : List ℕ) → ((j : ℕ) → j < length l → pathPlace ns j ≡ pathPlace l j) → padded (length l) ns ≡ l
+padded-is ns l e = ext-getD noNumber (padded (length l) ns) l (length-padded (length l) ns) (λ j h. place-padded (length l) ns j (omega (arith, length-padded (length l) ns)) ∙ e j (omega (arith, length-padded (length l) ns)))
+
+path-snoc : (j : ℕ) (ns : List ℕ) → j < length ns → pathBytes j ns ++ littleEndian 2 (getD ns j 0) ≡ pathBytes (suc j) ns
+path-snoc j [] h = absurd (omega arith)
+path-snoc zero (n ∷ ns) h = refl
+path-snoc (suc j) (n ∷ ns) h = ap (λ (l : List ℕ). littleEndian 2 n ++ l) (path-snoc j ns (omega arith))
+
+-- one place more is written
+pub places-more : (ns out₀ out out′ : List ℕ) (j : ℕ) → j < length ns → length out₀ ≡ 2 * length ns → Front (pathBytes j ns) out₀ (2 * j) out → out′ ≡ withNumber 2 out (2 * j) (getD ns j 0)
+    → Front (pathBytes (j + 1) ns) out₀ (2 * (j + 1)) out′
+places-more ns out₀ out out′ j h room w e =
+    let next : suc j ≡ j + 1 = omega arith in
+    let place : 2 * j + 2 ≡ 2 * (j + 1) = omega arith in
+    let f = front-number 2 (getD ns j 0) w (omega arith) e in
+    record {
+      same = f .same ∙ ap₂ (λ (l : List ℕ) (a : ℕ). l ++ drop a out₀) (path-snoc j ns h ∙ ap (λ (k : ℕ). pathBytes k ns) next) place;
+      size = length-path (j + 1) ns;
+    }
+
 path-step : (k : ℕ) (ns : List ℕ) → pathBytes (suc k) ns ≡ littleEndian 2 (pathPlace ns 0) ++ pathBytes k (drop 1 ns)
 path-step k [] = refl
 path-step k (n ∷ ns) = refl
@@ -64,7 +96,7 @@ place-back (suc k) ns rest (suc j) h f =
 -- ---- what the readers give
 module _ (r : Record) (rest : List ℕ) (f : Fits r) where
   front-rule : numberAt 2 (recordBytes r ++ rest) 11 ≡ r .rule
-  unfolding recordBytes
+  unfolding recordBytes numberAt
   front-rule = number-back 2 (r .rule) [] (f .rule)
 
   front-path : drop 13 (recordBytes r ++ rest) ≡ pathBytes writtenPlaces (r .path) ++ (littleEndian 3 (r .steps) ++ rest)
@@ -129,7 +161,7 @@ with-loan log out n a e p q = part-back log out a ∙ rw (q, part-rest log a, p)
 
 pub length-with : (log : List ℕ) (n : ℕ) (e : Entry) → HasRecord log n → length (withEntry log n e) ≡ length log
 unfolding withEntry entryBytes
-length-with log n e h = simp (length-append, length-take, length-drop) (omega arith)
+length-with log n e h = simp (length-append, length-take, length-drop) (omega (arith, length-path writtenPlaces (e .path)))
 
 -- the record comes behind those of pre, and the bytes behind it stay
 with-behind : (pre : List Record) (r : Record) (rest log : List ℕ) (n : ℕ) → log ≡ logBytes pre ++ rest → n ≡ length pre

@@ -1,9 +1,12 @@
 -- Parts of a lent slice: written from end to end, and handed back.
-use mathlib.Core.Path.{_≡_, refl, ap, sym, _∙_}
+use mathlib.Core.Path.{_≡_, refl, ap, ap₂, sym, _∙_}
 use mathlib.Core.List.{List, [], _++_, append-nil, append-assoc}
 use Prim.Native.Nat.{ℕ, _+_, _-_, _≤_}
 use native.Mathlib.Omega.{arith}
 use lib.ListN.{length, take, drop, length-append, length-drop, drop-of-length-le}
+use Rattle.model.specs.Records.{littleEndian}
+use Rattle.numbers.specs.NumberBytes.{withNumber}
+use Rattle.numbers.proofs.NumberBytes.{length-little}
 use lib.Seq.{sets, sets-eq, take-at, drop-at, drop-drop, take-all}
 
 -- stores at 0, 1, .. to the end of a list are the list of what is stored
@@ -27,6 +30,28 @@ front-more {pre} {l} {q} {ys} {bs} {a} k w e n = record {
   same = rw (w .same, e, take-at pre (drop a l) a (w .size), drop-at pre (drop a l) a (w .size), drop-drop k a l) (sym (append-assoc pre bs (drop (a + k) l)));
   size = length-append pre bs ∙ omega (arith, w .size);
 }
+
+pub front-length : {pre l q : List ℕ} {a : ℕ} → Front pre l a q → a ≤ length l → length q ≡ length l
+front-length {pre} {l} {q} {a} w h = ap length (w .same) ∙ length-append pre (drop a l) ∙ omega (arith, w .size, length-drop a l)
+
+-- the next k bytes are written as a number
+pub front-number : {pre l q r : List ℕ} {a : ℕ} (k x : ℕ) → Front pre l a q → a + k ≤ length l → r ≡ withNumber k q a x → Front (pre ++ littleEndian k x) l (a + k) r
+unfolding withNumber
+front-number {pre} {l} {q} {r} {a} k x w h e =
+    let bs = littleEndian k x in
+    let n : length bs ≡ k = length-little k x in
+    let room : a + length bs ≤ length q = omega (arith, n, front-length w (omega arith)) in
+    let before : take a q ≡ pre = ap (take a) (w .same) ∙ take-at pre (drop a l) a (w .size) in
+    let behind : drop (a + length bs) q ≡ drop (a + k) l =
+    ap (λ (m : ℕ). drop (a + m) q) n ∙ sym (drop-drop k a q) ∙ ap (drop k) (ap (drop a) (w .same) ∙ drop-at pre (drop a l) a (w .size)) ∙ drop-drop k a l in
+    record {
+      same = e ∙ sets-eq bs q a room ∙ ap₂ (λ (x y : List ℕ). x ++ bs ++ y) before behind;
+      size = length-append pre bs ∙ omega (arith, w .size);
+    }
+
+-- to the end
+pub front-all : {pre l q : List ℕ} {a : ℕ} → Front pre l a q → length l ≤ a → q ≡ pre
+front-all {pre} {l} {q} {a} w h = w .same ∙ ap (λ (d : List ℕ). pre ++ d) (drop-of-length-le l {i = a} h) ∙ append-nil pre
 
 -- a slice after a part from a to its end came back: the part takes the place of the rest
 pub part-back : (l ys : List ℕ) (a : ℕ) → take a l ++ (ys ++ drop (length l - a) (drop a l)) ≡ take a l ++ ys

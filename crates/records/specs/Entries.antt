@@ -16,6 +16,12 @@ use Rattle.records.specs.declared.Entry.{Entry}
 abbrev pub pathPlace : List ℕ → ℕ → ℕ
 pathPlace path j = getD path j noNumber
 
+-- so many places of a path
+abbrev pub padded : ℕ → List ℕ → List ℕ
+padded zero ns = []
+padded (suc k) [] = noNumber ∷ padded k []
+padded (suc k) (n ∷ ns) = n ∷ padded k ns
+
 unfoldable pub recordEntry : Record → Entry
 recordEntry r = record {
   letter = r .key .letter;
@@ -23,20 +29,14 @@ recordEntry r = record {
   after = r .key .after;
   round = r .round;
   rule = r .rule;
-  p0 = pathPlace (r .path) 0;
-  p1 = pathPlace (r .path) 1;
-  p2 = pathPlace (r .path) 2;
-  p3 = pathPlace (r .path) 3;
+  path = padded writtenPlaces (r .path);
   steps = r .steps;
 }
-
-abbrev pub entryPlaces : Entry → List ℕ
-entryPlaces e = e .p0 ∷ e .p1 ∷ e .p2 ∷ e .p3 ∷ []
 
 unfoldable pub entryBytes : Entry → List ℕ
 entryBytes e =
     e .letter ∷ groupBytes (e .before) ++ groupBytes (e .after)
-    ++ littleEndian 2 (e .round) ++ littleEndian 2 (e .rule) ++ pathBytes writtenPlaces (entryPlaces e) ++ littleEndian 3 (e .steps)
+    ++ littleEndian 2 (e .round) ++ littleEndian 2 (e .rule) ++ pathBytes writtenPlaces (e .path) ++ littleEndian 3 (e .steps)
 
 -- the log has room for a record n
 abbrev pub HasRecord : List ℕ → ℕ → Type 0

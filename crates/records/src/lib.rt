@@ -1,18 +1,32 @@
 // The records of the log: one writer, which gets the log from its record's offset on, and a reader of each field by the record's number.
 use model::Group;
+use model::WRITTEN_PLACES;
+use numbers::put_three;
+use numbers::put_two;
+use numbers::three_at;
+use numbers::two_at;
 ghost use mathlib.Core.Path.{_≡_};
 ghost use mathlib.Core.List.{_∷_, _++_};
-ghost use Prim.Native.Nat.{_+_, _<_, _≤_};
+ghost use Prim.Native.Nat.{_+_, _*_, _<_, _≤_};
 ghost use lib.ListN.{length, drop};
 ghost use Rattle.model.specs.Tables.{writtenPlaces};
-ghost use Rattle.model.specs.Records.{recordLength, littleEndian, groupBytes, numberAt, groupAt, letterAt, beforeAt, afterAt, roundAt, ruleAt, placeAt, stepsAt};
+ghost use Rattle.model.specs.Records.{recordLength, groupBytes, pathBytes, groupAt, letterAt, beforeAt, afterAt, roundAt, ruleAt, placeAt, stepsAt};
 ghost use Rattle.records.specs.Entries.{entryBytes, HasRecord, withEntry};
 
-const WRITTEN_PLACES: usize = 4;
+// Where the fields of a record stand in it.
+const BEFORE: usize = 1;
 
-pub const RECORD_LENGTH: usize = 16 + 2 * WRITTEN_PLACES;
+const AFTER: usize = 5;
 
-const STEPS_OFFSET: usize = 13 + 2 * WRITTEN_PLACES;
+const ROUND: usize = 9;
+
+const RULE: usize = 11;
+
+const PATH: usize = 13;
+
+const STEPS: usize = PATH + 2 * WRITTEN_PLACES;
+
+pub const RECORD_LENGTH: usize = STEPS + 3;
 
 // A record of the log. 65535 stands for no rule, and for a path place past the path's end. The steps fit three bytes.
 pub struct Entry {
@@ -21,10 +35,7 @@ pub struct Entry {
     pub after: Group,
     pub round: u16,
     pub rule: u16,
-    pub p0: u16,
-    pub p1: u16,
-    pub p2: u16,
-    pub p3: u16,
+    pub path: [u16; WRITTEN_PLACES],
     pub steps: u32,
 }
 
@@ -43,21 +54,15 @@ fn put_key(out: &mut [u8], letter: u8, b: Group, a: Group)
     out[8] = a.s3;
 }
 
-fn put_two(out: &mut [u8], x: u16)
-    requires { ⌜ length (now out) ≡ 2 ⌝ }
-    ensures { λ _. ⌜ now (out .exit) ≡ littleEndian 2 x ⌝ }
+fn put_places(out: &mut [u8], path: [u16; WRITTEN_PLACES])
+    requires { ⌜ length (now out) ≡ 2 * writtenPlaces ⌝ }
+    ensures { λ _. ⌜ now (out .exit) ≡ pathBytes writtenPlaces path ⌝ }
 {
-    out[0] = (x % 256) as u8;
-    out[1] = (x / 256 % 256) as u8;
-}
-
-fn put_three(out: &mut [u8], x: u32)
-    requires { ⌜ length (now out) ≡ 3 ⌝ }
-    ensures { λ _. ⌜ now (out .exit) ≡ littleEndian 3 x ⌝ }
-{
-    out[0] = (x % 256) as u8;
-    out[1] = (x / 256 % 256) as u8;
-    out[2] = (x / 256 / 256 % 256) as u8;
+    let mut j = 0;
+    while j < WRITTEN_PLACES {
+        put_two(out, 2 * j, path[j]);
+        j += 1;
+    }
 }
 
 // Writes a record at the front of the part of the log that it is lent.
@@ -67,14 +72,12 @@ pub fn write_record(out: &mut [u8], e: Entry)
 {
     let b = e.before;
     let a = e.after;
-    put_key(&mut out[0..9], e.letter, b, a);
-    put_two(&mut out[9..11], e.round);
-    put_two(&mut out[11..13], e.rule);
-    put_two(&mut out[13..15], e.p0);
-    put_two(&mut out[15..17], e.p1);
-    put_two(&mut out[17..19], e.p2);
-    put_two(&mut out[19..21], e.p3);
-    put_three(&mut out[21..24], e.steps);
+    let path = e.path;
+    put_key(&mut out[0..ROUND], e.letter, b, a);
+    put_two(out, ROUND, e.round);
+    put_two(out, RULE, e.rule);
+    put_places(&mut out[PATH..STEPS], path);
+    put_three(out, STEPS, e.steps);
 }
 
 // Writes record n.
@@ -84,32 +87,6 @@ pub fn put_record(log: &mut [u8], n: usize, e: Entry)
 {
     let at = n * RECORD_LENGTH;
     write_record(&mut log[at..], e);
-}
-
-fn as_u16(x: u8) -> u16
-    ensures { λ r. ⌜ (r ≡ x) × (r < 256) ⌝ }
-{
-    x as u16
-}
-
-fn as_u32(x: u8) -> u32
-    ensures { λ r. ⌜ (r ≡ x) × (r < 256) ⌝ }
-{
-    x as u32
-}
-
-fn two_at(s: &[u8], i: usize) -> u16
-    requires { ⌜ i + 2 ≤ length (now s) ⌝ }
-    ensures { λ r. ⌜ r ≡ numberAt 2 (now (s .entry)) i ⌝ }
-{
-    as_u16(s[i]) + 256 * as_u16(s[i + 1])
-}
-
-fn three_at(s: &[u8], i: usize) -> u32
-    requires { ⌜ i + 3 ≤ length (now s) ⌝ }
-    ensures { λ r. ⌜ r ≡ numberAt 3 (now (s .entry)) i ⌝ }
-{
-    as_u32(s[i]) + 256 * (as_u32(s[i + 1]) + 256 * as_u32(s[i + 2]))
 }
 
 fn group_at(s: &[u8], i: usize) -> Group
@@ -135,28 +112,28 @@ pub fn before_at(log: &[u8], n: usize) -> Group
     requires { ⌜ HasRecord (now log) n ⌝ }
     ensures { λ r. ⌜ r ≡ beforeAt (now (log .entry)) n ⌝ }
 {
-    group_at(log, n * RECORD_LENGTH + 1)
+    group_at(log, n * RECORD_LENGTH + BEFORE)
 }
 
 pub fn after_at(log: &[u8], n: usize) -> Group
     requires { ⌜ HasRecord (now log) n ⌝ }
     ensures { λ r. ⌜ r ≡ afterAt (now (log .entry)) n ⌝ }
 {
-    group_at(log, n * RECORD_LENGTH + 5)
+    group_at(log, n * RECORD_LENGTH + AFTER)
 }
 
 pub fn round_at(log: &[u8], n: usize) -> u16
     requires { ⌜ HasRecord (now log) n ⌝ }
     ensures { λ r. ⌜ r ≡ roundAt (now (log .entry)) n ⌝ }
 {
-    two_at(log, n * RECORD_LENGTH + 9)
+    two_at(log, n * RECORD_LENGTH + ROUND)
 }
 
 pub fn rule_at(log: &[u8], n: usize) -> u16
     requires { ⌜ HasRecord (now log) n ⌝ }
     ensures { λ r. ⌜ r ≡ ruleAt (now (log .entry)) n ⌝ }
 {
-    two_at(log, n * RECORD_LENGTH + 11)
+    two_at(log, n * RECORD_LENGTH + RULE)
 }
 
 // Path place j.
@@ -164,12 +141,12 @@ pub fn place_at(log: &[u8], n: usize, j: usize) -> u16
     requires { ⌜ HasRecord (now log) n × (j < writtenPlaces) ⌝ }
     ensures { λ r. ⌜ r ≡ placeAt (now (log .entry)) n j ⌝ }
 {
-    two_at(log, n * RECORD_LENGTH + (13 + 2 * j))
+    two_at(log, n * RECORD_LENGTH + (PATH + 2 * j))
 }
 
 pub fn steps_at(log: &[u8], n: usize) -> u32
     requires { ⌜ HasRecord (now log) n ⌝ }
     ensures { λ r. ⌜ r ≡ stepsAt (now (log .entry)) n ⌝ }
 {
-    three_at(log, n * RECORD_LENGTH + STEPS_OFFSET)
+    three_at(log, n * RECORD_LENGTH + STEPS)
 }

@@ -23,7 +23,7 @@ use Rattle.automaton.specs.StateNumbers.{stateCount, stateNumber}
 use Rattle.records.specs.Entries.{HasRecord, entryBytes, pathPlace, recordEntry, withEntry}
 use Rattle.search.specs.Jobs.{Arrived, Searchable, Standing, StepsKnown, Writable, glances, jobEntry, made, marked, marksOf, placeIn, placeList, placeNumbers, placeSteps, stepsOf, tailOf, visitIn, written}
 use Rattle.automaton.proofs.StateNumbers.{stateNumber-below}
-use Rattle.records.proofs.Entries.{length-with}
+use Rattle.records.proofs.Entries.{length-with, padded-is}
 use Rattle.search.proofs.Searching.{glances-at}
 use Rattle.search.proofs.Visits.{offer-parts}
 
@@ -128,10 +128,7 @@ module _ (job : Job) (g : Group) (p : Places) (log : List ℕ) (few : job .count
   pub entry-is : recordEntry (addedRecord (job .round) (glances log (job .base)) (made job (placeNumbers p (job .count)) g)) ≡ jobEntry job (restrict (processesOf (job .bits)) g) p (placeSteps log p)
   unfolding recordEntry
   entry-is =
-      let q0 = place-is 0 (omega arith) in
-      let q1 = place-is 1 (omega arith) in
-      let q2 = place-is 2 (omega arith) in
-      let q3 = place-is 3 (omega arith) in
+      let path = padded-is (placeNumbers p (job .count)) (placeList p) place-is in
       let qs = steps-sum in
       λ i. record {
         letter = job .letter;
@@ -139,10 +136,7 @@ module _ (job : Job) (g : Group) (p : Places) (log : List ℕ) (few : job .count
         after = restrict (processesOf (job .bits)) g;
         round = job .round;
         rule = job .rule;
-        p0 = q0 i;
-        p1 = q1 i;
-        p2 = q2 i;
-        p3 = q3 i;
+        path = path i;
         steps = qs i;
       }
 

@@ -16,9 +16,10 @@ use Rattle.search.specs.declared.Job.{Job}
 use Rattle.automaton.specs.StateNumbers.{stateCount}
 use Rattle.automaton.specs.StateSets.{firstFrom}
 use Rattle.chains.specs.Buckets.{Chained}
-use Rattle.chains.specs.WordBytes.{wordAt}
+use Rattle.model.specs.Records.{numberAt}
 use Rattle.search.specs.Jobs.{FinishedRight, Searchable, chainsAt, finishedEnd, glances, marksOf, placeIn, placesAt, tailOf}
 use Rattle.search.specs.Visits.{fromMark}
+use Rattle.numbers.proofs.NumberBytes.{number-same}
 use Rattle.chains.proofs.Buckets.{chained-log, chained-scratch}
 use Rattle.search.proofs.Searching.{after-same, before-same, glances-same, letter-same}
 
@@ -28,12 +29,11 @@ first-cong f g n zero e = refl
 first-cong f g n (suc k) e = rw (e n (le-refl n) (omega arith)) (ap (cond (g n) n) (first-cong f g (suc n) k (λ i l h. e i (omega arith) (omega arith))))
 
 module _ (log log′ s s′ : List ℕ) (base : ℕ) (earlier : take (base * recordLength) log′ ≡ take (base * recordLength) log) (outside : (i : ℕ) → finishedEnd ≤ i → getD s′ i 0 ≡ getD s i 0) where
-  pub word-same : (i : ℕ) → finishedEnd ≤ i → wordAt s′ i ≡ wordAt s i
-  unfolding wordAt
-  word-same i h = ap₂ (λ (a b : ℕ). a + 256 * (b + 256 * 0)) (outside i h) (outside (suc i) (omega arith))
+  pub outside-number : (i : ℕ) → finishedEnd ≤ i → numberAt 2 s′ i ≡ numberAt 2 s i
+  outside-number i h = number-same 2 s s′ i (λ m p q. outside m (omega arith))
 
   pub place-same : placeIn s′ ≡ placeIn s
-  place-same = λ i x. word-same (placesAt + 2 * x) (omega arith) i
+  place-same = λ i x. outside-number (placesAt + 2 * x) (omega arith) i
 
   pub chained-kept : (n : ℕ) → base ≤ n → Chained log base n chainsAt s → Chained log′ base n chainsAt s′
   chained-kept n h c = chained-log log log′ base n chainsAt s′ (letter-same log log′ base earlier) (before-same log log′ base earlier)
@@ -54,7 +54,7 @@ searchable-kept job log s log′ s′ r kept earlier ll ls outside f = record {
   places = λ y x h e.
       let room : placeIn s x * recordLength + recordLength ≤ length (tailOf log (job .base)) = r .places y x h (was-new y x h e) in
       let lens : length (tailOf log′ (job .base)) ≡ length (tailOf log (job .base)) = length-drop (job .base * recordLength) log′ ∙ ap (λ (n : ℕ). n - job .base * recordLength) ll ∙ sym (length-drop (job .base * recordLength) log) in
-      let same : placeIn s′ x ≡ placeIn s x = word-same log log′ s s′ (job .base) earlier outside (placesAt + 2 * x) (omega arith) in
+      let same : placeIn s′ x ≡ placeIn s x = outside-number log log′ s s′ (job .base) earlier outside (placesAt + 2 * x) (omega arith) in
       omega arith;
   finished = rw (glances-same log log′ (job .base) earlier) f;
 }

@@ -53,6 +53,7 @@ module _ (log log′ : List ℕ) (size : ℕ) (same : take size log′ ≡ take 
       λ k. record { s0 = e0 k; s1 = e1 k; s2 = e2 k; s3 = e3 k }
 
   number-same : (k i : ℕ) → i + k ≤ size → numberAt k log′ i ≡ numberAt k log i
+  unfolding numberAt
   number-same zero i h = refl
   number-same (suc k) i h = ap₂ (λ (a b : ℕ). a + 256 * b) (byte-same i (omega arith)) (number-same k (suc i) (omega arith))
 

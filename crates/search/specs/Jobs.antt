@@ -16,7 +16,7 @@ use Rattle.automaton.specs.StateNumbers.{stateCount, stateNumber, Over}
 use Rattle.automaton.specs.StateSets.{member, inserted}
 use Rattle.records.specs.declared.Entry.{Entry}
 use Rattle.records.specs.Entries.{HasRecord, withEntry}
-use Rattle.chains.specs.WordBytes.{wordAt}
+use Rattle.model.specs.Records.{numberAt}
 use Rattle.chains.specs.Buckets.{ChainRoom, Chained}
 use Rattle.search.specs.declared.Job.{Job}
 use Rattle.search.specs.declared.Places.{Places}
@@ -90,7 +90,7 @@ marksOf s = take stateCount s
 
 -- the number, among the new records, of the record of an end
 abbrev pub placeIn : List ℕ → ℕ → ℕ
-placeIn s x = wordAt s (placesAt + 2 * x)
+placeIn s x = numberAt 2 s (placesAt + 2 * x)
 
 abbrev pub isFinished : List ℕ → ℕ → ℕ → Bool
 isFinished s level m = member (take (finishedEnd - finishedAt) (drop finishedAt s)) (level * stateCount + m)
@@ -171,10 +171,7 @@ jobEntry job after p steps = record {
   after = after;
   round = job .round;
   rule = job .rule;
-  p0 = p .p0;
-  p1 = p .p1;
-  p2 = p .p2;
-  p3 = p .p3;
+  path = placeList p;
   steps = steps;
 }
 

@@ -4,9 +4,9 @@ use automaton::sets;
 use automaton::states;
 use chains::first_match;
 use chains::next_match;
-use chains::words::wide;
-use chains::words::word_at;
 use model::Group;
+use numbers::two_at;
+use numbers::wide_two;
 use records::Entry;
 ghost use mathlib.Core.Path.{_≡_};
 ghost use mathlib.Core.Bool.{true};
@@ -146,7 +146,7 @@ fn steps_of(log: &[u8], x: u16) -> u32
     if x == 65535 {
         return 0;
     }
-    capped(records::steps_at(log, wide(x)))
+    capped(records::steps_at(log, wide_two(x)))
 }
 
 // One more than the steps of the path's records, capped.
@@ -179,7 +179,7 @@ fn write_end(log: &mut [u8], scratch: &mut [u8], job: Job, after: Group, x: usiz
     if scratch[x] != 2 {
         return;
     }
-    let place = wide(word_at(scratch, PLACES + 2 * x));
+    let place = wide_two(two_at(scratch, PLACES + 2 * x));
     let before = job.before;
     let e = Entry {
         letter: job.letter,
@@ -187,10 +187,7 @@ fn write_end(log: &mut [u8], scratch: &mut [u8], job: Job, after: Group, x: usiz
         after,
         round: job.round,
         rule: job.rule,
-        p0: p.p0,
-        p1: p.p1,
-        p2: p.p2,
-        p3: p.p3,
+        path: [p.p0, p.p1, p.p2, p.p3],
         steps: path_steps(log, p),
     };
     records::put_record(log, job.base + place, e);

@@ -1,25 +1,26 @@
 // The stack of record numbers in scratch.
-use chains::words::put_word;
-use chains::words::wide;
-use chains::words::word_at;
+use numbers::put_two;
+use numbers::two_at;
+use numbers::wide_two;
 ghost use mathlib.Core.Path.{_≡_};
 ghost use Prim.Native.Nat.{_+_, _≤_};
 ghost use lib.ListN.{length};
-ghost use Rattle.chains.specs.WordBytes.{wordAt, withWord};
+ghost use Rattle.model.specs.Records.{numberAt};
+ghost use Rattle.numbers.specs.NumberBytes.{withNumber};
 ghost use Rattle.stack.specs.StackNumbers.{stackPlace};
 
 const STACK_BASE: usize = 33872;
 
 pub fn number_at(scratch: &[u8], k: usize) -> usize
     requires { ⌜ stackPlace k + 2 ≤ length (now scratch) ⌝ }
-    ensures { λ r. ⌜ r ≡ wordAt (now (scratch .entry)) (stackPlace k) ⌝ }
+    ensures { λ r. ⌜ r ≡ numberAt 2 (now (scratch .entry)) (stackPlace k) ⌝ }
 {
-    wide(word_at(scratch, STACK_BASE + 2 * k))
+    wide_two(two_at(scratch, STACK_BASE + 2 * k))
 }
 
 pub fn put_number(scratch: &mut [u8], k: usize, x: u16)
     requires { ⌜ stackPlace k + 2 ≤ length (now scratch) ⌝ }
-    ensures { λ _. ⌜ now (scratch .exit) ≡ withWord (now (scratch .entry)) (stackPlace k) x ⌝ }
+    ensures { λ _. ⌜ now (scratch .exit) ≡ withNumber 2 (now (scratch .entry)) (stackPlace k) x ⌝ }
 {
-    put_word(scratch, STACK_BASE + 2 * k, x);
+    put_two(scratch, STACK_BASE + 2 * k, x);
 }

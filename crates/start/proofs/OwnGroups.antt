@@ -9,8 +9,8 @@ use Rattle.model.specs.declared.Group.{Group}
 use Rattle.model.specs.Groups.{Process, Processes, p0, p1, p2, p3, at, has, restrict, merge}
 use Rattle.model.proofs.Groups.{ext, at-merge, at-restrict}
 use Rattle.model.proofs.Tests.{by-test, cond-less}
-use Rattle.model.specs.Records.{recordLength, groupAt, afterAt}
-use Rattle.packs.specs.Packs.{packed, Bytes, maskOf, mergedBits, packAt, packNumber}
+use Rattle.model.specs.Records.{recordLength, groupAt, afterAt, numberAt}
+use Rattle.packs.specs.Packs.{packed, Bytes, maskOf, mergedBits, packNumber}
 use Rattle.packs.proofs.Packs.{merge-bits, pack-group, pack-number}
 use Rattle.automaton.specs.StateNumbers.{stateCount, stateNumber, digit, groupNumbered}
 use Rattle.automaton.proofs.StateNumbers.{stateNumber-below, digit-number, digits-number, at-numbered}
@@ -66,7 +66,7 @@ numbered-own L g h = ext (λ i. at-numbered L (ownNumber L g) i ∙ by-test (has
     (λ n. rw (at-restrict L g i, n)))
 
 -- the own number after a record, from its bytes
-pub own-packed : (L : Processes) (log : List ℕ) (r : ℕ) → ((m : ℕ) → getD log m 0 < 256) → packNumber (mergedBits (maskOf L) (packAt log (r * recordLength + 5)) 0) ≡ ownNumber L (afterAt log r)
+pub own-packed : (L : Processes) (log : List ℕ) (r : ℕ) → ((m : ℕ) → getD log m 0 < 256) → packNumber (mergedBits (maskOf L) (numberAt 4 log (r * recordLength + 5)) 0) ≡ ownNumber L (afterAt log r)
 unfolding ownNumber afterAt groupAt packed
 own-packed L log r bytes =
     let g = groupAt log (r * recordLength + 5) in

@@ -1,6 +1,7 @@
 -- Laws of the path from the start: at each letter the lowest record that leads on is the path's next record.
 use mathlib.Core.Path.{_≡_, refl, ap, ap₂, sym, subst, _∙_}
 use mathlib.Core.Bool.{Bool, true, false, cond, _&&_, true≢false}
+use mathlib.Core.Logic.{inl, inr}
 use mathlib.Core.Option.{Option, Option·map, none, some}
 use mathlib.Core.List.{List, [], _∷_, _++_, append-nil}
 use Prim.Native.Nat.{ℕ, zero, suc, _+_, _-_, _<_, _≤_, min}
@@ -24,8 +25,8 @@ use Rattle.model.proofs.Tests.{and-left, and-right}
 use Rattle.automaton.specs.StateNumbers.{Over}
 use Rattle.automaton.proofs.StateSets.{First, first-at}
 use Rattle.model.specs.Records.{afterAt}
-use Rattle.chains.specs.WordBytes.{withWord}
-use Rattle.chains.proofs.WordBytes.{length-word, byte-other}
+use Rattle.numbers.specs.NumberBytes.{withNumber}
+use Rattle.numbers.proofs.NumberBytes.{byte-kept, length-number}
 use Rattle.table.specs.declared.Table.{Table}
 use Rattle.table.specs.Reading.{systemIn, pileIn}
 use Rattle.stack.specs.StackNumbers.{stackBase, stackPlace, numbersDown, stackOf}
@@ -141,11 +142,11 @@ tracing-start table t s c e z over good = record {
   figure = z;
 }
 
-word-only : (s : List ℕ) (at x : ℕ) → stackBase ≤ at → at + 2 ≤ chainsPlace → SameBut stackBase chainsPlace s (withWord s at x)
+word-only : (s : List ℕ) (at x : ℕ) → stackBase ≤ at → at + 2 ≤ chainsPlace → SameBut stackBase chainsPlace s (withNumber 2 s at x)
 word-only s at x h l = record {
-  size = length-word s at x;
-  before = λ i b. byte-other s at x i (λ e. omega arith) (λ e. omega arith);
-  behind = λ i b. byte-other s at x i (λ e. omega arith) (λ e. omega arith);
+  size = length-number 2 s at x;
+  before = λ i b. byte-kept 2 s at x i (inl (omega arith));
+  behind = λ i b. byte-kept 2 s at x i (inr (omega arith));
 }
 
 pub tracing-turn : {table : List ℕ} {t : Table} {s s′ s″ : List ℕ} {i : ℕ} {c d : Trace} → t .pile ≤ 64 → chainsPlace ≤ length s → i < t .pile → Tracing table t s i s′ c → Advanced table t i c s′ s″ d

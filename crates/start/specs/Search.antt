@@ -10,7 +10,7 @@ use Rattle.model.specs.Log.{Record, Path, push, recordAt, stepsCap, limit}
 use Rattle.model.specs.Unfolding.{acceptingPath, pathSteps}
 use Rattle.model.specs.Calls.{startPath}
 use Rattle.automaton.specs.StateNumbers.{Over}
-use Rattle.chains.specs.WordBytes.{withWord}
+use Rattle.numbers.specs.NumberBytes.{withNumber}
 use Rattle.table.specs.declared.Table.{Table}
 use Rattle.table.specs.Reading.{systemIn}
 use Rattle.stack.specs.StackNumbers.{stackPlace, stackOf}
@@ -35,7 +35,7 @@ pub record Advanced (table : List ℕ) (t : Table) (k : ℕ) (c : Trace) (s s′
   pub small : number < 65536
   pub first : pathFrom table k (c .state) ≡ Option·map (push number) (pathFrom table (k + 1) (d .state))
   pub on-path : OnPath table t (k + 1) d
-  pub written : s′ ≡ withWord s (stackPlace (t .pile - 1 - k)) number
+  pub written : s′ ≡ withNumber 2 s (stackPlace (t .pile - 1 - k)) number
   pub steps : d .steps ≡ min (c .steps + recordAt (limit (systemIn table)) number .steps) stepsCap
 
 -- the start's path is on the stack, and these are its steps

@@ -10,8 +10,8 @@ use automaton::states::numbered;
 use chains::first_match;
 use chains::next_match;
 use model::Group;
+use numbers::four_at;
 use packs::mask_of;
-use packs::pack_at;
 use records::RECORD_LENGTH;
 use table::Table;
 use table::local_states;
@@ -78,7 +78,7 @@ fn own_after(log: &[u8], r: usize, mask: u32) -> usize
     requires { ⌜ HasRecord (now log) r ⌝ }
     ensures { λ y. ⌜ OwnAfter (now (log .entry)) r mask y ⌝ }
 {
-    packs::number(packs::merged(mask, pack_at(log, r * RECORD_LENGTH + 5), 0))
+    packs::number(packs::merged(mask, four_at(log, r * RECORD_LENGTH + 5), 0))
 }
 
 // Puts the states whose own number is x, and from which a record of the letter leads into set k + 1, into set k. Once all of them are in, the other

@@ -10,11 +10,11 @@ ghost use Rattle.model.specs.Groups.{every, at, has, processesOf};
 ghost use Rattle.model.specs.Tables.{writtenPlaces, bodyLength, byteOf, groupOf, absent, present, locOf, ruleOf, transitionOf, groupFits, transitionFits, writtenFit, valueFits, cooperates, leavesControl};
 ghost use Rattle.table.specs.Places.{processesIn, lettersIn, boundIn, Heads, Whole};
 use crate::Table;
-use crate::fields::WRITTEN_PLACES;
 use crate::fields::group_at;
 use crate::fields::letters_at;
-use crate::fields::wide;
 use model::Group;
+use model::WRITTEN_PLACES;
+use numbers::wide;
 
 // ---- processes and letters of the table
 // The bound of a process's states, of the control states (field 0) or of all (field 1); 256 where the table lacks the process.

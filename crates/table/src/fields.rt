@@ -9,20 +9,13 @@ use crate::Table;
 use crate::checks::bits_of;
 use crate::checks::bound_of;
 use model::Group;
+use model::WRITTEN_PLACES;
+use numbers::wide;
 
-// The places for written letters in a rule, the bytes of a rule's body, and those of a whole rule.
-pub const WRITTEN_PLACES: usize = 4;
-
+// The bytes of a rule's body, and those of a whole rule.
 pub const RULE_BODY: usize = 10 + WRITTEN_PLACES;
 
 pub const RULE_ITEM: usize = 1 + RULE_BODY;
-
-// A byte as an index or a count.
-pub fn wide(x: u8) -> usize
-    ensures { λ r. ⌜ (r ≡ x) × (r < 256) ⌝ }
-{
-    x as usize
-}
 
 // The group in the four bytes from `at` on.
 pub fn group_at(body: &[u8], at: usize) -> Group

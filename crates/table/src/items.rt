@@ -16,7 +16,7 @@ use crate::checks::value_fits;
 use crate::fields::RULE_BODY;
 use crate::fields::RULE_ITEM;
 use crate::fields::body_at;
-use crate::fields::wide;
+use numbers::wide;
 
 // ---- kinds
 // How many bytes follow the kind.

@@ -24,7 +24,6 @@ pub use fields::start_group;
 pub use fields::transition_after;
 pub use fields::transition_before;
 pub use fields::transition_letter;
-pub use fields::wide;
 pub use fields::written_count;
 pub use fields::written_letter;
 

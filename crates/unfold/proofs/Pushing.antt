@@ -12,8 +12,8 @@ use Rattle.model.specs.Log.{noNumber}
 use Rattle.model.proofs.Lists.{each-get, getD-mem}
 use Rattle.model.specs.Records.{placeAt}
 use Rattle.records.specs.Entries.{pathPlace}
-use Rattle.chains.specs.WordBytes.{withWord}
-use Rattle.chains.proofs.WordBytes.{length-word}
+use Rattle.numbers.specs.NumberBytes.{withNumber}
+use Rattle.numbers.proofs.NumberBytes.{length-number}
 use Rattle.stack.specs.StackNumbers.{stackBase, stackPlace, stackOf}
 use Rattle.stack.proofs.Numbers.{length-down, stack-push}
 use Rattle.unfold.specs.Turns.{placed, placesFrom, places, StackRoom, Pushed}
@@ -40,9 +40,9 @@ pub pushed-none : (s : List ℕ) (top place : ℕ) → place ≡ noNumber → Pu
 pushed-none s top place e = record { size = refl; stack = sym (ap (λ (l : List ℕ). l ++ stackOf s top) (placed-none place [] e)) }
 
 pub pushed-some : (s : List ℕ) (top place : ℕ) → (place ≡ noNumber → ⊥) → place < 65536 → stackPlace top + 2 ≤ length s
-    → Pushed s top (placed place []) (withWord s (stackPlace top) place) (top + 1)
+    → Pushed s top (placed place []) (withNumber 2 s (stackPlace top) place) (top + 1)
 pushed-some s top place n f h = record {
-  size = length-word s (stackPlace top) place;
+  size = length-number 2 s (stackPlace top) place;
   stack = stack-push s top place h f ∙ sym (ap (λ (l : List ℕ). l ++ stackOf s top) (placed-some place [] n));
 }
 

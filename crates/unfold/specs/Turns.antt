@@ -11,7 +11,7 @@ use Rattle.model.specs.Records.{roundAt, ruleAt, placeAt}
 use Rattle.records.specs.Entries.{HasRecord}
 use Rattle.table.specs.declared.Table.{Table}
 use Rattle.table.specs.Reading.{Holds, ruleIn}
-use Rattle.chains.specs.WordBytes.{wordAt}
+use Rattle.model.specs.Records.{numberAt}
 use Rattle.stack.specs.StackNumbers.{stackPlace, stackOf}
 use Rattle.unfold.specs.declared.Work.{Work}
 
@@ -54,7 +54,7 @@ pub record Replaced (table log s page : List ℕ) (w : Work) (x : ℕ) (s′ pag
 
 -- the record on top
 abbrev pub topRecord : List ℕ → Work → ℕ
-topRecord s w = wordAt s (stackPlace (w .top - 1))
+topRecord s w = numberAt 2 s (stackPlace (w .top - 1))
 
 -- a turn is possible, and what it leaves
 pub record Workable (table : List ℕ) (t : Table) (log s page : List ℕ) (w : Work) : Type 0 where

@@ -1,6 +1,7 @@
 // The unfolding of a path of the limit into a run, with a stack of record numbers in scratch: the record on top goes; unless it is of round 0,
 // its rule is written to the page, and its path takes its place.
-use chains::words::wide;
+use model::WRITTEN_PLACES;
+use numbers::wide_two;
 use records::place_at;
 use records::round_at;
 use records::rule_at;
@@ -20,8 +21,6 @@ ghost use Rattle.unfold.specs.Runs.{Unfoldable, Unfolded};
 ghost use Rattle.unfold.specs.Turns.{placed, places, StackRoom, Pushed, Replaceable, Replaced, Workable, Worked};
 
 const NO_NUMBER: u16 = 65535;
-
-const WRITTEN_PLACES: usize = 4;
 
 // The height of the stack; of the run so far its rules, the length of the word after it, and the greatest length.
 pub struct Work {
@@ -80,7 +79,7 @@ fn replace(
     let rules = w.rules;
     page[rules] = rule;
     let top = push_path(log, scratch, w.top - 1, x);
-    let length = w.length + written_count(table, t, wide(rule)) - 1;
+    let length = w.length + written_count(table, t, wide_two(rule)) - 1;
     Work {
         top,
         rules: rules + 1,

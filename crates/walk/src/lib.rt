@@ -5,6 +5,7 @@ use firing::Firing;
 use firing::Placed;
 use firing::fire;
 use model::Walked;
+use numbers::wide_two;
 use shapes::move_front;
 use table::Parsed;
 use table::Table;
@@ -38,12 +39,6 @@ pub struct Stop {
 pub struct Halted {
     pub answer: Walked,
     pub from: usize,
-}
-
-fn wide(x: u16) -> usize
-    ensures { λ r. ⌜ r ≡ x ⌝ }
-{
-    x as usize
 }
 
 // ---- the start
@@ -103,7 +98,7 @@ fn take_steps(table: &[u8], t: Table, list: &[u16], pile: &mut [u8], start: Plac
     let mut c = start;
     let mut k = 0;
     while k < list.len() {
-        match take_step(table, t, wide(list[k]), pile, c) {
+        match take_step(table, t, wide_two(list[k]), pile, c) {
             Taken::Refused(number) => {
                 return Stop {
                     number,

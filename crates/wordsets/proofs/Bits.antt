@@ -1,20 +1,23 @@
 -- Bits of numbers and of lists of bytes.
 use mathlib.Core.Path.{_≡_, refl, ap, ap₂, sym, subst, _∙_}
 use mathlib.Core.Bool.{Bool, false, _&&_, _||_}
-use mathlib.Core.List.{List, [], _∷_}
+use mathlib.Core.Logic.{inl}
+use mathlib.Core.List.{List}
 use Prim.Native.Nat.{ℕ, zero, suc, _+_, _-_, _*_, _/_, _%_, _^_, _<_, _≤_, min, max}
 use native.Mathlib.Nat.{mul-assoc, mul-mod-left, zero-div}
-use native.Mathlib.Decide.{ℕ-discrete, decLt}
+use native.Mathlib.Decide.{decLt}
 use native.Mathlib.Omega.{arith}
 use lib.Bits.{bitAnd, bitOr, or-shr, or-step, and-shr, and-step}
 use lib.Pow.{pow-add, shl-shr, shr-shr, field, mod-mod-pow}
 use lib.Dec.{eqb, leb}
-use lib.ListN.{length, getD, set, length-set, List·getD-eq-default}
-use lib.Seq.{sets, length-sets, getD-set-same, getD-set-other}
+use lib.ListN.{length, getD, set, length-set}
+use lib.Seq.{getD-set-same}
 use borrow.Author.Tests.{eqb-true, eqb-false, le-leb, lt-leb}
-use Rattle.model.specs.Records.{littleEndian, numberAt}
+use Rattle.model.specs.Records.{numberAt}
+use Rattle.numbers.specs.NumberBytes.{withNumber}
+use Rattle.numbers.proofs.NumberBytes.{AllBytes, byte-kept, with-suc}
 use Rattle.model.proofs.Tests.{by-test}
-use Rattle.wordsets.specs.WordSets.{hasBit, inSet, eightAt, withEight, wordSum}
+use Rattle.wordsets.specs.WordSets.{hasBit, inSet, wordSum}
 
 -- ---- one number
 bit-is : (x j y k : ℕ) → x / 2 ^ j % 2 ≡ y / 2 ^ k % 2 → hasBit x j ≡ hasBit y k
@@ -118,7 +121,8 @@ in-first s i j h =
     rw (a, b)
 
 -- the bits of k bytes are those of their number
-number-bit : (k : ℕ) (s : List ℕ) (i j : ℕ) → ((m : ℕ) → getD s m 0 < 256) → j < 8 * k → hasBit (numberAt k s i) j ≡ inSet s i j
+pub number-bit : (k : ℕ) (s : List ℕ) (i j : ℕ) → AllBytes s → j < 8 * k → hasBit (numberAt k s i) j ≡ inSet s i j
+unfolding numberAt
 number-bit zero s i j f h = absurd (omega arith)
 number-bit (suc k) s i j f h = elim (decLt j 8) [
   | yes l ↦ bit-low (getD s i 0) (numberAt k s (suc i)) j (f i) l ∙ sym (in-first s i j l)
@@ -128,43 +132,19 @@ number-bit (suc k) s i j f h = elim (decLt j 8) [
       (bit-high (getD s i 0) (numberAt k s (suc i)) (j - 8) (f i) ∙ number-bit k s (suc i) (j - 8) f (omega arith) ∙ in-next s i (j - 8))
 ]
 
-pub eight-bit : (s : List ℕ) (i j : ℕ) → ((m : ℕ) → getD s m 0 < 256) → j < 64 → hasBit (eightAt s i) j ≡ inSet s i j
-unfolding eightAt
-eight-bit s i j f h = number-bit 8 s i j f h
-
 -- ---- bytes written
-sets-before : (vs l : List ℕ) (i j : ℕ) → j < i → getD (sets l i vs) j 0 ≡ getD l j 0
-sets-before [] l i j h = refl
-sets-before (v ∷ vs) l i j h = sets-before vs (set l i v) (suc i) j (omega arith) ∙ getD-set-other l i j v 0 (λ e. omega arith)
-
-sets-behind : (vs l : List ℕ) (i j : ℕ) → i + length vs ≤ j → getD (sets l i vs) j 0 ≡ getD l j 0
-sets-behind [] l i j h = refl
-sets-behind (v ∷ vs) l i j h = sets-behind vs (set l i v) (suc i) j (omega arith) ∙ getD-set-other l i j v 0 (λ e. omega arith)
-
-number-written : (k : ℕ) (s : List ℕ) (i x j : ℕ) → i + k ≤ length s → j < 8 * k → inSet (sets s i (littleEndian k x)) i j ≡ hasBit x j
-number-written zero s i x j r h = absurd (omega arith)
-number-written (suc k) s i x j r h = elim (decLt j 8) [
-  | yes l ↦ in-first (sets (set s i (x % 256)) (suc i) (littleEndian k (x / 256))) i j l
-      ∙ ap (λ (n : ℕ). hasBit n j) (sets-before (littleEndian k (x / 256)) (set s i (x % 256)) (suc i) i (omega arith) ∙ getD-set-same s i (x % 256) 0 (omega arith))
+pub written-bit : (k : ℕ) (s : List ℕ) (i x j : ℕ) → i + k ≤ length s → j < 8 * k → inSet (withNumber k s i x) i j ≡ hasBit x j
+written-bit zero s i x j r h = absurd (omega arith)
+written-bit (suc k) s i x j r h = elim (decLt j 8) [
+  | yes l ↦ in-first (withNumber (suc k) s i x) i j l
+      ∙ ap (λ (n : ℕ). hasBit n j) (ap (λ (t : List ℕ). getD t i 0) (with-suc k s i x) ∙ byte-kept k (set s i (x % 256)) (suc i) (x / 256) i (inl (omega arith)) ∙ getD-set-same s i (x % 256) 0 (omega arith))
       ∙ bit-mod x 8 j l
   | no l ↦
       let e : 8 + (j - 8) ≡ j = omega arith in
-      let t = sets (set s i (x % 256)) (suc i) (littleEndian k (x / 256)) in
-      subst (λ (n : ℕ). inSet t i n ≡ hasBit x n) e
-      (sym (in-next t i (j - 8)) ∙ number-written k (set s i (x % 256)) (suc i) (x / 256) (j - 8) (omega (arith, length-set s i (x % 256))) (omega arith) ∙ bit-shr x 8 (j - 8))
+      let t = withNumber k (set s i (x % 256)) (suc i) (x / 256) in
+      subst (λ (n : ℕ). inSet (withNumber (suc k) s i x) i n ≡ hasBit x n) e
+      (ap (λ (u : List ℕ). inSet u i (8 + (j - 8))) (with-suc k s i x) ∙ sym (in-next t i (j - 8)) ∙ written-bit k (set s i (x % 256)) (suc i) (x / 256) (j - 8) (omega (arith, length-set s i (x % 256))) (omega arith) ∙ bit-shr x 8 (j - 8))
 ]
-
-pub eight-written : (s : List ℕ) (i x j : ℕ) → i + 8 ≤ length s → j < 64 → inSet (withEight s i x) i j ≡ hasBit x j
-unfolding withEight
-eight-written s i x j r h = number-written 8 s i x j r h
-
-pub eight-before : (s : List ℕ) (i x j : ℕ) → j < i → getD (withEight s i x) j 0 ≡ getD s j 0
-unfolding withEight
-eight-before s i x j h = sets-before (littleEndian 8 x) s i j h
-
-pub eight-behind : (s : List ℕ) (i x j : ℕ) → i + 8 ≤ j → getD (withEight s i x) j 0 ≡ getD s j 0
-unfolding withEight
-eight-behind s i x j h = sets-behind (littleEndian 8 x) s i j h
 
 -- ---- one word more
 pub sum-bit : (f t after before rest j : ℕ) → j < 64
@@ -177,38 +157,13 @@ sum-bit f t after before rest j h =
     ∙ ap (λ (b : Bool). b && hasBit rest (j - before)) (bit-shr f after (j - before))))
 
 -- ---- no bits above
-number-none : (k : ℕ) (s : List ℕ) (i j : ℕ) → ((m : ℕ) → getD s m 0 < 256) → 8 * k ≤ j → hasBit (numberAt k s i) j ≡ false
+pub number-none : (k : ℕ) (s : List ℕ) (i j : ℕ) → AllBytes s → 8 * k ≤ j → hasBit (numberAt k s i) j ≡ false
+unfolding numberAt
 number-none zero s i j f h = bit-zero 0 j (ap (λ (n : ℕ). n % 2) (zero-div (2 ^ j)))
 number-none (suc k) s i j f h =
     let e : 8 + (j - 8) ≡ j = omega arith in
     subst (λ (n : ℕ). hasBit (getD s i 0 + 256 * numberAt k s (suc i)) n ≡ false) e
     (bit-high (getD s i 0) (numberAt k s (suc i)) (j - 8) (f i) ∙ number-none k s (suc i) (j - 8) f (omega arith))
-
-pub eight-none : (s : List ℕ) (i j : ℕ) → ((m : ℕ) → getD s m 0 < 256) → 64 ≤ j → hasBit (eightAt s i) j ≡ false
-unfolding eightAt
-eight-none s i j f h = number-none 8 s i j f h
-
--- ---- bytes stay bytes
-set-small : (l : List ℕ) (i v : ℕ) → v < 256 → ((m : ℕ) → getD l m 0 < 256) → (m : ℕ) → getD (set l i v) m 0 < 256
-set-small l i v h f m = elim (decLt m (length l)) [
-  | yes r ↦ elim (ℕ-discrete m i) [
-    | yes e ↦ subst (λ (k : ℕ). getD (set l i v) k 0 < 256) (sym e) (rw (getD-set-same l i v 0 (omega arith)) h)
-    | no e ↦ rw (getD-set-other l i m v 0 e) (f m)
-  ]
-  | no r ↦ rw (List·getD-eq-default (set l i v) 0 {n = m} (omega (arith, length-set l i v))) (omega arith)
-]
-
-number-small : (k : ℕ) (l : List ℕ) (i x : ℕ) → ((m : ℕ) → getD l m 0 < 256) → (m : ℕ) → getD (sets l i (littleEndian k x)) m 0 < 256
-number-small zero l i x f m = f m
-number-small (suc k) l i x f m = number-small k (set l i (x % 256)) (suc i) (x / 256) (set-small l i (x % 256) (omega arith) f) m
-
-pub eight-small : (l : List ℕ) (i x : ℕ) → ((m : ℕ) → getD l m 0 < 256) → (m : ℕ) → getD (withEight l i x) m 0 < 256
-unfolding withEight
-eight-small l i x f m = number-small 8 l i x f m
-
-pub eight-length : (l : List ℕ) (i x : ℕ) → length (withEight l i x) ≡ length l
-unfolding withEight
-eight-length l i x = length-sets l i (littleEndian 8 x)
 
 -- the bits of a set, byte by byte and word by word
 pub in-same : (s t : List ℕ) (at n : ℕ) → getD t (at + n / 8) 0 ≡ getD s (at + n / 8) 0 → inSet t at n ≡ inSet s at n

@@ -1,7 +1,7 @@
 -- Laws of sets by words: what one record adds.
 use mathlib.Core.Path.{_≡_, refl, ap, ap₂, sym, subst, _∙_}
 use mathlib.Core.Bool.{Bool, true, false, _&&_, _||_, false≢true}
-use mathlib.Core.Logic.{⊎-elim}
+use mathlib.Core.Logic.{⊎-elim, inl, inr}
 use mathlib.Core.List.{List}
 use Prim.Native.Nat.{ℕ, _+_, _-_, _*_, _/_, _%_, _^_, _<_, _≤_}
 use native.Mathlib.Decide.{ℕ-discrete, decLt}
@@ -11,11 +11,11 @@ use lib.Dec.{leb, ltb}
 use lib.ListN.{length, getD}
 use borrow.Author.Tests.{le-leb, lt-leb, lt-ltb, le-ltb, leb-true, ltb-true}
 use Rattle.model.proofs.Tests.{by-test, same-test, and-left, and-right}
-use Rattle.wordsets.specs.WordSets.{hasBit, inSet, eightAt, withEight, wordSum, gains, inWords, OutsideSet, SetsApart, RowAdded, inBlock, BlockFits, RecordAdded}
-use Rattle.wordsets.proofs.Bits.{bit-and, bit-shr, eight-bit, eight-none, eight-written, eight-before, eight-behind, eight-small, eight-length, sum-bit, in-same, in-word}
-
-abbrev AllBytes : List ℕ → Type 0
-AllBytes s = (m : ℕ) → getD s m 0 < 256
+use Rattle.model.specs.Records.{numberAt}
+use Rattle.numbers.specs.NumberBytes.{withNumber}
+use Rattle.numbers.proofs.NumberBytes.{AllBytes, byte-kept, length-number, number-bytes}
+use Rattle.wordsets.specs.WordSets.{hasBit, inSet, wordSum, gains, inWords, OutsideSet, SetsApart, RowAdded, inBlock, BlockFits, RecordAdded}
+use Rattle.wordsets.proofs.Bits.{bit-and, bit-shr, number-bit, number-none, written-bit, sum-bit, in-same, in-word}
 
 and-false : (a : Bool) → (a && false) ≡ false
 and-false true = refl
@@ -69,10 +69,10 @@ module _ (from to y x rest low high w : ℕ) (s t : List ℕ) (common : ℕ) (se
   target = to + 8 * (x / 64 + w)
 
   abbrev value : ℕ
-  value = wordSum (eightAt t source) (eightAt t target) (y % 64) (x % 64) rest
+  value = wordSum (numberAt 8 t source) (numberAt 8 t target) (y % 64) (x % 64) rest
 
   abbrev next : List ℕ
-  next = withEight t target value
+  next = withNumber 8 t target value
 
   room : target + 8 ≤ length t
   room = omega (arith, sep .to-room, a .row .outside .size)
@@ -85,11 +85,11 @@ module _ (from to y x rest low high w : ℕ) (s t : List ℕ) (common : ℕ) (se
       (sep .apart))
 
   -- bit q of the word that is read
-  read-bit : (q : ℕ) → hasBit (eightAt t source) q ≡ ltb q 64 && inSet s from (64 * (y / 64 + w) + q)
+  read-bit : (q : ℕ) → hasBit (numberAt 8 t source) q ≡ ltb q 64 && inSet s from (64 * (y / 64 + w) + q)
   read-bit q = elim (decLt q 64) [
-    | yes l ↦ eight-bit t source q (a .bytes) l ∙ sym (in-word t from (y / 64 + w) q) ∙ from-same (64 * (y / 64 + w) + q) (omega arith)
+    | yes l ↦ number-bit 8 t source q (a .bytes) l ∙ sym (in-word t from (y / 64 + w) q) ∙ from-same (64 * (y / 64 + w) + q) (omega arith)
         ∙ sym (ap (λ (b : Bool). b && inSet s from (64 * (y / 64 + w) + q)) (lt-ltb q 64 l))
-    | no l ↦ eight-none t source q (a .bytes) (omega arith) ∙ sym (ap (λ (b : Bool). b && inSet s from (64 * (y / 64 + w) + q)) (le-ltb q 64 (omega arith)))
+    | no l ↦ number-none 8 t source q (a .bytes) (omega arith) ∙ sym (ap (λ (b : Bool). b && inSet s from (64 * (y / 64 + w) + q)) (le-ltb q 64 (omega arith)))
   ]
 
   -- the word that is written
@@ -97,9 +97,9 @@ module _ (from to y x rest low high w : ℕ) (s t : List ℕ) (common : ℕ) (se
       ≡ inSet t to (64 * (x / 64 + w) + j) || (leb (x % 64) j && (hasBit rest (j - x % 64) && (ltb (y % 64 + (j - x % 64)) 64 && inSet s from (64 * (y / 64 + w) + (y % 64 + (j - x % 64))))))
   here j h =
       let q = y % 64 + (j - x % 64) in
-      in-word next to (x / 64 + w) j ∙ eight-written t target value j room h ∙ sum-bit (eightAt t source) (eightAt t target) (y % 64) (x % 64) rest j h
-      ∙ ap₂ (λ (b c : Bool). b || (leb (x % 64) j && c)) (eight-bit t target j (a .bytes) h ∙ sym (in-word t to (x / 64 + w) j))
-      (and-swap (hasBit (eightAt t source) q) (hasBit rest (j - x % 64)) ∙ ap (λ (b : Bool). hasBit rest (j - x % 64) && b) (read-bit q))
+      in-word next to (x / 64 + w) j ∙ written-bit 8 t target value j room h ∙ sum-bit (numberAt 8 t source) (numberAt 8 t target) (y % 64) (x % 64) rest j h
+      ∙ ap₂ (λ (b c : Bool). b || (leb (x % 64) j && c)) (number-bit 8 t target j (a .bytes) h ∙ sym (in-word t to (x / 64 + w) j))
+      (and-swap (hasBit (numberAt 8 t source) q) (hasBit rest (j - x % 64)) ∙ ap (λ (b : Bool). hasBit rest (j - x % 64) && b) (read-bit q))
 
   words-here : (n : ℕ) → n / 64 ≡ x / 64 + w → (inWords x low w n ≡ false) × (inWords x low (w + 1) n ≡ true)
   unfolding inWords
@@ -133,8 +133,8 @@ module _ (from to y x rest low high w : ℕ) (s t : List ℕ) (common : ℕ) (se
         ∙ ap₂ (λ (b c : Bool). b || c) old (sym (gains-here n e) ∙ sym (ap (λ (b : Bool). b && gains s from y x rest n) (words .1)))
     | no ne ↦
         in-same t next to n (elim (decLt (n / 64) (x / 64 + w)) [
-          | yes l ↦ eight-before t target value (to + n / 8) (omega arith)
-          | no l ↦ eight-behind t target value (to + n / 8) (omega arith)
+          | yes l ↦ byte-kept 8 t target value (to + n / 8) (inl (omega arith))
+          | no l ↦ byte-kept 8 t target value (to + n / 8) (inr (omega arith))
         ])
         ∙ a .row .members n h ∙ ap (λ (b : Bool). inSet s to n || (b && gains s from y x rest n)) (sym (words-other n ne))
   ]
@@ -148,7 +148,7 @@ module _ (from to y x rest low high w : ℕ) (s t : List ℕ) (common : ℕ) (se
       let both : (hasBit common j && hasBit (value / 2 ^ (x % 64)) j) ≡ true = sym (bit-and common (value / 2 ^ (x % 64)) j) ∙ b in
       elim (ℕ-discrete w v) [
         | yes e ↦ subst (λ (i : ℕ). inSet next to (64 * (x / 64 + i) + (x % 64 + j)) ≡ true) e
-            (in-word next to (x / 64 + w) (x % 64 + j) ∙ eight-written t target value (x % 64 + j) room l
+            (in-word next to (x / 64 + w) (x % 64 + j) ∙ written-bit t target value (x % 64 + j) room l
             ∙ sym (bit-shr value (x % 64) j) ∙ and-right (hasBit common j) (hasBit (value / 2 ^ (x % 64)) j) both)
         | no e ↦ kept (64 * (x / 64 + v) + (x % 64 + j)) (omega arith) (a .row .shared j v (and-left (hasBit common j) (hasBit (value / 2 ^ (x % 64)) j) both) l p (omega arith))
       ]
@@ -158,19 +158,19 @@ module _ (from to y x rest low high w : ℕ) (s t : List ℕ) (common : ℕ) (se
     later = omega (arith, a .later);
     row = record {
       outside = record {
-        size = eight-length t target value ∙ a .row .outside .size;
-        before = λ i l. eight-before t target value i (omega arith) ∙ a .row .outside .before i l;
-        behind = λ i l. eight-behind t target value i (omega arith) ∙ a .row .outside .behind i l;
+        size = length-number 8 t target value ∙ a .row .outside .size;
+        before = λ i l. byte-kept 8 t target value i (inl (omega arith)) ∙ a .row .outside .before i l;
+        behind = λ i l. byte-kept 8 t target value i (inr (omega arith)) ∙ a .row .outside .behind i l;
       };
       members = turn-members;
       shared = turn-shared;
     };
-    bytes = eight-small t target value (a .bytes);
+    bytes = number-bytes 8 t target value (a .bytes);
   }
 
 pub adding-turn : {from to y x rest low high w : ℕ} {s t : List ℕ} {common : ℕ} → SetsApart s from to → w < high → y / 64 + high ≤ 64 → x / 64 + high ≤ 64 → Adding from to y x rest low w s t common
-    → Adding from to y x rest low (w + 1) s (withEight t (to + 8 * (x / 64 + w)) (wordSum (eightAt t (from + 8 * (y / 64 + w))) (eightAt t (to + 8 * (x / 64 + w))) (y % 64) (x % 64) rest))
-    (bitAnd common (wordSum (eightAt t (from + 8 * (y / 64 + w))) (eightAt t (to + 8 * (x / 64 + w))) (y % 64) (x % 64) rest / 2 ^ (x % 64)))
+    → Adding from to y x rest low (w + 1) s (withNumber 8 t (to + 8 * (x / 64 + w)) (wordSum (numberAt 8 t (from + 8 * (y / 64 + w))) (numberAt 8 t (to + 8 * (x / 64 + w))) (y % 64) (x % 64) rest))
+    (bitAnd common (wordSum (numberAt 8 t (from + 8 * (y / 64 + w))) (numberAt 8 t (to + 8 * (x / 64 + w))) (y % 64) (x % 64) rest / 2 ^ (x % 64)))
 adding-turn {from} {to} {y} {x} {rest} {low} {high} {w} {s} {t} {common} sep less fy fx a = turn from to y x rest low high w s t common sep less fy fx a
 
 -- ---- row after row

@@ -7,8 +7,6 @@ use Prim.Native.Nat.{ℕ, _+_, _-_, _*_, _/_, _%_, _^_, _<_, _≤_}
 use lib.Bits.{bitAnd, bitOr}
 use lib.Dec.{eqb, leb, ltb}
 use lib.ListN.{length, getD}
-use lib.Seq.{sets}
-use Rattle.model.specs.Records.{littleEndian, numberAt}
 
 -- bit j of a number
 unfoldable pub hasBit : ℕ → ℕ → Bool
@@ -17,13 +15,6 @@ hasBit x j = eqb (x / 2 ^ j % 2) 1
 -- the number n is in the set that begins at a byte
 unfoldable pub inSet : List ℕ → ℕ → ℕ → Bool
 inSet s at n = hasBit (getD s (at + n / 8) 0) (n % 8)
-
--- the number in the eight bytes from i on, and the list with x there
-unfoldable pub eightAt : List ℕ → ℕ → ℕ
-eightAt s i = numberAt 8 s i
-
-unfoldable pub withEight : List ℕ → ℕ → ℕ → List ℕ
-withEight s i x = sets s i (littleEndian 8 x)
 
 -- the word t with what the word f has, of the numbers in rest, `after` higher there than `before` here
 unfoldable pub wordSum : ℕ → ℕ → ℕ → ℕ → ℕ → ℕ

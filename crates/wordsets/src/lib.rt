@@ -1,42 +1,18 @@
 // Sets of state numbers in lent bytes, 64 numbers at a time.
-use packs::pack_at;
+use numbers::eight_at;
+use numbers::put_eight;
 ghost use mathlib.Core.Path.{_≡_};
 ghost use mathlib.Core.Bool.{cond};
 ghost use Prim.Native.Nat.{_+_, _*_, _/_, _^_, _<_, _≤_};
 ghost use lib.ListN.{length};
-ghost use Rattle.wordsets.specs.WordSets.{eightAt, withEight, wordSum, RestBits, SetsApart, RowAdded, BlockFits, RecordAdded};
-
-fn as_u64(x: u32) -> u64
-    ensures { λ r. ⌜ (r ≡ x) × (r < 4294967296) ⌝ }
-{
-    x as u64
-}
-
-fn eight_at(s: &[u8], i: usize) -> u64
-    requires { ⌜ i + 8 ≤ length (now s) ⌝ }
-    ensures { λ r. ⌜ r ≡ eightAt (now (s .entry)) i ⌝ }
-{
-    as_u64(pack_at(s, i)) + 4294967296 * as_u64(pack_at(s, i + 4))
-}
-
-fn put_eight(s: &mut [u8], i: usize, x: u64)
-    requires { ⌜ i + 8 ≤ length (now s) ⌝ }
-    ensures { λ _. ⌜ now (s .exit) ≡ withEight (now (s .entry)) i x ⌝ }
-{
-    s[i] = (x % 256) as u8;
-    s[i + 1] = (x / 256 % 256) as u8;
-    s[i + 2] = (x / 256 / 256 % 256) as u8;
-    s[i + 3] = (x / 256 / 256 / 256 % 256) as u8;
-    s[i + 4] = (x / 256 / 256 / 256 / 256 % 256) as u8;
-    s[i + 5] = (x / 256 / 256 / 256 / 256 / 256 % 256) as u8;
-    s[i + 6] = (x / 256 / 256 / 256 / 256 / 256 / 256 % 256) as u8;
-    s[i + 7] = (x / 256 / 256 / 256 / 256 / 256 / 256 / 256 % 256) as u8;
-}
+ghost use Rattle.model.specs.Records.{numberAt};
+ghost use Rattle.numbers.specs.NumberBytes.{withNumber};
+ghost use Rattle.wordsets.specs.WordSets.{wordSum, RestBits, SetsApart, RowAdded, BlockFits, RecordAdded};
 
 // Adds to the word at `to` what the word at `from` has, of the numbers in rest, and gives the word, shifted back.
 fn add_word(s: &mut [u8], from: usize, to: usize, after: usize, before: usize, rest: u64) -> u64
     requires { ⌜ (from + 8 ≤ length (now s)) × (to + 8 ≤ length (now s)) × (after < 64) × (before < 64) ⌝ }
-    ensures { λ r. ⌜ (now (s .exit) ≡ withEight (now (s .entry)) to (wordSum (eightAt (now (s .entry)) from) (eightAt (now (s .entry)) to) after before rest)) × (r ≡ wordSum (eightAt (now (s .entry)) from) (eightAt (now (s .entry)) to) after before rest / 2 ^ before) ⌝ }
+    ensures { λ r. ⌜ (now (s .exit) ≡ withNumber 8 (now (s .entry)) to (wordSum (numberAt 8 (now (s .entry)) from) (numberAt 8 (now (s .entry)) to) after before rest)) × (r ≡ wordSum (numberAt 8 (now (s .entry)) from) (numberAt 8 (now (s .entry)) to) after before rest / 2 ^ before) ⌝ }
 {
     let found = (eight_at(s, from) >> after) & rest;
     let word = eight_at(s, to) | (found << before);

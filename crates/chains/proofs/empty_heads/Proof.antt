@@ -13,14 +13,14 @@ abbrev μ-loop : tie.MeasureT-loop
 loop-holds : tie.Need-loop-holds Inv-loop μ-loop
 loop-holds c = let a = c .before .args in (omega arith, emptying-start (a .n) (a .at) (a .scratch .now))
 
-mul-put-word : tie.Need-mul-put-word Inv-loop μ-loop
-mul-put-word c = omega arith
+mul-put-two : tie.Need-mul-put-two Inv-loop μ-loop
+mul-put-two c = omega arith
 
-add-put-word : tie.Need-add-put-word Inv-loop μ-loop
-add-put-word c = omega arith
+add-put-two : tie.Need-add-put-two Inv-loop μ-loop
+add-put-two c = omega arith
 
-put-word-requires : tie.Need-put-word-requires Inv-loop μ-loop
-put-word-requires c κs = omega (arith, c .before .before .loop .inv .1 .same .size)
+put-two-requires : tie.Need-put-two-requires Inv-loop μ-loop
+put-two-requires c κs = omega (arith, c .before .before .loop .inv .1 .same .size)
 
 add-h : tie.Need-add-h Inv-loop μ-loop
 add-h c = omega arith
@@ -31,7 +31,7 @@ loop-less c = omega arith
 loop-again : tie.Need-loop-again Inv-loop μ-loop
 loop-again c =
     let t = c .before .before .before .before .before .loop in
-    (omega arith, rw (c .before .before .put-word .ensures) (emptying-turn (omega arith) (c .before .before .before .before .before .before .before .pre) (t .inv .1)))
+    (omega arith, rw (c .before .before .put-two .ensures) (emptying-turn (omega arith) (c .before .before .before .before .before .before .before .pre) (t .inv .1)))
 
 same-length : tie.Need-same-length Inv-loop μ-loop
 same-length c = c .before .loop .inv .1 .same .size
@@ -48,9 +48,9 @@ empty-heads-spec =
     Inv-loop
     μ-loop
     loop-holds
-    mul-put-word
-    add-put-word
-    put-word-requires
+    mul-put-two
+    add-put-two
+    put-two-requires
     add-h
     loop-less
     loop-again

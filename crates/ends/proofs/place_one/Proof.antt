@@ -9,17 +9,17 @@ use Rattle.ends.proofs.place_one.Tie as tie
 slice-read-if1 : tie.Need-slice-read-if1
 slice-read-if1 c = search needs
 
-mul-put-word : tie.Need-mul-put-word
-mul-put-word c = search needs
+mul-put-two : tie.Need-mul-put-two
+mul-put-two c = search needs
 
-add-put-word : tie.Need-add-put-word
-add-put-word c = search needs
+add-put-two : tie.Need-add-put-two
+add-put-two c = search needs
 
-cast-put-word : tie.Need-cast-put-word
-cast-put-word c = omega (arith, c .before .before .before .before .pre .2 (c .before .if1 .taken))
+cast-put-two : tie.Need-cast-put-two
+cast-put-two c = omega (arith, c .before .before .before .before .pre .2 (c .before .if1 .taken))
 
-put-word-requires : tie.Need-put-word-requires
-put-word-requires c κs = search needs
+put-two-requires : tie.Need-put-two-requires
+put-two-requires c κs = search needs
 
 add-result : tie.Need-add-result
 add-result c = omega (arith, c .before .before .before .before .before .before .before .pre .2 (c .before .before .before .before .if1 .taken))
@@ -31,7 +31,7 @@ returns : tie.Need-returns
 returns c =
     let a = c .before .before .before .before .before .before .before .args in
     let t = c .before .before .before .before .if1 .taken in
-    (c .before .before .put-word .ensures ∙ sym (own-new (a .scratch .now) (a .x) (a .place) t), ap (λ (k : ℕ). a .place + k) (sym (one-new _ t)))
+    (c .before .before .put-two .ensures ∙ sym (own-new (a .scratch .now) (a .x) (a .place) t), ap (λ (k : ℕ). a .place + k) (sym (one-new _ t)))
 
 returns-2 : tie.Need-returns-2
 returns-2 c =
@@ -43,10 +43,10 @@ place-one-spec =
     tie.close
     (tie.spec
     slice-read-if1
-    mul-put-word
-    add-put-word
-    cast-put-word
-    put-word-requires
+    mul-put-two
+    add-put-two
+    cast-put-two
+    put-two-requires
     add-result
     same-length
     returns

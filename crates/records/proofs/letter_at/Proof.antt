@@ -4,15 +4,9 @@ use borrow.Author.Needs.{needs}
 use Rattle.records.proofs.letter_at.Statement.{statement}
 use Rattle.records.proofs.letter_at.Tie as tie
 
-mul-result : tie.Need-mul-result
-mul-result c = search needs
-
-shared-slice-read-result : tie.Need-shared-slice-read-result
-shared-slice-read-result c = search needs
-
 returns : tie.Need-returns
 unfolding letterAt
 returns c = refl
 
 pub letter-at-spec : {M : Type 1} → statement M
-letter-at-spec = tie.close (tie.spec mul-result shared-slice-read-result returns)
+letter-at-spec = tie.close (tie.spec (λ c. search needs) (λ c. search needs) returns)

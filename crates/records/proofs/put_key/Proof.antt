@@ -7,18 +7,6 @@ use borrow.Author.Needs.{needs}
 use Rattle.records.proofs.put_key.Statement.{statement}
 use Rattle.records.proofs.put_key.Tie as tie
 
-slice-write-out : tie.Need-slice-write-out
-slice-write-out c = search needs
-
-slice-write-out-2 : tie.Need-slice-write-out-2
-slice-write-out-2 c = search needs
-
-slice-write-out-3 : tie.Need-slice-write-out-3
-slice-write-out-3 c = search needs
-
-slice-write-out-4 : tie.Need-slice-write-out-4
-slice-write-out-4 c = search needs
-
 slice-write-out-5 : tie.Need-slice-write-out-5
 slice-write-out-5 c = simp length-set (omega arith)
 
@@ -34,9 +22,6 @@ slice-write-out-8 c = simp length-set (omega arith)
 slice-write-out-9 : tie.Need-slice-write-out-9
 slice-write-out-9 c = simp length-set (omega arith)
 
-same-length : tie.Need-same-length
-same-length c = search needs
-
 returns : tie.Need-returns
 returns c = all-set (c .args .letter ∷ groupBytes (c .args .b) ++ groupBytes (c .args .a)) (c .args .out .now) (c .pre)
 
@@ -44,14 +29,14 @@ pub put-key-spec : {M : Type 1} → statement M
 put-key-spec =
     tie.close
     (tie.spec
-    slice-write-out
-    slice-write-out-2
-    slice-write-out-3
-    slice-write-out-4
+    (λ c. search needs)
+    (λ c. search needs)
+    (λ c. search needs)
+    (λ c. search needs)
     slice-write-out-5
     slice-write-out-6
     slice-write-out-7
     slice-write-out-8
     slice-write-out-9
-    same-length
+    (λ c. search needs)
     returns)

@@ -3,18 +3,9 @@ use borrow.Author.Needs.{needs}
 use Rattle.records.proofs.rule_at.Statement.{statement}
 use Rattle.records.proofs.rule_at.Tie as tie
 
-mul-two-at : tie.Need-mul-two-at
-mul-two-at c = search needs
-
-add-two-at : tie.Need-add-two-at
-add-two-at c = search needs
-
-two-at-requires : tie.Need-two-at-requires
-two-at-requires c κs = search needs
-
 returns : tie.Need-returns
 unfolding ruleAt
 returns c = c .two-at .ensures
 
 pub rule-at-spec : {M : Type 1} → statement M
-rule-at-spec = tie.close (tie.spec mul-two-at add-two-at two-at-requires returns)
+rule-at-spec = tie.close (tie.spec (λ c. search needs) (λ c. search needs) (λ c κs. search needs) returns)

@@ -10,9 +10,9 @@ use Rattle.search.proofs.write_end.Statement.{statement}
 use Rattle.search.proofs.write_end.Tie as tie
 use Rattle.search.proofs.write_end.Reads as reads
 use Rattle.search.proofs.write_end.Lts as lts
-use Rattle.chains.proofs.words.word_at.Reads as word-at-reads
+use Rattle.numbers.proofs.two_at.Reads as two-at-reads
 use Rattle.records.proofs.put_record.Reads as put-record-reads
-use Rattle.chains.proofs.words.wide.Reads as wide-reads
+use Rattle.numbers.proofs.wide_two.Reads as wide-two-reads
 use Rattle.search.proofs.path_steps.Reads as path-steps-reads
 
 -- src/lib.rt:161:8
@@ -25,20 +25,20 @@ unfolding marked written
 returns c = (rw (ne-eqb _ _ (c .if1 .taken)), rw (ne-eqb _ _ (c .if1 .taken)))
 
 -- src/lib.rt:164:52
-mul-word-at : tie.Need-mul-word-at
-mul-word-at c = search needs
+mul-two-at : tie.Need-mul-two-at
+mul-two-at c = search needs
 
 -- src/lib.rt:164:43
-add-word-at : tie.Need-add-word-at
-add-word-at c = search needs
+add-two-at : tie.Need-add-two-at
+add-two-at c = search needs
 
 -- src/lib.rt:164:26
-word-at-requires : tie.Need-word-at-requires
-word-at-requires c κs = search needs
+two-at-requires : tie.Need-two-at-requires
+two-at-requires c κs = search needs
 
 -- src/lib.rt:164:9
-wide-requires : tie.Need-wide-requires
-wide-requires c κs = search needs
+wide-two-requires : tie.Need-wide-two-requires
+wide-two-requires c κs = search needs
 
 -- src/lib.rt:176:16
 path-steps-requires : tie.Need-path-steps-requires
@@ -51,7 +51,7 @@ add-put-record c = search needs
 -- src/lib.rt:178:5
 put-record-requires : tie.Need-put-record-requires
 put-record-requires c κs =
-    let same : c .before .before .before .before .before .wide .result ≡ placeIn (c .before .before .before .before .before .before .before .before .before .before .before .before .args .scratch .now) (c .before .before .before .before .before .before .before .before .before .before .before .before .args .x) = c .before .before .before .before .before .wide .ensures .0 ∙ c .before .before .before .before .before .before .word-at .ensures in
+    let same : c .before .before .before .before .before .wide-two .result ≡ placeIn (c .before .before .before .before .before .before .before .before .before .before .before .before .args .scratch .now) (c .before .before .before .before .before .before .before .before .before .before .before .before .args .x) = c .before .before .before .before .before .wide-two .ensures .0 ∙ c .before .before .before .before .before .before .two-at .ensures in
     subst (λ (n : ℕ). HasRecord (c .before .before .before .before .before .before .before .before .before .before .before .before .args .log .now) (c .before .before .before .before .before .before .before .before .before .before .before .before .args .job .base + n)) (sym same) (c .before .before .before .before .before .before .before .before .before .before .before .before .pre .place (c .before .before .before .before .before .before .before .before .if1 .left))
 
 -- src/lib.rt:179:5
@@ -70,7 +70,7 @@ same-length-2 c = search needs
 returns-2 : tie.Need-returns-2
 unfolding marked written
 returns-2 c =
-    let same : c .before .before .before .before .before .before .before .before .wide .result ≡ placeIn (c .before .before .before .before .before .before .before .before .before .before .before .before .before .before .before .args .scratch .now) (c .before .before .before .before .before .before .before .before .before .before .before .before .before .before .before .args .x) = c .before .before .before .before .before .before .before .before .wide .ensures .0 ∙ c .before .before .before .before .before .before .before .before .before .word-at .ensures in
+    let same : c .before .before .before .before .before .before .before .before .wide-two .result ≡ placeIn (c .before .before .before .before .before .before .before .before .before .before .before .before .before .before .before .args .scratch .now) (c .before .before .before .before .before .before .before .before .before .before .before .before .before .before .before .args .x) = c .before .before .before .before .before .before .before .before .wide-two .ensures .0 ∙ c .before .before .before .before .before .before .before .before .before .two-at .ensures in
     (c .before .before .put-record .ensures ∙ rw (same, c .before .before .before .before .before .path-steps .ensures, eq-eqb _ _ (c .before .before .before .before .before .before .before .before .before .before .before .if1 .left)), rw (eq-eqb _ _ (c .before .before .before .before .before .before .before .before .before .before .before .if1 .left)))
 
 pub write-end-spec : {M : Type 1} → statement M
@@ -79,10 +79,10 @@ write-end-spec =
     (tie.spec
     slice-read-if1
     returns
-    mul-word-at
-    add-word-at
-    word-at-requires
-    wide-requires
+    mul-two-at
+    add-two-at
+    two-at-requires
+    wide-two-requires
     path-steps-requires
     add-put-record
     put-record-requires

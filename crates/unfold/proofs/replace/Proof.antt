@@ -24,8 +24,8 @@ sub-push-path c = search needs
 push-path-requires : tie.Need-push-path-requires
 push-path-requires c κs = search needs
 
-wide-requires : tie.Need-wide-requires
-wide-requires c κs = search needs
+wide-two-requires : tie.Need-wide-two-requires
+wide-two-requires c κs = search needs
 
 written-count-requires : tie.Need-written-count-requires
 written-count-requires c κs = search needs
@@ -37,7 +37,7 @@ add-length c =
     let rule = ruleAt (a .log .now) (a .x) in
     let few : length (ruleIn (a .table .now) rule .written) ≤ 4 = written-few (a .table .now) (a .t) (p .0) rule (p .3 .rule) in
     let number : c .before .written-count .result ≡ length (ruleIn (a .table .now) rule .written) =
-    c .before .written-count .ensures ∙ ap (λ (k : ℕ). length (ruleIn (a .table .now) k .written)) (c .before .before .wide .ensures .0 ∙ c .before .before .before .before .before .before .before .before .rule-at .ensures) in
+    c .before .written-count .ensures ∙ ap (λ (k : ℕ). length (ruleIn (a .table .now) k .written)) (c .before .before .wide-two .ensures .0 ∙ c .before .before .before .before .before .before .before .before .rule-at .ensures) in
     omega (arith, p .3 .small)
 
 sub-length : tie.Need-sub-length
@@ -47,7 +47,7 @@ sub-length c =
     let rule = ruleAt (a .log .now) (a .x) in
     let few : length (ruleIn (a .table .now) rule .written) ≤ 4 = written-few (a .table .now) (a .t) (p .0) rule (p .3 .rule) in
     let number : c .before .written-count .result ≡ length (ruleIn (a .table .now) rule .written) =
-    c .before .written-count .ensures ∙ ap (λ (k : ℕ). length (ruleIn (a .table .now) k .written)) (c .before .before .wide .ensures .0 ∙ c .before .before .before .before .before .before .before .before .rule-at .ensures) in
+    c .before .written-count .ensures ∙ ap (λ (k : ℕ). length (ruleIn (a .table .now) k .written)) (c .before .before .wide-two .ensures .0 ∙ c .before .before .before .before .before .before .before .before .rule-at .ensures) in
     omega (arith, p .3 .letter)
 
 add-t12 : tie.Need-add-t12
@@ -69,7 +69,7 @@ returns c =
     let rule = ruleAt (a .log .now) (a .x) in
     let few : length (ruleIn (a .table .now) rule .written) ≤ 4 = written-few (a .table .now) (a .t) (p .0) rule (p .3 .rule) in
     let number : c .before .before .written-count .result ≡ length (ruleIn (a .table .now) rule .written) =
-    c .before .before .written-count .ensures ∙ ap (λ (k : ℕ). length (ruleIn (a .table .now) k .written)) (c .before .before .before .wide .ensures .0 ∙ c .before .before .before .before .before .before .before .before .before .rule-at .ensures) in
+    c .before .before .written-count .ensures ∙ ap (λ (k : ℕ). length (ruleIn (a .table .now) k .written)) (c .before .before .before .wide-two .ensures .0 ∙ c .before .before .before .before .before .before .before .before .before .rule-at .ensures) in
     record {
       pushed = c .before .before .before .before .before .before .push-path .ensures;
       emits = ap (λ (y : ℕ). set (a .page .now) (a .w .rules) y) (c .before .before .before .before .before .before .before .before .before .rule-at .ensures);
@@ -87,7 +87,7 @@ replace-spec =
     slice-write-page
     sub-push-path
     push-path-requires
-    wide-requires
+    wide-two-requires
     written-count-requires
     add-length
     sub-length

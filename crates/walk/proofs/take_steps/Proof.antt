@@ -18,14 +18,14 @@ abbrev μ-loop : tie.MeasureT-loop
 loop-holds : tie.Need-loop-holds Inv-loop μ-loop
 loop-holds c = let a = c .before .before .before .args in going-start (a .table .now) (a .t) (a .list .now) (a .pile .now) (a .start) (c .before .before .before .pre .1)
 
-mul-wide : tie.Need-mul-wide Inv-loop μ-loop
-mul-wide c = omega arith
+mul-wide-two : tie.Need-mul-wide-two Inv-loop μ-loop
+mul-wide-two c = omega arith
 
-shared-slice-read-wide : tie.Need-shared-slice-read-wide Inv-loop μ-loop
-shared-slice-read-wide c = omega arith
+shared-slice-read-wide-two : tie.Need-shared-slice-read-wide-two Inv-loop μ-loop
+shared-slice-read-wide-two c = omega arith
 
-wide-requires : tie.Need-wide-requires Inv-loop μ-loop
-wide-requires c κs = search needs
+wide-two-requires : tie.Need-wide-two-requires Inv-loop μ-loop
+wide-two-requires c κs = search needs
 
 take-step-requires : tie.Need-take-step-requires Inv-loop μ-loop
 take-step-requires c κs = (c .before .before .before .before .before .before .before .before .pre .0, c .before .before .before .before .loop .inv .shape)
@@ -41,8 +41,8 @@ returns c =
     let a = c .before .before .before .before .before .before .before .before .before .before .before .before .before .before .args in
     let m = c .before .before .before .before .before .before .before .before .before .before .loop in
     let e : c .before .before .before .before .before .take-step .result ≡ Refused (c .before .number .given .0 .0) = c .before .number .given .1 in
-    going-refused (a .table .now) (a .t) (a .list .now) (a .pile .now) (a .start) (m .pile) (c .before .before .before .before .before .take-step .last .1 .1 .1 .0) (m .c) (m .k) (c .before .before .before .before .before .before .before .wide .result) (c .before .number .given .0 .0)
-    (c .before .before .before .before .before .before .before .before .before .loop-test .taken) (c .before .before .before .before .before .before .before .wide .ensures) (m .inv) (subst (StepTo (a .table .now) (a .t) (c .before .before .before .before .before .before .before .wide .result) (m .c) (m .pile) (c .before .before .before .before .before .take-step .last .1 .1 .1 .0)) e (c .before .before .before .before .before .take-step .ensures))
+    going-refused (a .table .now) (a .t) (a .list .now) (a .pile .now) (a .start) (m .pile) (c .before .before .before .before .before .take-step .last .1 .1 .1 .0) (m .c) (m .k) (c .before .before .before .before .before .before .before .wide-two .result) (c .before .number .given .0 .0)
+    (c .before .before .before .before .before .before .before .before .before .loop-test .taken) (c .before .before .before .before .before .before .before .wide-two .ensures .0) (m .inv) (subst (StepTo (a .table .now) (a .t) (c .before .before .before .before .before .before .before .wide-two .result) (m .c) (m .pile) (c .before .before .before .before .before .take-step .last .1 .1 .1 .0)) e (c .before .before .before .before .before .take-step .ensures))
 
 enum-known-d : tie.Need-enum-known-d Inv-loop μ-loop
 enum-known-d c = search needs
@@ -58,8 +58,8 @@ loop-again c =
     let a = c .before .before .before .before .before .before .before .before .before .before .before .before .before .before .args in
     let m = c .before .before .before .before .before .before .before .before .before .before .loop in
     let e : c .before .before .before .before .before .take-step .result ≡ Onward (c .before .d .given .0 .0) = c .before .d .given .1 in
-    going-turn (a .table .now) (a .t) (a .list .now) (a .pile .now) (a .start) (m .pile) (c .before .before .before .before .before .take-step .last .1 .1 .1 .0) (m .c) (c .before .d .given .0 .0) (m .k) (c .before .before .before .before .before .before .before .wide .result)
-    (c .before .before .before .before .before .before .before .before .before .loop-test .taken) (c .before .before .before .before .before .take-step .kept .1 .1 .1 .0) (c .before .before .before .before .before .before .before .wide .ensures) (m .inv) (subst (StepTo (a .table .now) (a .t) (c .before .before .before .before .before .before .before .wide .result) (m .c) (m .pile) (c .before .before .before .before .before .take-step .last .1 .1 .1 .0)) e (c .before .before .before .before .before .take-step .ensures))
+    going-turn (a .table .now) (a .t) (a .list .now) (a .pile .now) (a .start) (m .pile) (c .before .before .before .before .before .take-step .last .1 .1 .1 .0) (m .c) (c .before .d .given .0 .0) (m .k) (c .before .before .before .before .before .before .before .wide-two .result)
+    (c .before .before .before .before .before .before .before .before .before .loop-test .taken) (c .before .before .before .before .before .take-step .kept .1 .1 .1 .0) (c .before .before .before .before .before .before .before .wide-two .ensures .0) (m .inv) (subst (StepTo (a .table .now) (a .t) (c .before .before .before .before .before .before .before .wide-two .result) (m .c) (m .pile) (c .before .before .before .before .before .take-step .last .1 .1 .1 .0)) e (c .before .before .before .before .before .take-step .ensures))
 
 same-length-2 : tie.Need-same-length-2 Inv-loop μ-loop
 same-length-2 c = c .before .loop .inv .size
@@ -76,9 +76,9 @@ take-steps-spec =
     Inv-loop
     μ-loop
     loop-holds
-    mul-wide
-    shared-slice-read-wide
-    wide-requires
+    mul-wide-two
+    shared-slice-read-wide-two
+    wide-two-requires
     take-step-requires
     enum-known-number
     same-length

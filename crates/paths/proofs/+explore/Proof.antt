@@ -1,0 +1,148 @@
+-- The search from a state: at the word's end it arrives, a state that was passed is left, else it goes on by each record in turn.
+use mathlib.Core.Path.{_≡_, ap, refl, subst, sym, _∙_}
+use Prim.Native.Nat.{ℕ, _<_, _+_, _-_}
+use native.Mathlib.Omega.{arith}
+use lib.ListN.{length}
+use Rattle.automaton.proofs.StateSets.{first-at}
+use Rattle.packs.specs.Packs.{mergedBits}
+use Rattle.paths.specs.Jobs.{Standing, isPassed}
+use Rattle.paths.proofs.Arriving.{searched-log}
+use Rattle.paths.proofs.Looping.{Looping, explored-end, explored-passed, looping-again, looping-count, looping-end, looping-level, looping-log, looping-pass, looping-ready, looping-record, looping-scratch, looping-stands, looping-start, next-reads, next-ringed, next-room}
+use borrow.Author.Needs.{needs}
+use borrow.Fn.Kinds.{In}
+use borrow.Fn.PlainCycle.{Measures, is, falls, and}
+use Rattle.paths.proofs.explore.Reads as explore
+use Rattle.paths.proofs.explore.Kinds as explore-kinds
+use Rattle.paths.proofs.+explore.Lts-explore as explore-lts
+use Rattle.packs.proofs.after_at.Reads as after-at-reads
+use Rattle.packs.proofs.merged.Reads as merged-reads
+use Rattle.packs.proofs.number.Reads as number-reads
+use Rattle.packs.proofs.restricted.Reads as restricted-reads
+use Rattle.paths.proofs.arrive.Reads as arrive-reads
+use Rattle.paths.proofs.first_try.Reads as first-try-reads
+use Rattle.paths.proofs.is_fresh.Reads as is-fresh-reads
+use Rattle.paths.proofs.is_passed.Reads as is-passed-reads
+use Rattle.paths.proofs.letter_of.Reads as letter-of-reads
+use Rattle.paths.proofs.longer.Reads as longer-reads
+use Rattle.paths.proofs.mask_of.Reads as mask-of-reads
+use Rattle.paths.proofs.pass.Reads as pass-reads
+use Rattle.rings.proofs.next_match.Reads as next-match-reads
+use Rattle.paths.proofs.+explore.{statement}
+use Rattle.paths.proofs.+explore.Tie.{close}
+
+abbrev μ-explore : Measures 2 explore-kinds.ps ℕ
+μ-explore κs a = a .1 .1 .0 .count - a .1 .1 .1 .0
+
+abbrev explore-at : ℕ → In 2 explore-kinds.ps
+explore-at t = and 2 explore-kinds.ps (is 2 explore-kinds.ps μ-explore t) explore.Pre
+
+abbrev explore-below : ℕ → In 2 explore-kinds.ps
+explore-below t = and 2 explore-kinds.ps (falls 2 explore-kinds.ps _<_ μ-explore t) explore.Pre
+
+abbrev explore-Inv-loop : explore-lts.InvT-loop
+explore-Inv-loop log₀ scratch₀ job level state found trail count width x letter mask g base n total₀ r₀ log scratch total r =
+    Looping log₀ scratch₀ job level state found trail count x letter mask g base n log scratch total r
+
+abbrev explore-μ-loop : explore-lts.MeasureT-loop
+explore-μ-loop log₀ scratch₀ job level state found trail count width x letter mask g base n total₀ r₀ log scratch total r = base - r
+
+pub +explore-spec : {M : Type 1} → statement M
++explore-spec = close μ-explore λ t. explore-lts.spec (
+  arrive-reads.Asked,
+  arrive-reads.Learnt,
+  number-reads.Asked,
+  number-reads.Learnt,
+  is-passed-reads.Asked,
+  is-passed-reads.Learnt,
+  letter-of-reads.Asked,
+  letter-of-reads.Learnt,
+  mask-of-reads.Asked,
+  mask-of-reads.Learnt,
+  restricted-reads.Asked,
+  restricted-reads.Learnt,
+  first-try-reads.Asked,
+  first-try-reads.Learnt,
+  after-at-reads.Asked,
+  after-at-reads.Learnt,
+  merged-reads.Asked,
+  merged-reads.Learnt,
+  is-fresh-reads.Asked,
+  is-fresh-reads.Learnt,
+  longer-reads.Asked,
+  longer-reads.Learnt,
+  explore-below t,
+  explore.Post,
+  next-match-reads.Asked,
+  next-match-reads.Learnt,
+  pass-reads.Asked,
+  pass-reads.Learnt,
+)
+    (explore-at t)
+    explore.Post
+    explore-Inv-loop
+    explore-μ-loop
+    (λ c κs.
+    let start = c .before .before .before .before .before in
+    let p = start .pre .1 in
+    (p .0, subst (λ (k : ℕ). Standing (start .args .job) (start .args .log .now) k (start .args .state) (start .args .trail)) (c .before .before .if1 .taken) (p .1), p .2, p .3))
+    (λ c.
+    let start = c .before .before .before .before .before .before .before .before .before .before in
+    searched-log _ _ _ _ _ _ _ _ (start .pre .1 .0 .holds) (c .before .before .before .before .arrive .ensures))
+    (λ c. c .before .before .before .before .arrive .ensures .scratch-length)
+    (λ c.
+    let start = c .before .before .before .before .before .before .before .before .before .before in
+    let a = start .args in
+    explored-end (a .job) (a .level) (a .state) (a .found) (a .trail) (a .count) (a .log .now) (a .scratch .now) _ _ _ (start .pre .1 .0) (c .before .before .before .before .before .before .before .if1 .taken) (c .before .before .before .before .arrive .ensures))
+    (λ c κs. search needs)
+    (λ c κs.
+    let p = c .before .before .before .before .before .pre .1 in
+    (omega (arith, p .0 .few, p .1 .within), c .before .number .ensures .1, omega (arith, p .0 .room .room)))
+    (λ c. refl)
+    (λ c.
+    let start = c .before .before .before .before .before .before .before in
+    let a = start .args in
+    let p = start .pre .1 in
+    explored-passed (a .job) (a .level) (a .state) (a .found) (a .trail) (a .count) (a .log .now) (a .scratch .now) _ (p .0) (p .1) (c .before .before .before .before .if1 .left) (p .3) (c .before .before .before .number .ensures .0) (sym (c .before .is-passed .ensures) ∙ c .if2 .taken))
+    (λ c κs. let p = c .before .before .before .before .before .before .before .pre .1 in omega (arith, p .0 .few, p .1 .within, c .before .before .before .before .if1 .left))
+    (λ c κs. let p = c .before .before .before .before .before .before .before .before .pre .1 in omega (arith, p .0 .few, p .1 .within, c .before .before .before .before .before .if1 .left))
+    (λ c κs. search needs)
+    (λ c κs. let w = c .before .before .before .before .before .before .before .before .before .before .before .before .pre .1 .0 in (w .room, w .ringed, w .freshened, w .low))
+    (λ c.
+    let start = c .before .before .before .before .before .before .before .before .before .before .before .before .before in
+    let a = start .args in
+    let p = start .pre .1 in
+    looping-start (a .log .now) (a .scratch .now) (a .job) (a .level) (a .state) (a .found) (a .trail) (a .count) _ _ _ _ _ (p .0) (p .1) (p .2) (p .3) (c .before .before .before .before .before .before .before .before .before .before .if1 .left) (c .before .before .before .before .before .before .before .before .before .number .ensures .0) (c .before .before .before .before .before .letter-of .ensures) (c .before .before .before .before .mask-of .ensures) (c .before .before .before .restricted .ensures) (c .first-try .ensures))
+    (λ c κs. looping-record _ _ _ _ _ _ _ _ _ _ _ _ _ _ _ _ _ _ (c .before .before .loop .inv) (c .before .loop-test .taken))
+    (λ c κs. search needs)
+    (λ c κs. search needs)
+    (λ c κs.
+    let o = c .before .before .before .before .before .before .loop .inv in
+    let h = c .before .before .before .before .before .loop-test .taken in
+    (looping-level _ _ _ _ _ _ _ _ _ _ _ _ _ _ _ _ _ _ o, omega (arith, h, o .is-base, o .ready .room .fits, o .ready .room .short), looping-record _ _ _ _ _ _ _ _ _ _ _ _ _ _ _ _ _ _ o h, omega (arith, o .stands .steps)))
+    (λ c. omega (arith, looping-level _ _ _ _ _ _ _ _ _ _ _ _ _ _ _ _ _ _ (c .before .before .before .before .before .before .before .before .before .loop .inv)))
+    (λ c κs.
+    let at-loop = c .before .before .before .before .before .before .before .before .before in
+    let o = at-loop .loop .inv in
+    let h = c .before .before .before .before .before .before .before .before .loop-test .taken in
+    let e = c .before .before .before .before .before .merged .ensures ∙ ap (λ (y : ℕ). mergedBits (at-loop .before .before .before .before .before .mask-of .result) y (at-loop .before .before .before .before .before .before .before .before .before .before .before .before .before .before .args .state)) (c .before .before .before .before .before .before .after-at .ensures) in (
+      omega (arith, c .before .before .before .before .before .before .before .before .before .before .before .before .before .before .before .before .before .before .before .before .before .before .before .pre .0, o .more),
+      (looping-ready _ _ _ _ _ _ _ _ _ _ _ _ _ _ _ _ _ _ o, looping-stands _ _ _ _ _ _ _ _ _ _ _ _ _ _ _ _ _ _ o h _ _ _ e (c .before .before .before .before .is-fresh .ensures) (c .before .before .longer .ensures), looping-count _ _ _ _ _ _ _ _ _ _ _ _ _ _ _ _ _ _ o .0, looping-count _ _ _ _ _ _ _ _ _ _ _ _ _ _ _ _ _ _ o .1),
+    ))
+    (λ c κs.
+    let at-loop = c .before .before .before .before .before .before .before .before .before .before .before .before .before .before .before .before in
+    let o = at-loop .loop .inv in
+    let h = c .before .before .before .before .before .before .before .before .before .before .before .before .before .before .before .loop-test .taken in
+    let e = c .before .before .before .before .before .before .before .before .before .before .before .before .merged .ensures ∙ ap (λ (y : ℕ). mergedBits (at-loop .before .before .before .before .before .mask-of .result) y (at-loop .before .before .before .before .before .before .before .before .before .before .before .before .before .before .args .state)) (c .before .before .before .before .before .before .before .before .before .before .before .before .before .after-at .ensures) in
+    let d = c .before .before .before .before .before .before .explore .ensures in
+    (next-room _ _ _ _ _ _ _ _ _ _ _ _ _ _ _ _ _ _ o h _ _ _ e (c .before .before .before .before .before .before .before .before .before .before .before .is-fresh .ensures) (c .before .before .before .before .before .before .before .before .before .longer .ensures) _ _ _ d, next-ringed _ _ _ _ _ _ _ _ _ _ _ _ _ _ _ _ _ _ o h _ _ _ e (c .before .before .before .before .before .before .before .before .before .before .before .is-fresh .ensures) (c .before .before .before .before .before .before .before .before .before .longer .ensures) _ _ _ d, h, next-reads _ _ _ _ _ _ _ _ _ _ _ _ _ _ _ _ _ _ o h _ _ _ e (c .before .before .before .before .before .before .before .before .before .before .before .is-fresh .ensures) (c .before .before .before .before .before .before .before .before .before .longer .ensures) _ _ _ d))
+    (λ c. omega (arith, first-at _ _ _ _ (c .next-match .ensures) .low, c .before .before .before .before .before .before .before .before .before .before .before .before .before .before .before .before .loop-test .taken))
+    (λ c.
+    let at-loop = c .before .before .before .before .before .before .before .before .before .before .before .before .before .before .before .before .before in
+    let o = at-loop .loop .inv in
+    let h = c .before .before .before .before .before .before .before .before .before .before .before .before .before .before .before .before .loop-test .taken in
+    let e = c .before .before .before .before .before .before .before .before .before .before .before .before .before .merged .ensures ∙ ap (λ (y : ℕ). mergedBits (at-loop .before .before .before .before .before .mask-of .result) y (at-loop .before .before .before .before .before .before .before .before .before .before .before .before .before .before .args .state)) (c .before .before .before .before .before .before .before .before .before .before .before .before .before .before .after-at .ensures) in
+    looping-again _ _ _ _ _ _ _ _ _ _ _ _ _ _ _ _ _ _ o h _ _ _ e (c .before .before .before .before .before .before .before .before .before .before .before .before .is-fresh .ensures) (c .before .before .before .before .before .before .before .before .before .before .longer .ensures) _ _ _ (c .before .before .before .before .before .before .before .explore .ensures) _ (c .next-match .ensures))
+    (λ c κs. looping-pass _ _ _ _ _ _ _ _ _ _ _ _ _ _ _ _ _ _ (c .before .before .loop .inv))
+    (λ c. looping-log _ _ _ _ _ _ _ _ _ _ _ _ _ _ _ _ _ _ (c .before .before .before .before .before .loop .inv))
+    (λ c. looping-scratch _ _ _ _ _ _ _ _ _ _ _ _ _ _ _ _ _ _ (c .before .before .before .before .before .loop .inv) _ (c .before .before .pass .ensures))
+    (λ c. looping-end _ _ _ _ _ _ _ _ _ _ _ _ _ _ _ _ _ _ (c .before .before .before .before .before .loop .inv) (c .before .before .before .before .loop-test .left) _ (c .before .before .pass .ensures))

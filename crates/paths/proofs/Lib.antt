@@ -1,0 +1,7 @@
+pub mod Arrivals
+pub mod Passing
+pub mod Arriving
+pub mod Glances
+pub mod Extending
+pub mod Turns
+pub mod Looping

@@ -1,0 +1,27 @@
+-- The regions of the scratch by their offsets, as the code has them. A set of state numbers at an offset is bits of the scratch.
+use mathlib.Core.Bool.{Bool, cond}
+use Prim.Native.Nat.{ℕ, _+_, _*_}
+
+-- how many bytes and numbers a set has
+abbrev pub setBytes : ℕ
+setBytes = 512
+
+abbrev pub setNumbers : ℕ
+setNumbers = 4096
+
+abbrev pub seenAt : ℕ
+seenAt = 0
+
+-- the bit of the end x
+abbrev pub seenBit : ℕ → ℕ
+seenBit x = 8 * seenAt + x
+
+abbrev pub passedAt : ℕ
+passedAt = 2424
+
+-- the bit of the state m at a depth, come by with a record of the last round or without one
+abbrev pub passedBit : ℕ → Bool → ℕ → ℕ
+passedBit level found m = 8 * passedAt + (2 * level + cond found 1 0) * setNumbers + m
+
+abbrev pub ringsAt : ℕ
+ringsAt = 34000
