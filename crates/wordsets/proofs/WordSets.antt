@@ -148,7 +148,7 @@ module _ (from to y x rest low high w : ℕ) (s t : List ℕ) (common : ℕ) (se
       let both : (hasBit common j && hasBit (value / 2 ^ (x % 64)) j) ≡ true = sym (bit-and common (value / 2 ^ (x % 64)) j) ∙ b in
       elim (ℕ-discrete w v) [
         | yes e ↦ subst (λ (i : ℕ). inSet next to (64 * (x / 64 + i) + (x % 64 + j)) ≡ true) e
-            (in-word next to (x / 64 + w) (x % 64 + j) ∙ written-bit t target value (x % 64 + j) room l
+            (in-word next to (x / 64 + w) (x % 64 + j) ∙ written-bit 8 t target value (x % 64 + j) room l
             ∙ sym (bit-shr value (x % 64) j) ∙ and-right (hasBit common j) (hasBit (value / 2 ^ (x % 64)) j) both)
         | no e ↦ kept (64 * (x / 64 + v) + (x % 64 + j)) (omega arith) (a .row .shared j v (and-left (hasBit common j) (hasBit (value / 2 ^ (x % 64)) j) both) l p (omega arith))
       ]
