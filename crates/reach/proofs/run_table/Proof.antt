@@ -7,7 +7,7 @@ use Rattle.reach.proofs.run_table.Statement.{statement}
 use Rattle.reach.proofs.run_table.Tie as tie
 use Rattle.reach.proofs.run_table.Reads as reads
 use Rattle.reach.proofs.run_table.Lts as lts
-use Rattle.verdict.proofs.as_u32.Reads as as-u32-reads
+use Rattle.verdict.proofs.figure.Reads as figure-reads
 use Rattle.reach.proofs.fill_log.Reads as fill-log-reads
 use Rattle.reach.proofs.records_in.Reads as records-in-reads
 use Rattle.verdict.proofs.run_limit.Reads as run-limit-reads
@@ -44,8 +44,8 @@ enum-known-count : tie.Need-enum-known-count
 enum-known-count c = search needs
 
 -- src/lib.rt:100:97
-as-u32-requires : tie.Need-as-u32-requires
-as-u32-requires c κs =
+figure-requires : tie.Need-figure-requires
+figure-requires c κs =
     let a = c .before .before .before .before .before .before .before .before .before .before .before .before .before .before .before .before .before .before .before .args in
     let p = c .before .before .before .before .before .before .before .before .before .before .before .before .before .before .before .before .before .before .before .pre in
     rounds-few (a .table .now) (a .t) _ (a .log .now) (a .scratch .now) _ _ _ (c .before .before .before .before .before .before .before .before .before .before .fill-log .ensures) _ _ (c .before .before .before .before .count .given .1)
@@ -55,7 +55,7 @@ run-limit-requires : tie.Need-run-limit-requires
 run-limit-requires c κs =
     let a = c .before .before .before .before .before .before .before .before .before .before .before .before .before .before .before .before .before .before .before .before .args in
     let p = c .before .before .before .before .before .before .before .before .before .before .before .before .before .before .before .before .before .before .before .before .pre in
-    settled-as (a .table .now) (a .t) _ (a .log .now) (a .scratch .now) _ _ _ (c .before .before .before .before .before .before .before .before .before .before .before .fill-log .ensures) _ _ (c .before .before .before .before .before .count .given .1) _ (c .as-u32 .ensures)
+    settled-as (a .table .now) (a .t) _ (a .log .now) (a .scratch .now) _ _ _ (c .before .before .before .before .before .before .before .before .before .before .before .fill-log .ensures) _ _ (c .before .before .before .before .before .count .given .1) _ (c .figure .ensures)
 
 -- src/lib.rt:84:1
 same-length : tie.Need-same-length
@@ -102,7 +102,7 @@ run-table-spec =
     fill-log-requires
     enum-told
     enum-known-count
-    as-u32-requires
+    figure-requires
     run-limit-requires
     same-length
     same-length-2

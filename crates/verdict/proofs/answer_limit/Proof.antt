@@ -13,8 +13,8 @@ find-requires c κs = search needs
 clear-requires : tie.Need-clear-requires
 clear-requires c κs = search needs
 
-as-u32-requires : tie.Need-as-u32-requires
-as-u32-requires c κs = search needs
+figure-requires : tie.Need-figure-requires
+figure-requires c κs = search needs
 
 stated-verdict-requires : tie.Need-stated-verdict-requires
 stated-verdict-requires c κs = search needs
@@ -27,7 +27,7 @@ returns c =
     let a = c .before .before .before .before .before .before .before .before .before .before .before .before .before .args in
     let f = c .before .before .before .before .before .before .before .before .find in
     let given = verdict-stated (c .before .before .before .before .before .before .before .before .before .before .before .before .before .pre) (f .result) (f .last .1 .1 .1 .0) (f .ensures) in
-    (c .stated-verdict .ensures ∙ ap (λ (k : ℕ). stated (f .result) k (a .rounds)) (c .before .as-u32 .ensures) ∙ given, c .before .before .before .before .clear .ensures ∙ zeros-same (f .last .1 .1 .1 .0) (a .scratch .now) (f .kept .1 .1 .1 .0))
+    (c .stated-verdict .ensures ∙ ap (λ (k : ℕ). stated (f .result) k (a .rounds)) (c .before .figure .ensures) ∙ given, c .before .before .before .before .clear .ensures ∙ zeros-same (f .last .1 .1 .1 .0) (a .scratch .now) (f .kept .1 .1 .1 .0))
 
 pub answer-limit-spec : {M : Type 1} → statement M
 answer-limit-spec =
@@ -35,7 +35,7 @@ answer-limit-spec =
     (tie.spec
     find-requires
     clear-requires
-    as-u32-requires
+    figure-requires
     stated-verdict-requires
     same-length
     returns)

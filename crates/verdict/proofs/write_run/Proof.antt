@@ -25,19 +25,19 @@ unfold-requires c κs =
     let w = c .before .before .before .before .before .before .before .before .pre in
     (w .log-of, w .room, run-unfoldable w (a .page .now) (sym (c .before .before .before .is-long .ensures) ∙ c .before .before .if1 .left))
 
-as-usize-requires : tie.Need-as-usize-requires
-as-usize-requires c κs = search needs
+wide-four-requires : tie.Need-wide-four-requires
+wide-four-requires c κs = search needs
 
 clear-unused-requires : tie.Need-clear-unused-requires
 clear-unused-requires c κs =
     let a = c .before .before .before .before .before .before .before .before .before .before .before .before .before .before .before .args in
-    omega (arith, c .as-usize .ensures, c .before .before .before .before .before .before .«unfold» .kept .1 .1 .1 .1 .0, run-room (c .before .before .before .before .before .before .before .before .before .before .before .before .before .before .before .pre) (a .page .now) (sym (c .before .before .before .before .before .before .before .before .before .before .is-long .ensures) ∙ c .before .before .before .before .before .before .before .before .before .if1 .left))
+    omega (arith, c .wide-four .ensures .0, c .before .before .before .before .before .before .«unfold» .kept .1 .1 .1 .1 .0, run-room (c .before .before .before .before .before .before .before .before .before .before .before .before .before .before .before .pre) (a .page .now) (sym (c .before .before .before .before .before .before .before .before .before .before .is-long .ensures) ∙ c .before .before .before .before .before .before .before .before .before .if1 .left))
 
 clear-requires-2 : tie.Need-clear-requires-2
 clear-requires-2 c κs = search needs
 
-as-u32-requires : tie.Need-as-u32-requires
-as-u32-requires c κs = search needs
+figure-requires : tie.Need-figure-requires
+figure-requires c κs = search needs
 
 same-length-2 : tie.Need-same-length-2
 same-length-2 c = search needs
@@ -52,7 +52,7 @@ returns-2 c =
     let p = c .before .before .before .before .before .before .before .clear-unused in
     let z = c .before .before .before .clear2 in
     run-written (c .before .before .before .before .before .before .before .before .before .before .before .before .before .before .before .before .before .before .before .before .before .before .before .pre) (a .page .now) (sym (c .before .before .before .before .before .before .before .before .before .before .before .before .before .before .before .before .before .before .is-long .ensures) ∙ c .before .before .before .before .before .before .before .before .before .before .before .before .before .before .before .before .before .if1 .left) (u .last .1 .1 .1 .1 .0) (p .last .0) (u .last .1 .1 .1 .0) (z .last .0)
-    (c .as-u32 .result) (c .before .before .before .before .before .before .before .before .as-usize .result) (u .result) (u .ensures) (c .before .before .before .before .before .before .before .before .as-usize .ensures) (c .as-u32 .ensures) (p .ensures) (u .kept .1 .1 .1 .0) (z .ensures)
+    (c .figure .result) (c .before .before .before .before .before .before .before .before .wide-four .result) (u .result) (u .ensures) (c .before .before .before .before .before .before .before .before .wide-four .ensures .0) (c .figure .ensures) (p .ensures) (u .kept .1 .1 .1 .0) (z .ensures)
 
 pub write-run-spec : {M : Type 1} → statement M
 write-run-spec =
@@ -63,10 +63,10 @@ write-run-spec =
     same-length
     returns
     unfold-requires
-    as-usize-requires
+    wide-four-requires
     clear-unused-requires
     clear-requires-2
-    as-u32-requires
+    figure-requires
     same-length-2
     same-length-3
     returns-2)
