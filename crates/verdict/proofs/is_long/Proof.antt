@@ -1,12 +1,10 @@
+-- A run is too long for the page or for the call.
 use mathlib.Core.Path.{sym}
 use native.Mathlib.Omega.{arith}
 use Rattle.verdict.proofs.Verdicts.{long-page, long-steps}
 use borrow.Author.Needs.{needs}
 use Rattle.verdict.proofs.is_long.Statement.{statement}
 use Rattle.verdict.proofs.is_long.Tie as tie
-
-wide-four-requires : tie.Need-wide-four-requires
-wide-four-requires c κs = search needs
 
 returns : tie.Need-returns
 returns c =
@@ -21,4 +19,4 @@ returns-2 c =
     sym (long-steps (a .steps) (a .room) (omega (arith, s .ensures .0, c .if1 .left)))
 
 pub is-long-spec : {M : Type 1} → statement M
-is-long-spec = tie.close (tie.spec wide-four-requires returns returns-2)
+is-long-spec = tie.close (tie.spec (λ c κs. search needs) returns returns-2)
