@@ -1,6 +1,8 @@
 // The log of three tables, worked out by hand from document 01. One line for each record, in the order of its 24 bytes: task, before, after,
 // round, rule, path, steps; 255 is a station without part, 65535 no rule or no path place. Then the line of the answer.
 use model::Answered;
+use numbers::as_u32;
+use numbers::as_u64;
 use reach::answer;
 ghost use mathlib.Core.Path.{_≡_};
 ghost use lib.ListN.{length};
@@ -360,22 +362,16 @@ fn print_number(n: u64) {
     io::print_decimal(1, n);
 }
 
-fn wide(x: u8) -> u64
-    ensures { λ r. ⌜ r ≡ x ⌝ }
-{
-    x as u64
-}
-
 fn print_byte(x: u8) {
-    print_number(wide(x));
+    print_number(as_u64(as_u32(x)));
 }
 
 fn print_two(low: u8, high: u8) {
-    print_number(wide(low) + 256 * wide(high));
+    print_number(as_u64(as_u32(low) + 256 * as_u32(high)));
 }
 
 fn print_three(low: u8, middle: u8, high: u8) {
-    print_number(wide(low) + 256 * wide(middle) + 65536 * wide(high));
+    print_number(as_u64(as_u32(low) + 256 * as_u32(middle) + 65536 * as_u32(high)));
 }
 
 fn print_bytes(bytes: &[u8]) {

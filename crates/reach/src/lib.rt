@@ -9,8 +9,8 @@ use table::Parsed;
 use table::Table;
 use table::read;
 use verdict::answer_limit;
-use verdict::as_u32;
 use verdict::clear_behind;
+use verdict::figure;
 use verdict::run_limit;
 ghost use mathlib.Core.Path.{_≡_};
 ghost use Prim.Native.Nat.{ℕ, _+_, _*_, _≤_, _<_};
@@ -82,7 +82,7 @@ fn answer_table(table: &[u8], t: Table, log: &mut [u8], scratch: &mut [u8]) -> A
             scratch,
             n,
             count,
-            as_u32(rounds),
+            figure(rounds),
         ),
     }
 }
@@ -112,7 +112,7 @@ fn run_table(table: &[u8], t: Table, log: &mut [u8], scratch: &mut [u8], page: &
             page,
             n,
             count,
-            as_u32(rounds),
+            figure(rounds),
         ),
     }
 }

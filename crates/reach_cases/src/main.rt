@@ -2,6 +2,7 @@
 // four places, and how many are 0 and how many 7. Every buffer is filled with 7 beforehand.
 use model::Answered;
 use model::Ran;
+use numbers::as_u16;
 use reach::answer;
 use reach::run;
 ghost use mathlib.Core.Path.{_≡_};
@@ -267,12 +268,6 @@ fn one_if(x: u16, y: u16) -> usize
     0
 }
 
-fn wide(x: u8) -> u16
-    ensures { λ r. ⌜ r ≡ x ⌝ }
-{
-    x as u16
-}
-
 fn print_word(x: u16) {
     print_number(x as u64);
 }
@@ -283,7 +278,7 @@ fn print_first_bytes(bytes: &[u8]) {
         if i == 4 {
             break;
         }
-        print_word(wide(bytes[i]));
+        print_word(as_u16(bytes[i]));
         i += 1;
     }
 }
@@ -293,7 +288,7 @@ fn count_bytes(bytes: &[u8], x: u16) -> usize {
     let mut n = 0;
     let mut i = 0;
     while i < bytes.len() {
-        n += one_if(wide(bytes[i]), x);
+        n += one_if(as_u16(bytes[i]), x);
         i += 1;
     }
     n

@@ -3,7 +3,6 @@ use mathlib.Core.Path.{_≡_}
 use mathlib.Core.List.{List, [], _∷_, _++_}
 use Prim.Native.Nat.{ℕ, zero, suc, _+_, _*_, _^_, _<_, _≤_}
 use lib.ListN.{length, getD, take, drop}
-use Rattle.model.specs.declared.Group.{Group}
 use Rattle.model.specs.Groups.{Process, at}
 use Rattle.model.specs.Lists.{Each}
 use Rattle.model.specs.Tables.{writtenPlaces}

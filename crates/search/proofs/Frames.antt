@@ -1,5 +1,5 @@
 -- What a search leaves alone: the earlier records, the chains and the places of ends.
-use mathlib.Core.Path.{_∙_, _≡_, ap, ap₂, refl, sym}
+use mathlib.Core.Path.{_∙_, _≡_, ap, refl, sym}
 use mathlib.Core.Bool.{Bool, cond, true}
 use mathlib.Core.Logic.{_≢_}
 use mathlib.Core.List.{List}

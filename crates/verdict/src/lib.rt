@@ -2,6 +2,7 @@
 use automaton::sets::clear;
 use model::Answered;
 use model::Ran;
+use numbers::wide_four;
 use records::RECORD_LENGTH;
 use start::StartPath;
 use start::find;
@@ -20,17 +21,11 @@ ghost use Rattle.verdict.specs.Verdicts.{stated, Settled, PathOnStack, R
 const LONGEST_RUN: u32 = 1000000;
 
 // A count of records, or a round, as an answer gives it.
-pub fn as_u32(x: usize) -> u32
+pub fn figure(x: usize) -> u32
     requires { ⌜ x ≤ 65535 ⌝ }
     ensures { λ r. ⌜ r ≡ x ⌝ }
 {
     x as u32
-}
-
-fn as_usize(x: u32) -> usize
-    ensures { λ r. ⌜ r ≡ x ⌝ }
-{
-    x as usize
 }
 
 // Zeros behind the first `count` records of the log.
@@ -92,14 +87,14 @@ pub fn answer_limit(
 {
     let path = find(table, t, log, scratch, n, count);
     clear(scratch);
-    stated_verdict(path, as_u32(count), rounds)
+    stated_verdict(path, figure(count), rounds)
 }
 
 // Whether so many steps are no run for a page of this length.
 fn is_long(steps: u32, room: usize) -> bool
     ensures { λ b. ⌜ b ≡ isLong steps room ⌝ }
 {
-    if room < as_usize(steps) {
+    if room < wide_four(steps) {
         return true;
     }
     LONGEST_RUN < steps
@@ -127,10 +122,10 @@ fn write_run(
         };
     }
     let peak = unfold(table, t, log, scratch, page, count, t.pile);
-    clear_unused(page, as_usize(steps));
+    clear_unused(page, wide_four(steps));
     clear(scratch);
     Ran::Reached {
-        transitions: as_u32(count),
+        transitions: figure(count),
         rounds,
         steps,
         peak,

@@ -6,21 +6,9 @@ use borrow.Author.Needs.{needs}
 use Rattle.chains.proofs.bucket.Statement.{statement}
 use Rattle.chains.proofs.bucket.Tie as tie
 
-number-requires : tie.Need-number-requires
-number-requires c κs = search needs
-
-mul-result : tie.Need-mul-result
-mul-result c = search needs
-
-add-result : tie.Need-add-result
-add-result c = search needs
-
-rem-result : tie.Need-rem-result
-rem-result c = search needs
-
 returns : tie.Need-returns
 unfolding bucketOf
 returns c = (rw (c .number .ensures .0) refl, mod-lt (c .number .result * 32 + c .before .args .letter) (c .before .pre))
 
 pub bucket-spec : {M : Type 1} → statement M
-bucket-spec = tie.close (tie.spec number-requires mul-result add-result rem-result returns)
+bucket-spec = tie.close (tie.spec (λ c κs. search needs) (λ c. search needs) (λ c. search needs) (λ c. search needs) returns)

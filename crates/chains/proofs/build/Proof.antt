@@ -3,15 +3,6 @@ use borrow.Author.Needs.{needs}
 use Rattle.chains.proofs.build.Statement.{statement}
 use Rattle.chains.proofs.build.Tie as tie
 
-empty-heads-requires : tie.Need-empty-heads-requires
-empty-heads-requires c κs = search needs
-
-link-records-requires : tie.Need-link-records-requires
-link-records-requires c κs = search needs
-
-same-length : tie.Need-same-length
-same-length c = search needs
-
 returns : tie.Need-returns
 returns c =
     let empty = c .before .before .before .before .before .before .empty-heads in
@@ -19,4 +10,4 @@ returns c =
     (outside-join (empty .ensures .0) (link .ensures .0), link .ensures .1)
 
 pub build-spec : {M : Type 1} → statement M
-build-spec = tie.close (tie.spec empty-heads-requires link-records-requires same-length returns)
+build-spec = tie.close (tie.spec (λ c κs. search needs) (λ c κs. search needs) (λ c. search needs) returns)

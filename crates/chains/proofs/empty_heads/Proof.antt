@@ -1,3 +1,4 @@
+-- The heads are emptied one after the other.
 use Prim.Native.Nat.{_≤_, _-_}
 use Rattle.chains.proofs.Buckets.{Emptying, emptying-start, emptying-turn}
 use native.Mathlib.Omega.{arith}
@@ -13,25 +14,16 @@ abbrev μ-loop : tie.MeasureT-loop
 loop-holds : tie.Need-loop-holds Inv-loop μ-loop
 loop-holds c = let a = c .before .args in (omega arith, emptying-start (a .n) (a .at) (a .scratch .now))
 
-mul-put-two : tie.Need-mul-put-two Inv-loop μ-loop
-mul-put-two c = omega arith
-
-add-put-two : tie.Need-add-put-two Inv-loop μ-loop
-add-put-two c = omega arith
-
 put-two-requires : tie.Need-put-two-requires Inv-loop μ-loop
 put-two-requires c κs = omega (arith, c .before .before .loop .inv .1 .same .size)
 
-add-h : tie.Need-add-h Inv-loop μ-loop
-add-h c = omega arith
-
-loop-less : tie.Need-loop-less Inv-loop μ-loop
-loop-less c = omega arith
-
 loop-again : tie.Need-loop-again Inv-loop μ-loop
 loop-again c =
-    let t = c .before .before .before .before .before .loop in
-    (omega arith, rw (c .before .before .put-two .ensures) (emptying-turn (omega arith) (c .before .before .before .before .before .before .before .pre) (t .inv .1)))
+    let at-put-two = c .before .before in
+    let at-loop = at-put-two .before .before .before in
+    let entry = at-loop .before .before in
+    let t = at-loop .loop in
+    (omega arith, rw (at-put-two .put-two .ensures) (emptying-turn (omega arith) (entry .pre) (t .inv .1)))
 
 same-length : tie.Need-same-length Inv-loop μ-loop
 same-length c = c .before .loop .inv .1 .same .size
@@ -48,11 +40,11 @@ empty-heads-spec =
     Inv-loop
     μ-loop
     loop-holds
-    mul-put-two
-    add-put-two
+    (λ c. omega arith)
+    (λ c. omega arith)
     put-two-requires
-    add-h
-    loop-less
+    (λ c. omega arith)
+    (λ c. omega arith)
     loop-again
     same-length
     returns)

@@ -12,12 +12,6 @@ returns : tie.Need-returns
 unfolding firstFrom
 returns c = rw (c .if1 .taken)
 
-bucket-requires : tie.Need-bucket-requires
-bucket-requires c κs = search needs
-
-link-at-requires : tie.Need-link-at-requires
-link-at-requires c κs = search needs
-
 follow-requires : tie.Need-follow-requires
 follow-requires c κs =
     let a = c .before .before .before .before .before .args in
@@ -37,4 +31,4 @@ returns-2 c =
 
 pub first-match-spec : {M : Type 1} → statement M
 first-match-spec =
-    tie.close (tie.spec returns bucket-requires link-at-requires follow-requires returns-2)
+    tie.close (tie.spec returns (λ c κs. search needs) (λ c κs. search needs) follow-requires returns-2)

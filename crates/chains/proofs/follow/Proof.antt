@@ -22,9 +22,6 @@ returns c =
     let t = c .before .before .before .loop in
     leads-end (omega arith) (λ h. sym (c .before .matches .ensures) ∙ c .if1 .taken) (t .inv)
 
-add-link-at : tie.Need-add-link-at Inv-loop μ-loop
-add-link-at c = omega arith
-
 link-at-requires : tie.Need-link-at-requires Inv-loop μ-loop
 link-at-requires c κs = omega (arith, c .before .before .before .before .before .before .pre .0 .fits, c .before .before .before .before .before .before .pre .0 .room)
 
@@ -60,7 +57,7 @@ follow-spec =
     loop-holds
     matches-requires
     returns
-    add-link-at
+    (λ c. omega arith)
     link-at-requires
     loop-less
     loop-again

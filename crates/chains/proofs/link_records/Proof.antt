@@ -15,17 +15,11 @@ abbrev μ-loop : tie.MeasureT-loop
 loop-holds : tie.Need-loop-holds Inv-loop μ-loop
 loop-holds c = let a = c .before .before .args in chaining-start (a .log .now) (a .base) (a .n) (a .at) (a .scratch .now) (c .before .before .pre .1)
 
-sub-r : tie.Need-sub-r Inv-loop μ-loop
-sub-r c = omega arith
-
 link-record-requires : tie.Need-link-record-requires Inv-loop μ-loop
 link-record-requires c κs =
     let room = c .before .before .before .before .before .pre .0 in
     let t = c .before .before .loop in
     (omega arith, room .short, omega (arith, room .records, t .inv .fits), omega (arith, room .room, t .inv .same .size))
-
-loop-less : tie.Need-loop-less Inv-loop μ-loop
-loop-less c = omega arith
 
 loop-again : tie.Need-loop-again Inv-loop μ-loop
 loop-again c =
@@ -49,9 +43,9 @@ link-records-spec =
     Inv-loop
     μ-loop
     loop-holds
-    sub-r
+    (λ c. omega arith)
     link-record-requires
-    loop-less
+    (λ c. omega arith)
     loop-again
     same-length
     returns)

@@ -5,18 +5,9 @@ use borrow.Author.Needs.{needs}
 use Rattle.chains.proofs.matches.Statement.{statement}
 use Rattle.chains.proofs.matches.Tie as tie
 
-letter-at-requires : tie.Need-letter-at-requires
-letter-at-requires c κs = search needs
-
 returns : tie.Need-returns
 unfolding recordReads
 returns c = rw (← (c .before .letter-at .ensures), ne-eqb _ _ (c .if1 .taken)) refl
-
-before-at-requires : tie.Need-before-at-requires
-before-at-requires c κs = search needs
-
-same-requires : tie.Need-same-requires
-same-requires c κs = search needs
 
 returns-2 : tie.Need-returns-2
 unfolding recordReads
@@ -24,4 +15,4 @@ returns-2 c = rw (← (c .before .before .before .letter-at .ensures), ← (c .b
 
 pub matches-spec : {M : Type 1} → statement M
 matches-spec =
-    tie.close (tie.spec letter-at-requires returns before-at-requires same-requires returns-2)
+    tie.close (tie.spec (λ c κs. search needs) returns (λ c κs. search needs) (λ c κs. search needs) returns-2)

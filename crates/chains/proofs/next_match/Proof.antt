@@ -4,12 +4,6 @@ use borrow.Author.Needs.{needs}
 use Rattle.chains.proofs.next_match.Statement.{statement}
 use Rattle.chains.proofs.next_match.Tie as tie
 
-add-link-at : tie.Need-add-link-at
-add-link-at c = search needs
-
-link-at-requires : tie.Need-link-at-requires
-link-at-requires c κs = search needs
-
 follow-requires : tie.Need-follow-requires
 follow-requires c κs =
     let a = c .before .before .before .args in
@@ -27,4 +21,4 @@ returns c =
     rw (add-one (a .r)) (leads-first found (c .follow .ensures))
 
 pub next-match-spec : {M : Type 1} → statement M
-next-match-spec = tie.close (tie.spec add-link-at link-at-requires follow-requires returns)
+next-match-spec = tie.close (tie.spec (λ c. search needs) (λ c κs. search needs) follow-requires returns)

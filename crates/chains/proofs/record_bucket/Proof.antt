@@ -3,19 +3,10 @@ use borrow.Author.Needs.{needs}
 use Rattle.chains.proofs.record_bucket.Statement.{statement}
 use Rattle.chains.proofs.record_bucket.Tie as tie
 
-before-at-requires : tie.Need-before-at-requires
-before-at-requires c κs = search needs
-
-letter-at-requires : tie.Need-letter-at-requires
-letter-at-requires c κs = search needs
-
-bucket-requires : tie.Need-bucket-requires
-bucket-requires c κs = search needs
-
 returns : tie.Need-returns
 unfolding recordBucket
 returns c = (rw (← (c .before .letter-at .ensures), ← (c .before .before .before-at .ensures)) (c .bucket .ensures .0), c .bucket .ensures .1)
 
 pub record-bucket-spec : {M : Type 1} → statement M
 record-bucket-spec =
-    tie.close (tie.spec before-at-requires letter-at-requires bucket-requires returns)
+    tie.close (tie.spec (λ c κs. search needs) (λ c κs. search needs) (λ c κs. search needs) returns)

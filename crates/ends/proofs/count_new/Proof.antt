@@ -17,24 +17,9 @@ loop-holds : tie.Need-loop-holds Inv-loop μ-loop
 loop-holds c =
     blocks-start (c .before .args .scratch .now)
 
-mul-count-equal : tie.Need-mul-count-equal Inv-loop μ-loop
-mul-count-equal c = omega arith
-
 count-equal-requires : tie.Need-count-equal-requires Inv-loop μ-loop
 count-equal-requires c κs =
     (omega (arith, c .loop-test .taken, c .before .before .before .pre), omega arith)
-
-cast-m : tie.Need-cast-m Inv-loop μ-loop
-cast-m c = search needs
-
-add-m : tie.Need-add-m Inv-loop μ-loop
-add-m c = omega arith
-
-add-b : tie.Need-add-b Inv-loop μ-loop
-add-b c = omega arith
-
-loop-less : tie.Need-loop-less Inv-loop μ-loop
-loop-less c = omega arith
 
 loop-again : tie.Need-loop-again Inv-loop μ-loop
 loop-again c =
@@ -53,11 +38,11 @@ count-new-spec =
     Inv-loop
     μ-loop
     loop-holds
-    mul-count-equal
+    (λ c. omega arith)
     count-equal-requires
-    cast-m
-    add-m
-    add-b
-    loop-less
+    (λ c. search needs)
+    (λ c. omega arith)
+    (λ c. omega arith)
+    (λ c. omega arith)
     loop-again
     returns)

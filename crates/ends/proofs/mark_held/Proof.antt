@@ -27,9 +27,6 @@ after-at-requires c κs =
     let t = c .before .loop in
     marking-record (a .log .now) (a .base) (a .letter) (a .g) (a .n) (a .scratch .now) (t .scratch) (t .r) (t .inv) (c .loop-test .taken)
 
-number-requires : tie.Need-number-requires Inv-loop μ-loop
-number-requires c κs = search needs
-
 slice-write-scratch : tie.Need-slice-write-scratch Inv-loop μ-loop
 slice-write-scratch c = omega (arith, c .before .before .before .loop .inv .room .room, c .number .ensures .1)
 
@@ -71,7 +68,7 @@ mark-held-spec =
     first-match-requires
     loop-holds
     after-at-requires
-    number-requires
+    (λ c κs. search needs)
     slice-write-scratch
     next-match-requires
     loop-less

@@ -1,3 +1,4 @@
+-- An end that is new gets the next place.
 use mathlib.Core.Path.{_∙_, ap, sym}
 use Prim.Native.Nat.{_+_, ℕ}
 use Rattle.ends.proofs.EndLoops.{one-new, one-old, own-new, own-old}
@@ -6,32 +7,23 @@ use borrow.Author.Needs.{needs}
 use Rattle.ends.proofs.place_one.Statement.{statement}
 use Rattle.ends.proofs.place_one.Tie as tie
 
-slice-read-if1 : tie.Need-slice-read-if1
-slice-read-if1 c = search needs
-
-mul-put-two : tie.Need-mul-put-two
-mul-put-two c = search needs
-
-add-put-two : tie.Need-add-put-two
-add-put-two c = search needs
-
 cast-put-two : tie.Need-cast-put-two
 cast-put-two c = omega (arith, c .before .before .before .before .pre .2 (c .before .if1 .taken))
 
-put-two-requires : tie.Need-put-two-requires
-put-two-requires c κs = search needs
-
 add-result : tie.Need-add-result
-add-result c = omega (arith, c .before .before .before .before .before .before .before .pre .2 (c .before .before .before .before .if1 .taken))
-
-same-length : tie.Need-same-length
-same-length c = search needs
+add-result c =
+    let at-if1 = c .before .before .before .before in
+    let entry = at-if1 .before .before .before in
+    omega (arith, entry .pre .2 (at-if1 .if1 .taken))
 
 returns : tie.Need-returns
 returns c =
-    let a = c .before .before .before .before .before .before .before .args in
-    let t = c .before .before .before .before .if1 .taken in
-    (c .before .before .put-two .ensures ∙ sym (own-new (a .scratch .now) (a .x) (a .place) t), ap (λ (k : ℕ). a .place + k) (sym (one-new _ t)))
+    let at-put-two = c .before .before in
+    let at-if1 = at-put-two .before .before in
+    let entry = at-if1 .before .before .before in
+    let a = entry .args in
+    let t = at-if1 .if1 .taken in
+    (at-put-two .put-two .ensures ∙ sym (own-new (a .scratch .now) (a .x) (a .place) t), ap (λ (k : ℕ). a .place + k) (sym (one-new _ t)))
 
 returns-2 : tie.Need-returns-2
 returns-2 c =
@@ -42,12 +34,12 @@ pub place-one-spec : {M : Type 1} → statement M
 place-one-spec =
     tie.close
     (tie.spec
-    slice-read-if1
-    mul-put-two
-    add-put-two
+    (λ c. search needs)
+    (λ c. search needs)
+    (λ c. search needs)
     cast-put-two
-    put-two-requires
+    (λ c κs. search needs)
     add-result
-    same-length
+    (λ c. search needs)
     returns
     returns-2)

@@ -10,11 +10,15 @@ use Rattle.numbers.proofs.eight_at.Tie as tie
 returns : tie.Need-returns
 unfolding numberAt
 returns c =
-    let a = c .before .before .before .before .before .args in
-    let low : c .before .before .before .four-at .result ≡ numberAt 4 (a .s .now) (a .i) = c .before .before .before .four-at .ensures in
+    let at-four-at2 = c .before in
+    let at-as-u64 = at-four-at2 .before in
+    let at-four-at = at-as-u64 .before in
+    let entry = at-four-at .before .before in
+    let a = entry .args in
+    let low : at-four-at .four-at .result ≡ numberAt 4 (a .s .now) (a .i) = at-four-at .four-at .ensures in
     let e : a .i + 4 ≡ suc (suc (suc (suc (a .i)))) = omega arith in
-    let high : c .before .four-at2 .result ≡ numberAt 4 (a .s .now) (suc (suc (suc (suc (a .i))))) = c .before .four-at2 .ensures ∙ ap (λ (k : ℕ). numberAt 4 (a .s .now) k) e in
-    omega (arith, c .before .before .as-u64 .ensures .0, c .as-u642 .ensures .0)
+    let high : at-four-at2 .four-at2 .result ≡ numberAt 4 (a .s .now) (suc (suc (suc (suc (a .i))))) = at-four-at2 .four-at2 .ensures ∙ ap (λ (k : ℕ). numberAt 4 (a .s .now) k) e in
+    omega (arith, at-as-u64 .as-u64 .ensures .0, c .as-u642 .ensures .0)
 
 pub eight-at-spec : {M : Type 1} → statement M
 eight-at-spec =

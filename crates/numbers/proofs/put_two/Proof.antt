@@ -1,3 +1,4 @@
+-- Two bytes are written as one number.
 use native.Mathlib.Numerals.{add-one}
 use native.Mathlib.Omega.{arith}
 use lib.ListN.{length-set}

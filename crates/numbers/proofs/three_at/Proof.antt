@@ -1,3 +1,4 @@
+-- Three bytes are read as one number.
 use mathlib.Core.Path.{_≡_, ap}
 use Prim.Native.Nat.{ℕ, suc, _+_}
 use lib.ListN.{getD}

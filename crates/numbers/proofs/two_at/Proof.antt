@@ -1,3 +1,4 @@
+-- Two bytes are read as one number.
 use mathlib.Core.Path.{_≡_}
 use Prim.Native.Nat.{suc, _+_}
 use lib.ListN.{getD}

@@ -14,11 +14,11 @@ abbrev μ-loop : tie.MeasureT-loop
 loop-holds : tie.Need-loop-holds Inv-loop μ-loop
 loop-holds c = omega arith
 
-shared-slice-read-wide : tie.Need-shared-slice-read-wide Inv-loop μ-loop
-shared-slice-read-wide c = omega arith
+shared-slice-read-as-u16 : tie.Need-shared-slice-read-as-u16 Inv-loop μ-loop
+shared-slice-read-as-u16 c = omega arith
 
-wide-requires : tie.Need-wide-requires Inv-loop μ-loop
-wide-requires c κs = search needs
+as-u16-requires : tie.Need-as-u16-requires Inv-loop μ-loop
+as-u16-requires c κs = search needs
 
 print-word-requires : tie.Need-print-word-requires Inv-loop μ-loop
 print-word-requires c κs = search needs
@@ -45,8 +45,8 @@ print-first-bytes-spec =
     Inv-loop
     μ-loop
     loop-holds
-    shared-slice-read-wide
-    wide-requires
+    shared-slice-read-as-u16
+    as-u16-requires
     print-word-requires
     add-i
     loop-less

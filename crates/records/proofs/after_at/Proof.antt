@@ -1,3 +1,4 @@
+-- The states after, read from a record.
 use Rattle.model.specs.Records.{afterAt}
 use borrow.Author.Needs.{needs}
 use Rattle.records.proofs.after_at.Statement.{statement}

@@ -1,3 +1,4 @@
+-- The states before, read from a record.
 use Rattle.model.specs.Records.{beforeAt}
 use borrow.Author.Needs.{needs}
 use Rattle.records.proofs.before_at.Statement.{statement}

@@ -1,3 +1,4 @@
+-- A group is read from four bytes.
 use mathlib.Core.Path.{refl}
 use Rattle.model.specs.Records.{groupAt}
 use borrow.Author.Needs.{needs}

@@ -1,3 +1,4 @@
+-- The letter, read from a record.
 use mathlib.Core.Path.{refl}
 use Rattle.model.specs.Records.{letterAt}
 use borrow.Author.Needs.{needs}

@@ -1,3 +1,4 @@
+-- A place of the path, read from a record.
 use Rattle.model.specs.Records.{placeAt}
 use borrow.Author.Needs.{needs}
 use Rattle.records.proofs.place_at.Statement.{statement}

@@ -1,3 +1,4 @@
+-- A transition is written as nine bytes.
 use mathlib.Core.List.{_∷_, _++_}
 use Rattle.model.specs.Records.{groupBytes}
 use Rattle.records.proofs.Parts.{all-set}

@@ -1,3 +1,4 @@
+-- A record is written where it stands in the log.
 use mathlib.Core.Path.{refl}
 use Prim.Native.Nat.{_*_}
 use Rattle.model.specs.Records.{recordLength}

@@ -1,3 +1,4 @@
+-- The round, read from a record.
 use Rattle.model.specs.Records.{roundAt}
 use borrow.Author.Needs.{needs}
 use Rattle.records.proofs.round_at.Statement.{statement}

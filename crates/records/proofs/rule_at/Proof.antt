@@ -1,3 +1,4 @@
+-- The rule, read from a record.
 use Rattle.model.specs.Records.{ruleAt}
 use borrow.Author.Needs.{needs}
 use Rattle.records.proofs.rule_at.Statement.{statement}

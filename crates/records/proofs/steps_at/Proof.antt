@@ -1,3 +1,4 @@
+-- The steps, read from a record.
 use Rattle.model.specs.Records.{stepsAt}
 use borrow.Author.Needs.{needs}
 use Rattle.records.proofs.steps_at.Statement.{statement}

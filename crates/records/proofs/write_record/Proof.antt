@@ -1,5 +1,5 @@
 -- The parts of a record are written from its front to its end.
-use mathlib.Core.Path.{_≡_, refl}
+use mathlib.Core.Path.{refl}
 use Prim.Native.Nat.{_*_, _≤_}
 use Rattle.model.specs.Tables.{writtenPlaces}
 use Rattle.model.specs.Records.{recordLength}

@@ -1,33 +1,22 @@
 use mathlib.Core.Path.{_≡_}
 use Rattle.search.specs.Jobs.{withPlace}
 use native.Mathlib.Omega.{arith}
-use lib.ListN.{length, length-set}
 use borrow.Author.Needs.{needs}
 use Rattle.search.proofs.with_place.Statement.{statement}
 use Rattle.search.proofs.with_place.Tie as tie
-use Rattle.search.proofs.with_place.Reads as reads
-use Rattle.search.proofs.with_place.Lts as lts
 
--- src/lib.rt:97:13
-cast-x : tie.Need-cast-x
-cast-x c = search needs
-
--- src/lib.rt:99:9
 returns : tie.Need-returns
 unfolding withPlace
 returns c = rw (c .if1 .taken)
 
--- src/lib.rt:102:9
 returns-2 : tie.Need-returns-2
 unfolding withPlace
 returns-2 c = rw (c .if2 .taken)
 
--- src/lib.rt:105:9
 returns-3 : tie.Need-returns-3
 unfolding withPlace
 returns-3 c = rw (c .if3 .taken)
 
--- src/lib.rt:93:1
 returns-4 : tie.Need-returns-4
 unfolding withPlace
 returns-4 c =
@@ -35,4 +24,4 @@ returns-4 c =
     rw last
 
 pub with-place-spec : {M : Type 1} → statement M
-with-place-spec = tie.close (tie.spec cast-x returns returns-2 returns-3 returns-4)
+with-place-spec = tie.close (tie.spec (λ c. search needs) returns returns-2 returns-3 returns-4)

@@ -12,17 +12,11 @@ abbrev μ-loop : tie.MeasureT-loop
 loop-holds : tie.Need-loop-holds Inv-loop μ-loop
 loop-holds c = let a = c .before .before .args in pushing-start (a .log .now) (a .scratch .now) (a .top) (a .x)
 
-sub-j : tie.Need-sub-j Inv-loop μ-loop
-sub-j c = omega arith
-
 place-at-requires : tie.Need-place-at-requires Inv-loop μ-loop
 place-at-requires c κs = (c .before .before .before .before .pre .0, omega (arith, c .before .loop .inv .left))
 
 push-place-requires : tie.Need-push-place-requires Inv-loop μ-loop
 push-place-requires c κs = rw (c .before .place-at .ensures) (pushing-room (c .before .before .loop-test .taken) (c .before .before .before .before .before .before .pre .1) (c .before .before .before .loop .inv))
-
-loop-less : tie.Need-loop-less Inv-loop μ-loop
-loop-less c = omega arith
 
 loop-again : tie.Need-loop-again Inv-loop μ-loop
 loop-again c = pushing-turn (c .before .before .before .before .before .loop-test .taken) (c .before .before .before .before .before .before .loop .inv) (rw (c .before .before .before .before .place-at .ensures) at (c .before .before .push-place .ensures))
@@ -40,10 +34,10 @@ push-path-spec =
     Inv-loop
     μ-loop
     loop-holds
-    sub-j
+    (λ c. omega arith)
     place-at-requires
     push-place-requires
-    loop-less
+    (λ c. omega arith)
     loop-again
     same-length
     returns)

@@ -17,12 +17,6 @@ put-number-requires c κs =
     let one : length (placed (a .place) []) ≡ 1 = ap length (placed-some (a .place) [] (c .before .if1 .left)) in
     omega arith
 
-add-result : tie.Need-add-result
-add-result c = search needs
-
-same-length : tie.Need-same-length
-same-length c = search needs
-
 returns-2 : tie.Need-returns-2
 returns-2 c =
     let a = c .before .before .before .before .before .before .args in
@@ -30,4 +24,4 @@ returns-2 c =
     rw (c .before .before .put-number .ensures) (pushed-some (a .scratch .now) (a .top) (a .place) (c .before .before .before .before .if1 .left) (omega arith) (omega arith))
 
 pub push-place-spec : {M : Type 1} → statement M
-push-place-spec = tie.close (tie.spec returns put-number-requires add-result same-length returns-2)
+push-place-spec = tie.close (tie.spec returns put-number-requires (λ c. search needs) (λ c. search needs) returns-2)

@@ -7,21 +7,6 @@ use Rattle.unfold.specs.Turns.{topRecord, Replaceable, Replaced}
 use Rattle.unfold.proofs.work_one.Statement.{statement}
 use Rattle.unfold.proofs.work_one.Tie as tie
 
-sub-number-at : tie.Need-sub-number-at
-sub-number-at c = search needs
-
-number-at-requires : tie.Need-number-at-requires
-number-at-requires c κs = search needs
-
-round-at-requires : tie.Need-round-at-requires
-round-at-requires c κs = search needs
-
-sub-t13 : tie.Need-sub-t13
-sub-t13 c = search needs
-
-same-length : tie.Need-same-length
-same-length c = search needs
-
 returns : tie.Need-returns
 returns c =
     let a = c .before .before .before .before .before .before .before .before .before .before .args in
@@ -42,12 +27,6 @@ replace-requires c κs =
       subst (λ (y : ℕ). Replaceable (a .table .now) (a .t) (a .log .now) (a .scratch .now) (a .page .now) (a .w) y) x (p .replaceable more),
     )
 
-same-length-2 : tie.Need-same-length-2
-same-length-2 c = search needs
-
-same-length-3 : tie.Need-same-length-3
-same-length-3 c = search needs
-
 returns-2 : tie.Need-returns-2
 returns-2 c =
     let a = c .before .before .before .before .before .before .before .before .before .before .before .before .before .before .before .before .args in
@@ -62,13 +41,13 @@ pub work-one-spec : {M : Type 1} → statement M
 work-one-spec =
     tie.close
     (tie.spec
-    sub-number-at
-    number-at-requires
-    round-at-requires
-    sub-t13
-    same-length
+    (λ c. search needs)
+    (λ c κs. search needs)
+    (λ c κs. search needs)
+    (λ c. search needs)
+    (λ c. search needs)
     returns
     replace-requires
-    same-length-2
-    same-length-3
+    (λ c. search needs)
+    (λ c. search needs)
     returns-2)

@@ -1,3 +1,4 @@
+-- The verdict where the log holds the limit.
 use mathlib.Core.Path.{ap, _∙_}
 use Prim.Native.Nat.{ℕ}
 use Rattle.verdict.specs.Verdicts.{stated}
@@ -7,35 +8,23 @@ use borrow.Author.Needs.{needs}
 use Rattle.verdict.proofs.answer_limit.Statement.{statement}
 use Rattle.verdict.proofs.answer_limit.Tie as tie
 
-find-requires : tie.Need-find-requires
-find-requires c κs = search needs
-
-clear-requires : tie.Need-clear-requires
-clear-requires c κs = search needs
-
-as-u32-requires : tie.Need-as-u32-requires
-as-u32-requires c κs = search needs
-
-stated-verdict-requires : tie.Need-stated-verdict-requires
-stated-verdict-requires c κs = search needs
-
-same-length : tie.Need-same-length
-same-length c = search needs
-
 returns : tie.Need-returns
 returns c =
-    let a = c .before .before .before .before .before .before .before .before .before .before .before .before .before .args in
-    let f = c .before .before .before .before .before .before .before .before .find in
-    let given = verdict-stated (c .before .before .before .before .before .before .before .before .before .before .before .before .before .pre) (f .result) (f .last .1 .1 .1 .0) (f .ensures) in
-    (c .stated-verdict .ensures ∙ ap (λ (k : ℕ). stated (f .result) k (a .rounds)) (c .before .as-u32 .ensures) ∙ given, c .before .before .before .before .clear .ensures ∙ zeros-same (f .last .1 .1 .1 .0) (a .scratch .now) (f .kept .1 .1 .1 .0))
+    let at-clear = c .before .before .before .before in
+    let at-find = at-clear .before .before .before .before in
+    let entry = at-find .before .before .before .before .before in
+    let a = entry .args in
+    let f = at-find .find in
+    let given = verdict-stated (entry .pre) (f .result) (f .last .1 .1 .1 .0) (f .ensures) in
+    (c .stated-verdict .ensures ∙ ap (λ (k : ℕ). stated (f .result) k (a .rounds)) (c .before .figure .ensures) ∙ given, at-clear .clear .ensures ∙ zeros-same (f .last .1 .1 .1 .0) (a .scratch .now) (f .kept .1 .1 .1 .0))
 
 pub answer-limit-spec : {M : Type 1} → statement M
 answer-limit-spec =
     tie.close
     (tie.spec
-    find-requires
-    clear-requires
-    as-u32-requires
-    stated-verdict-requires
-    same-length
+    (λ c κs. search needs)
+    (λ c κs. search needs)
+    (λ c κs. search needs)
+    (λ c κs. search needs)
+    (λ c. search needs)
     returns)

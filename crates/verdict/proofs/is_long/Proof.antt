@@ -1,3 +1,4 @@
+-- A run is too long for the page or for the call.
 use mathlib.Core.Path.{sym}
 use native.Mathlib.Omega.{arith}
 use Rattle.verdict.proofs.Verdicts.{long-page, long-steps}
@@ -5,20 +6,17 @@ use borrow.Author.Needs.{needs}
 use Rattle.verdict.proofs.is_long.Statement.{statement}
 use Rattle.verdict.proofs.is_long.Tie as tie
 
-as-usize-requires : tie.Need-as-usize-requires
-as-usize-requires c κs = search needs
-
 returns : tie.Need-returns
 returns c =
     let a = c .before .before .args in
-    let s = c .before .as-usize in
-    sym (long-page (a .steps) (a .room) (omega (arith, s .ensures, c .if1 .taken)))
+    let s = c .before .wide-four in
+    sym (long-page (a .steps) (a .room) (omega (arith, s .ensures .0, c .if1 .taken)))
 
 returns-2 : tie.Need-returns-2
 returns-2 c =
     let a = c .before .before .args in
-    let s = c .before .as-usize in
-    sym (long-steps (a .steps) (a .room) (omega (arith, s .ensures, c .if1 .left)))
+    let s = c .before .wide-four in
+    sym (long-steps (a .steps) (a .room) (omega (arith, s .ensures .0, c .if1 .left)))
 
 pub is-long-spec : {M : Type 1} → statement M
-is-long-spec = tie.close (tie.spec as-usize-requires returns returns-2)
+is-long-spec = tie.close (tie.spec (λ c κs. search needs) returns returns-2)

@@ -3,17 +3,8 @@ use borrow.Author.Needs.{needs}
 use Rattle.verdict.proofs.run_limit.Statement.{statement}
 use Rattle.verdict.proofs.run_limit.Tie as tie
 
-find-requires : tie.Need-find-requires
-find-requires c κs = search needs
-
 enum-told : tie.Need-enum-told
 enum-told c = search needs
-
-clear-requires : tie.Need-clear-requires
-clear-requires c κs = search needs
-
-same-length : tie.Need-same-length
-same-length c = search needs
 
 returns : tie.Need-returns
 returns c =
@@ -22,20 +13,11 @@ returns c =
     let z = c .before .before .clear in
     run-none (c .before .before .before .before .before .before .before .before .before .before .before .before .before .before .pre) (f .result) (f .last .1 .1 .1 .0) (f .ensures) (f .kept .1 .1 .1 .0) (a .page .now) (z .last .0) (c .before .before .before .before .enum-told .given .1) (z .ensures)
 
-enum-known-steps : tie.Need-enum-known-steps
-enum-known-steps c = search needs
-
 write-run-requires : tie.Need-write-run-requires
 write-run-requires c κs =
     let f = c .before .before .before .before .before .before .before .find in
     let p = c .before .before .before .steps .given in
     path-stacked (c .before .before .before .before .before .before .before .before .before .before .before .before .before .pre) (f .result) (f .last .1 .1 .1 .0) (f .ensures) (f .kept .1 .1 .1 .0) (p .0 .0) (p .1)
-
-same-length-2 : tie.Need-same-length-2
-same-length-2 c = search needs
-
-same-length-3 : tie.Need-same-length-3
-same-length-3 c = search needs
 
 returns-2 : tie.Need-returns-2
 returns-2 c =
@@ -46,13 +28,13 @@ pub run-limit-spec : {M : Type 1} → statement M
 run-limit-spec =
     tie.close
     (tie.spec
-    find-requires
+    (λ c κs. search needs)
     enum-told
-    clear-requires
-    same-length
+    (λ c κs. search needs)
+    (λ c. search needs)
     returns
-    enum-known-steps
+    (λ c. search needs)
     write-run-requires
-    same-length-2
-    same-length-3
+    (λ c. search needs)
+    (λ c. search needs)
     returns-2)

@@ -1,3 +1,4 @@
+-- The run of a path is written to the page, with its figures.
 use mathlib.Core.Path.{sym, _∙_}
 use native.Mathlib.Omega.{arith}
 use Rattle.verdict.proofs.Verdicts.{run-long, run-room, run-unfoldable, run-written}
@@ -5,68 +6,62 @@ use borrow.Author.Needs.{needs}
 use Rattle.verdict.proofs.write_run.Statement.{statement}
 use Rattle.verdict.proofs.write_run.Tie as tie
 
-is-long-requires : tie.Need-is-long-requires
-is-long-requires c κs = search needs
-
-clear-requires : tie.Need-clear-requires
-clear-requires c κs = search needs
-
-same-length : tie.Need-same-length
-same-length c = search needs
-
 returns : tie.Need-returns
 returns c =
-    let a = c .before .before .before .before .before .before .before .before .before .before .args in
-    run-long (c .before .before .before .before .before .before .before .before .before .before .pre) (a .page .now) (sym (c .before .before .before .before .before .is-long .ensures) ∙ c .before .before .before .before .if1 .taken) (c .before .before .clear .last .0) (c .before .before .clear .ensures)
+    let at-clear = c .before .before in
+    let at-if1 = at-clear .before .before in
+    let at-is-long = at-if1 .before in
+    let entry = at-is-long .before .before .before .before .before in
+    let a = entry .args in
+    run-long (entry .pre) (a .page .now) (sym (at-is-long .is-long .ensures) ∙ at-if1 .if1 .taken) (at-clear .clear .last .0) (at-clear .clear .ensures)
 
 unfold-requires : tie.Need-unfold-requires
 unfold-requires c κs =
-    let a = c .before .before .before .before .before .before .before .before .args in
-    let w = c .before .before .before .before .before .before .before .before .pre in
-    (w .log-of, w .room, run-unfoldable w (a .page .now) (sym (c .before .before .before .is-long .ensures) ∙ c .before .before .if1 .left))
-
-as-usize-requires : tie.Need-as-usize-requires
-as-usize-requires c κs = search needs
+    let at-if1 = c .before .before in
+    let at-is-long = at-if1 .before in
+    let entry = at-is-long .before .before .before .before .before in
+    let a = entry .args in
+    let w = entry .pre in
+    (w .log-of, w .room, run-unfoldable w (a .page .now) (sym (at-is-long .is-long .ensures) ∙ at-if1 .if1 .left))
 
 clear-unused-requires : tie.Need-clear-unused-requires
 clear-unused-requires c κs =
-    let a = c .before .before .before .before .before .before .before .before .before .before .before .before .before .before .before .args in
-    omega (arith, c .as-usize .ensures, c .before .before .before .before .before .before .«unfold» .kept .1 .1 .1 .1 .0, run-room (c .before .before .before .before .before .before .before .before .before .before .before .before .before .before .before .pre) (a .page .now) (sym (c .before .before .before .before .before .before .before .before .before .before .is-long .ensures) ∙ c .before .before .before .before .before .before .before .before .before .if1 .left))
-
-clear-requires-2 : tie.Need-clear-requires-2
-clear-requires-2 c κs = search needs
-
-as-u32-requires : tie.Need-as-u32-requires
-as-u32-requires c κs = search needs
-
-same-length-2 : tie.Need-same-length-2
-same-length-2 c = search needs
-
-same-length-3 : tie.Need-same-length-3
-same-length-3 c = search needs
+    let at-unfold = c .before .before .before .before .before .before in
+    let at-if1 = at-unfold .before .before .before in
+    let at-is-long = at-if1 .before in
+    let entry = at-is-long .before .before .before .before .before in
+    let a = entry .args in
+    omega (arith, c .wide-four .ensures .0, at-unfold .«unfold» .kept .1 .1 .1 .1 .0, run-room (entry .pre) (a .page .now) (sym (at-is-long .is-long .ensures) ∙ at-if1 .if1 .left))
 
 returns-2 : tie.Need-returns-2
 returns-2 c =
-    let a = c .before .before .before .before .before .before .before .before .before .before .before .before .before .before .before .before .before .before .before .before .before .before .before .args in
-    let u = c .before .before .before .before .before .before .before .before .before .before .before .before .before .before .«unfold» in
-    let p = c .before .before .before .before .before .before .before .clear-unused in
-    let z = c .before .before .before .clear2 in
-    run-written (c .before .before .before .before .before .before .before .before .before .before .before .before .before .before .before .before .before .before .before .before .before .before .before .pre) (a .page .now) (sym (c .before .before .before .before .before .before .before .before .before .before .before .before .before .before .before .before .before .before .is-long .ensures) ∙ c .before .before .before .before .before .before .before .before .before .before .before .before .before .before .before .before .before .if1 .left) (u .last .1 .1 .1 .1 .0) (p .last .0) (u .last .1 .1 .1 .0) (z .last .0)
-    (c .as-u32 .result) (c .before .before .before .before .before .before .before .before .as-usize .result) (u .result) (u .ensures) (c .before .before .before .before .before .before .before .before .as-usize .ensures) (c .as-u32 .ensures) (p .ensures) (u .kept .1 .1 .1 .0) (z .ensures)
+    let at-clear2 = c .before .before .before in
+    let at-clear-unused = at-clear2 .before .before .before .before in
+    let at-wide-four = at-clear-unused .before in
+    let at-unfold = at-wide-four .before .before .before .before .before .before in
+    let at-if1 = at-unfold .before .before .before in
+    let at-is-long = at-if1 .before in
+    let entry = at-is-long .before .before .before .before .before in
+    let a = entry .args in
+    let u = at-unfold .«unfold» in
+    let p = at-clear-unused .clear-unused in
+    let z = at-clear2 .clear2 in
+    run-written (entry .pre) (a .page .now) (sym (at-is-long .is-long .ensures) ∙ at-if1 .if1 .left) (u .last .1 .1 .1 .1 .0) (p .last .0) (u .last .1 .1 .1 .0) (z .last .0)
+    (c .figure .result) (at-wide-four .wide-four .result) (u .result) (u .ensures) (at-wide-four .wide-four .ensures .0) (c .figure .ensures) (p .ensures) (u .kept .1 .1 .1 .0) (z .ensures)
 
 pub write-run-spec : {M : Type 1} → statement M
 write-run-spec =
     tie.close
     (tie.spec
-    is-long-requires
-    clear-requires
-    same-length
+    (λ c κs. search needs)
+    (λ c κs. search needs)
+    (λ c. search needs)
     returns
     unfold-requires
-    as-usize-requires
+    (λ c κs. search needs)
     clear-unused-requires
-    clear-requires-2
-    as-u32-requires
-    same-length-2
-    same-length-3
+    (λ c κs. search needs)
+    (λ c κs. search needs)
+    (λ c. search needs)
+    (λ c. search needs)
     returns-2)

@@ -5,18 +5,6 @@ use borrow.Author.Needs.{needs}
 use Rattle.walk.proofs.place_start.Statement.{statement}
 use Rattle.walk.proofs.place_start.Tie as tie
 
-start-group-requires : tie.Need-start-group-requires
-start-group-requires c κs = search needs
-
-sub-top : tie.Need-sub-top
-sub-top c = search needs
-
-write-start-requires : tie.Need-write-start-requires
-write-start-requires c κs = search needs
-
-same-length : tie.Need-same-length
-same-length c = search needs
-
 returns : tie.Need-returns
 returns c =
     let s = c .before .before .before .before .before .before .before in
@@ -25,4 +13,4 @@ returns c =
 
 pub place-start-spec : {M : Type 1} → statement M
 place-start-spec =
-    tie.close (tie.spec start-group-requires sub-top write-start-requires same-length returns)
+    tie.close (tie.spec (λ c κs. search needs) (λ c. search needs) (λ c κs. search needs) (λ c. search needs) returns)

@@ -9,14 +9,8 @@ use Rattle.walk.proofs.take_step.Tie as tie
 returns : tie.Need-returns
 returns c = step-none (c .before .before .before .args .table .now) (c .before .before .before .args .t) (c .before .before .before .pre .0) (c .before .before .before .args .n) (c .before .before .before .args .pile .now) (c .before .before .before .args .c) (c .if1 .taken)
 
-fire-requires : tie.Need-fire-requires
-fire-requires c κs = search needs
-
 enum-told : tie.Need-enum-told
 enum-told c = search needs
-
-same-length : tie.Need-same-length
-same-length c = search needs
 
 returns-2 : tie.Need-returns-2
 returns-2 c =
@@ -24,23 +18,11 @@ returns-2 c =
     let e : c .before .before .before .before .fire .result ≡ Idle = c .enum-told .given .1 in
     step-idle (a .table .now) (a .t) (c .before .before .before .before .before .before .before .before .before .pre .0) (a .n) (a .pile .now) (a .c) (omega arith) (c .before .before .before .before .fire .last .1 .1 .1 .0) (rw e at (c .before .before .before .before .fire .ensures))
 
-enum-told-2 : tie.Need-enum-told-2
-enum-told-2 c = search needs
-
-same-length-2 : tie.Need-same-length-2
-same-length-2 c = search needs
-
 returns-3 : tie.Need-returns-3
 returns-3 c =
     let a = c .before .before .before .before .before .before .before .before .before .args in
     let e : c .before .before .before .before .fire .result ≡ Full = c .enum-told2 .given .1 in
     step-full (a .table .now) (a .t) (c .before .before .before .before .before .before .before .before .before .pre .0) (a .n) (a .pile .now) (a .c) (omega arith) (c .before .before .before .before .fire .last .1 .1 .1 .0) (rw e at (c .before .before .before .before .fire .ensures))
-
-enum-known-d : tie.Need-enum-known-d
-enum-known-d c = search needs
-
-same-length-3 : tie.Need-same-length-3
-same-length-3 c = search needs
 
 returns-4 : tie.Need-returns-4
 returns-4 c =
@@ -53,13 +35,13 @@ take-step-spec =
     tie.close
     (tie.spec
     returns
-    fire-requires
+    (λ c κs. search needs)
     enum-told
-    same-length
+    (λ c. search needs)
     returns-2
-    enum-told-2
-    same-length-2
+    (λ c. search needs)
+    (λ c. search needs)
     returns-3
-    enum-known-d
-    same-length-3
+    (λ c. search needs)
+    (λ c. search needs)
     returns-4)

@@ -1,3 +1,4 @@
+-- The steps of a walk, rule after rule.
 use mathlib.Core.Path.{_≡_, _∙_, subst}
 use Prim.Native.Nat.{_-_}
 use Rattle.walk.specs.declared.Taken.the-variants.{Refused, Onward}
@@ -16,58 +17,59 @@ abbrev μ-loop : tie.MeasureT-loop
 μ-loop table t list pile₀ c₀ k₀ pile c k = length list - k
 
 loop-holds : tie.Need-loop-holds Inv-loop μ-loop
-loop-holds c = let a = c .before .before .before .args in going-start (a .table .now) (a .t) (a .list .now) (a .pile .now) (a .start) (c .before .before .before .pre .1)
-
-mul-wide-two : tie.Need-mul-wide-two Inv-loop μ-loop
-mul-wide-two c = omega arith
-
-shared-slice-read-wide-two : tie.Need-shared-slice-read-wide-two Inv-loop μ-loop
-shared-slice-read-wide-two c = omega arith
-
-wide-two-requires : tie.Need-wide-two-requires Inv-loop μ-loop
-wide-two-requires c κs = search needs
+loop-holds c =
+    let entry = c .before .before .before in
+    let a = entry .args in going-start (a .table .now) (a .t) (a .list .now) (a .pile .now) (a .start) (entry .pre .1)
 
 take-step-requires : tie.Need-take-step-requires Inv-loop μ-loop
-take-step-requires c κs = (c .before .before .before .before .before .before .before .before .pre .0, c .before .before .before .before .loop .inv .shape)
-
-enum-known-number : tie.Need-enum-known-number Inv-loop μ-loop
-enum-known-number c = search needs
+take-step-requires c κs =
+    let at-loop = c .before .before .before .before in
+    let entry = at-loop .before .before .before .before in
+    (entry .pre .0, at-loop .loop .inv .shape)
 
 same-length : tie.Need-same-length Inv-loop μ-loop
-same-length c = c .before .before .before .before .before .take-step .kept .1 .1 .1 .0 ∙ c .before .before .before .before .before .before .before .before .before .before .loop .inv .size
+same-length c =
+    let at-take-step = c .before .before .before .before .before in
+    let at-loop = at-take-step .before .before .before .before .before in
+    at-take-step .take-step .kept .1 .1 .1 .0 ∙ at-loop .loop .inv .size
 
 returns : tie.Need-returns Inv-loop μ-loop
 returns c =
-    let a = c .before .before .before .before .before .before .before .before .before .before .before .before .before .before .args in
-    let m = c .before .before .before .before .before .before .before .before .before .before .loop in
-    let e : c .before .before .before .before .before .take-step .result ≡ Refused (c .before .number .given .0 .0) = c .before .number .given .1 in
-    going-refused (a .table .now) (a .t) (a .list .now) (a .pile .now) (a .start) (m .pile) (c .before .before .before .before .before .take-step .last .1 .1 .1 .0) (m .c) (m .k) (c .before .before .before .before .before .before .before .wide-two .result) (c .before .number .given .0 .0)
-    (c .before .before .before .before .before .before .before .before .before .loop-test .taken) (c .before .before .before .before .before .before .before .wide-two .ensures .0) (m .inv) (subst (StepTo (a .table .now) (a .t) (c .before .before .before .before .before .before .before .wide-two .result) (m .c) (m .pile) (c .before .before .before .before .before .take-step .last .1 .1 .1 .0)) e (c .before .before .before .before .before .take-step .ensures))
-
-enum-known-d : tie.Need-enum-known-d Inv-loop μ-loop
-enum-known-d c = search needs
-
-add-k : tie.Need-add-k Inv-loop μ-loop
-add-k c = omega arith
-
-loop-less : tie.Need-loop-less Inv-loop μ-loop
-loop-less c = omega arith
+    let at-number = c .before in
+    let at-take-step = at-number .before .before .before .before in
+    let at-wide-two = at-take-step .before .before in
+    let at-loop-test = at-wide-two .before .before in
+    let at-loop = at-loop-test .before in
+    let entry = at-loop .before .before .before .before in
+    let a = entry .args in
+    let m = at-loop .loop in
+    let e : at-take-step .take-step .result ≡ Refused (at-number .number .given .0 .0) = at-number .number .given .1 in
+    going-refused (a .table .now) (a .t) (a .list .now) (a .pile .now) (a .start) (m .pile) (at-take-step .take-step .last .1 .1 .1 .0) (m .c) (m .k) (at-wide-two .wide-two .result) (at-number .number .given .0 .0)
+    (at-loop-test .loop-test .taken) (at-wide-two .wide-two .ensures .0) (m .inv) (subst (StepTo (a .table .now) (a .t) (at-wide-two .wide-two .result) (m .c) (m .pile) (at-take-step .take-step .last .1 .1 .1 .0)) e (at-take-step .take-step .ensures))
 
 loop-again : tie.Need-loop-again Inv-loop μ-loop
 loop-again c =
-    let a = c .before .before .before .before .before .before .before .before .before .before .before .before .before .before .args in
-    let m = c .before .before .before .before .before .before .before .before .before .before .loop in
-    let e : c .before .before .before .before .before .take-step .result ≡ Onward (c .before .d .given .0 .0) = c .before .d .given .1 in
-    going-turn (a .table .now) (a .t) (a .list .now) (a .pile .now) (a .start) (m .pile) (c .before .before .before .before .before .take-step .last .1 .1 .1 .0) (m .c) (c .before .d .given .0 .0) (m .k) (c .before .before .before .before .before .before .before .wide-two .result)
-    (c .before .before .before .before .before .before .before .before .before .loop-test .taken) (c .before .before .before .before .before .take-step .kept .1 .1 .1 .0) (c .before .before .before .before .before .before .before .wide-two .ensures .0) (m .inv) (subst (StepTo (a .table .now) (a .t) (c .before .before .before .before .before .before .before .wide-two .result) (m .c) (m .pile) (c .before .before .before .before .before .take-step .last .1 .1 .1 .0)) e (c .before .before .before .before .before .take-step .ensures))
+    let at-d = c .before in
+    let at-take-step = at-d .before .before .before .before in
+    let at-wide-two = at-take-step .before .before in
+    let at-loop-test = at-wide-two .before .before in
+    let at-loop = at-loop-test .before in
+    let entry = at-loop .before .before .before .before in
+    let a = entry .args in
+    let m = at-loop .loop in
+    let e : at-take-step .take-step .result ≡ Onward (at-d .d .given .0 .0) = at-d .d .given .1 in
+    going-turn (a .table .now) (a .t) (a .list .now) (a .pile .now) (a .start) (m .pile) (at-take-step .take-step .last .1 .1 .1 .0) (m .c) (at-d .d .given .0 .0) (m .k) (at-wide-two .wide-two .result)
+    (at-loop-test .loop-test .taken) (at-take-step .take-step .kept .1 .1 .1 .0) (at-wide-two .wide-two .ensures .0) (m .inv) (subst (StepTo (a .table .now) (a .t) (at-wide-two .wide-two .result) (m .c) (m .pile) (at-take-step .take-step .last .1 .1 .1 .0)) e (at-take-step .take-step .ensures))
 
 same-length-2 : tie.Need-same-length-2 Inv-loop μ-loop
 same-length-2 c = c .before .loop .inv .size
 
 returns-2 : tie.Need-returns-2 Inv-loop μ-loop
 returns-2 c =
-    let a = c .before .before .before .before .before .args in
-    going-end (a .table .now) (a .t) (a .list .now) (a .pile .now) (a .start) (c .before .loop .pile) (c .before .loop .c) (c .before .loop .k) (c .loop-test .left) (c .before .loop .inv)
+    let at-loop = c .before in
+    let entry = at-loop .before .before .before .before in
+    let a = entry .args in
+    going-end (a .table .now) (a .t) (a .list .now) (a .pile .now) (a .start) (at-loop .loop .pile) (at-loop .loop .c) (at-loop .loop .k) (c .loop-test .left) (at-loop .loop .inv)
 
 pub take-steps-spec : {M : Type 1} → statement M
 take-steps-spec =
@@ -76,16 +78,16 @@ take-steps-spec =
     Inv-loop
     μ-loop
     loop-holds
-    mul-wide-two
-    shared-slice-read-wide-two
-    wide-two-requires
+    (λ c. omega arith)
+    (λ c. omega arith)
+    (λ c κs. search needs)
     take-step-requires
-    enum-known-number
+    (λ c. search needs)
     same-length
     returns
-    enum-known-d
-    add-k
-    loop-less
+    (λ c. search needs)
+    (λ c. omega arith)
+    (λ c. omega arith)
     loop-again
     same-length-2
     returns-2)

@@ -3,34 +3,13 @@ use borrow.Author.Needs.{needs}
 use Rattle.walk.proofs.walk_accepted.Statement.{statement}
 use Rattle.walk.proofs.walk_accepted.Tie as tie
 
-halt-before-requires : tie.Need-halt-before-requires
-halt-before-requires c κs = search needs
-
 returns : tie.Need-returns
 returns c = let a = c .before .before .before .before .before .before .args in rw (c .halt-before .ensures) (short-halts (a .table .now) (a .t) (c .before .before .before .before .before .before .pre) (a .list .now) (a .pile .now) (a .scratch .now) (c .before .if1 .taken))
-
-clear-requires : tie.Need-clear-requires
-clear-requires c κs = search needs
-
-halt-before-requires-2 : tie.Need-halt-before-requires-2
-halt-before-requires-2 c κs = search needs
-
-same-length : tie.Need-same-length
-same-length c = search needs
 
 returns-2 : tie.Need-returns-2
 returns-2 c =
     let a = c .before .before .before .before .before .before .before .before .before .before .before .args in
     rw (c .halt-before2 .ensures) (unfit-halts (a .table .now) (a .t) (c .before .before .before .before .before .before .before .before .before .before .before .pre) (a .list .now) (a .pile .now) (a .scratch .now) (c .before .before .before .clear .last .0) (c .before .before .before .before .before .before .if1 .left) (c .before .before .before .before .before .if2 .taken) (c .before .before .before .clear .ensures))
-
-walk-placed-requires : tie.Need-walk-placed-requires
-walk-placed-requires c κs = search needs
-
-same-length-2 : tie.Need-same-length-2
-same-length-2 c = search needs
-
-same-length-3 : tie.Need-same-length-3
-same-length-3 c = search needs
 
 returns-3 : tie.Need-returns-3
 returns-3 c =
@@ -42,13 +21,13 @@ pub walk-accepted-spec : {M : Type 1} → statement M
 walk-accepted-spec =
     tie.close
     (tie.spec
-    halt-before-requires
+    (λ c κs. search needs)
     returns
-    clear-requires
-    halt-before-requires-2
-    same-length
+    (λ c κs. search needs)
+    (λ c κs. search needs)
+    (λ c. search needs)
     returns-2
-    walk-placed-requires
-    same-length-2
-    same-length-3
+    (λ c κs. search needs)
+    (λ c. search needs)
+    (λ c. search needs)
     returns-3)

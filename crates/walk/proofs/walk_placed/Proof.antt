@@ -3,23 +3,8 @@ use borrow.Author.Needs.{needs}
 use Rattle.walk.proofs.walk_placed.Statement.{statement}
 use Rattle.walk.proofs.walk_placed.Tie as tie
 
-place-start-requires : tie.Need-place-start-requires
-place-start-requires c κs = search needs
-
 take-steps-requires : tie.Need-take-steps-requires
 take-steps-requires c κs = (c .before .before .before .before .before .before .before .before .before .pre .0, start-shape (c .before .before .before .before .before .before .before .before .before .args .table .now) (c .before .before .before .before .before .before .before .before .before .args .t) (c .before .before .before .before .before .before .before .before .before .pre .0) (c .before .before .before .place-start .last .1 .1 .0) (c .before .before .before .place-start .result) (c .before .before .before .place-start .ensures .0) (c .before .before .before .place-start .ensures .1))
-
-conclude-requires : tie.Need-conclude-requires
-conclude-requires c κs = search needs
-
-settle-requires : tie.Need-settle-requires
-settle-requires c κs = search needs
-
-same-length : tie.Need-same-length
-same-length c = search needs
-
-same-length-2 : tie.Need-same-length-2
-same-length-2 c = search needs
 
 returns : tie.Need-returns
 returns c =
@@ -32,10 +17,10 @@ pub walk-placed-spec : {M : Type 1} → statement M
 walk-placed-spec =
     tie.close
     (tie.spec
-    place-start-requires
+    (λ c κs. search needs)
     take-steps-requires
-    conclude-requires
-    settle-requires
-    same-length
-    same-length-2
+    (λ c κs. search needs)
+    (λ c κs. search needs)
+    (λ c. search needs)
+    (λ c. search needs)
     returns)

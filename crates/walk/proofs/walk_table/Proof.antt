@@ -5,15 +5,6 @@ use borrow.Author.Needs.{needs}
 use Rattle.walk.proofs.walk_table.Statement.{statement}
 use Rattle.walk.proofs.walk_table.Tie as tie
 
-read-requires : tie.Need-read-requires
-read-requires c κs = search needs
-
-enum-known-number : tie.Need-enum-known-number
-enum-known-number c = search needs
-
-halt-before-requires : tie.Need-halt-before-requires
-halt-before-requires c κs = search needs
-
 returns : tie.Need-returns
 returns c =
     let a = c .before .before .before .before .before .before .before .before .before .args in
@@ -21,34 +12,22 @@ returns c =
     let e : c .before .before .before .before .read .result ≡ Refused (g .0 .0) (g .0 .1 .0) = g .1 in
     rw (c .halt-before .ensures) (table-halts (a .table .now) (a .list .now) (a .pile .now) (a .scratch .now) (g .0 .0) (g .0 .1 .0) (sym e ∙ c .before .before .before .before .read .ensures))
 
-enum-known-t : tie.Need-enum-known-t
-enum-known-t c = search needs
-
 walk-accepted-requires : tie.Need-walk-accepted-requires
 walk-accepted-requires c κs =
     let g = c .before .before .before .t .given in
     let e : c .before .before .before .before .before .read .result ≡ Accepted (g .0 .0) = g .1 in
     record { reading = sym (c .before .before .before .before .before .read .ensures) ∙ e }
 
-same-length : tie.Need-same-length
-same-length c = search needs
-
-same-length-2 : tie.Need-same-length-2
-same-length-2 c = search needs
-
-returns-2 : tie.Need-returns-2
-returns-2 c = search needs
-
 pub walk-table-spec : {M : Type 1} → statement M
 walk-table-spec =
     tie.close
     (tie.spec
-    read-requires
-    enum-known-number
-    halt-before-requires
+    (λ c κs. search needs)
+    (λ c. search needs)
+    (λ c κs. search needs)
     returns
-    enum-known-t
+    (λ c. search needs)
     walk-accepted-requires
-    same-length
-    same-length-2
-    returns-2)
+    (λ c. search needs)
+    (λ c. search needs)
+    (λ c. search needs))

@@ -18,21 +18,6 @@ abbrev μ-loop : tie.MeasureT-loop
 loop-holds : tie.Need-loop-holds Inv-loop μ-loop
 loop-holds c = (omega arith, pasting-start (c .before .before .args .pile .now) (systemIn (c .before .before .args .table .now) .start .word) (c .before .before .args .at))
 
-pile-letter-requires : tie.Need-pile-letter-requires Inv-loop μ-loop
-pile-letter-requires c κs = search needs
-
-add-pile : tie.Need-add-pile Inv-loop μ-loop
-add-pile c = omega arith
-
-slice-write-pile : tie.Need-slice-write-pile Inv-loop μ-loop
-slice-write-pile c = omega arith
-
-add-j : tie.Need-add-j Inv-loop μ-loop
-add-j c = omega arith
-
-loop-less : tie.Need-loop-less Inv-loop μ-loop
-loop-less c = omega arith
-
 loop-again : tie.Need-loop-again Inv-loop μ-loop
 loop-again c =
     let s = c .before .before .before .before .before in
@@ -58,11 +43,11 @@ write-start-spec =
     Inv-loop
     μ-loop
     loop-holds
-    pile-letter-requires
-    add-pile
-    slice-write-pile
-    add-j
-    loop-less
+    (λ c κs. search needs)
+    (λ c. omega arith)
+    (λ c. omega arith)
+    (λ c. omega arith)
+    (λ c. omega arith)
     loop-again
     same-length
     returns)
