@@ -177,7 +177,7 @@ fn filled(stage: Stage) -> Stage
     }
 }
 
-// Adds the records of the head behind `count` records.
+// Adds the records of the head behind `count` records. What it leaves in the marks of the scratch, and in the log behind them, is not decided.
 pub fn add_group(
     table: &[u8],
     t: Table,

@@ -78,7 +78,7 @@ fn add_rounds(table: &[u8], t: Table, log: &mut [u8], scratch: &mut [u8], n: usi
     }
 }
 
-// Fills the log with the records of the limit.
+// Fills the log with the records of the limit. What it leaves in the scratch, and in the log behind them or where it has no room, is not decided.
 pub fn saturate(table: &[u8], t: Table, log: &mut [u8], scratch: &mut [u8], n: usize) -> Saturated
     requires { ⌜ Holds (now table) t × (n ≤ 65535) × (n * recordLength ≤ length (now log)) × (34000 + 4 * n ≤ length (now scratch)) ⌝ }
     ensures { λ r. ⌜ SaturatedDone (now (table .entry)) n (now (log .entry)) (now (scratch .entry)) r (now (log .exit)) (now (scratch .exit)) ⌝ }

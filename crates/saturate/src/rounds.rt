@@ -47,7 +47,7 @@ fn add_heads(
     }
 }
 
-// Adds the records of a round behind those of the rounds before it.
+// Adds the records of a round behind those of the rounds before it. What it leaves in the scratch, and in the log behind them, is not decided.
 pub fn add_round(
     table: &[u8],
     t: Table,

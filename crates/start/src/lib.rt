@@ -76,7 +76,8 @@ fn is_accepted(table: &[u8], t: Table, scratch: &[u8]) -> bool
     contains(&scratch[0..SET_LENGTH], number(g))
 }
 
-// Finds the start's path and leaves it on the stack. n is the number of records that the scratch has room for, count that of the log's records.
+// Finds the start's path and leaves it on the stack; what the rest of the scratch holds is not decided. n is the number of records that the scratch has room
+// for, count that of the log's records.
 pub fn find(
     table: &[u8],
     t: Table,

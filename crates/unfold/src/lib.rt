@@ -112,7 +112,7 @@ fn work_one(
     replace(table, t, log, scratch, page, w, x)
 }
 
-// The stack holds `top` record numbers. Writes the rules that they emit to the page, and gives the peak.
+// The stack holds `top` record numbers. Writes the rules that they emit to the page, and gives the peak. What it leaves in the scratch is not decided.
 pub fn unfold(
     table: &[u8],
     t: Table,
