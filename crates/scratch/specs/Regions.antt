@@ -16,6 +16,16 @@ seenAt = 0
 abbrev pub seenBit : ℕ → ℕ
 seenBit x = 8 * seenAt + x
 
+-- the set of a head's new ends, behind it the counts, and the first byte behind these
+abbrev pub newAt : ℕ
+newAt = 512
+
+abbrev pub countsAt : ℕ
+countsAt = 1024
+
+abbrev pub countsEnd : ℕ
+countsEnd = 1152
+
 abbrev pub passedAt : ℕ
 passedAt = 2424
 
