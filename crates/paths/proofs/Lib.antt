@@ -5,3 +5,5 @@ pub mod Glances
 pub mod Extending
 pub mod Turns
 pub mod Looping
+pub mod HeadAdditions
+pub mod Holding

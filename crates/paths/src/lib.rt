@@ -34,6 +34,8 @@ ghost use Rattle.paths.specs.Jobs.{Searchable, Searched, Standing, first
 
 const STEPS_CAP: u32 = 1000001;
 
+pub mod held;
+
 // A rule of the table with its written letters and their processes as masks; the place of the last letter that a record of the last round reads; the
 // round, the records that it starts from, those from lo on being of the last round, and how many the log can hold.
 pub struct Job {

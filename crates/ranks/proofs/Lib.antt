@@ -1,2 +1,5 @@
-pub mod Swaps
+pub mod Counts
+pub mod Noting
+pub mod Places
 pub mod Sorts
+pub mod Swaps

@@ -20,6 +20,10 @@ seenBit x = 8 * seenAt + x
 abbrev pub newAt : ℕ
 newAt = 512
 
+-- the bit of the new end x
+abbrev pub newBit : ℕ → ℕ
+newBit x = 8 * newAt + x
+
 abbrev pub countsAt : ℕ
 countsAt = 1024
 
