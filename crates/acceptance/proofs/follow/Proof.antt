@@ -7,18 +7,6 @@ use borrow.Author.Needs.{needs}
 use Rattle.acceptance.proofs.follow.Statement.{statement}
 use Rattle.acceptance.proofs.follow.Tie as tie
 
-is-read-requires : tie.Need-is-read-requires
-is-read-requires c κs = search needs
-
-target-requires : tie.Need-target-requires
-target-requires c κs = search needs
-
-insert-requires : tie.Need-insert-requires
-insert-requires c κs = search needs
-
-same-length : tie.Need-same-length
-same-length c = search needs
-
 returns : tie.Need-returns
 returns c =
     let s = c .before .before .before .before .before .before .before .before .before in
@@ -35,4 +23,4 @@ returns-2 c =
 pub follow-spec : {M : Type 1} → statement M
 follow-spec =
     tie.close
-    (tie.spec is-read-requires target-requires insert-requires same-length returns returns-2)
+    (tie.spec (λ c κs. search needs) (λ c κs. search needs) (λ c κs. search needs) (λ c. search needs) returns returns-2)

@@ -22,12 +22,6 @@ loop-holds c = following-start (systemIn (c .before .before .args .table .now)) 
 follow-requires : tie.Need-follow-requires Inv-loop μ-loop
 follow-requires c κs = (c .before .before .before .before .before .before .pre .0, omega arith, c .before .before .before .before .before .before .pre .1, c .before .before .before .loop .inv .size ∙ c .before .before .before .before .before .before .pre .2)
 
-add-k : tie.Need-add-k Inv-loop μ-loop
-add-k c = omega arith
-
-loop-less : tie.Need-loop-less Inv-loop μ-loop
-loop-less c = omega arith
-
 loop-again : tie.Need-loop-again Inv-loop μ-loop
 loop-again c =
     let a = c .before .before .before .before .before .before .before .before .before .args in
@@ -49,8 +43,8 @@ follow-all-spec =
     μ-loop
     loop-holds
     follow-requires
-    add-k
-    loop-less
+    (λ c. omega arith)
+    (λ c. omega arith)
     loop-again
     same-length
     returns)

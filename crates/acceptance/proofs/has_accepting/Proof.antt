@@ -19,32 +19,17 @@ Inv-loop table t members n₀ n = Searching (systemIn table) (presentIn t) membe
 abbrev μ-loop : tie.MeasureT-loop
 μ-loop table t members n₀ n = stateCount - n
 
-next-member-requires : tie.Need-next-member-requires Inv-loop μ-loop
-next-member-requires c κs = search needs
-
 loop-holds : tie.Need-loop-holds Inv-loop μ-loop
 loop-holds c = searching-start (systemIn (c .before .before .before .args .table .now)) (presentIn (c .before .before .before .args .t)) (c .before .before .before .args .members .now) (c .next-member .result) (c .next-member .ensures)
 
 present-requires : tie.Need-present-requires Inv-loop μ-loop
 present-requires c κs = table-modest (c .before .before .before .before .before .args .table .now) (c .before .before .before .before .before .args .t) (c .before .before .before .before .before .pre .0) .processes
 
-numbered-requires : tie.Need-numbered-requires Inv-loop μ-loop
-numbered-requires c κs = search needs
-
-is-accepting-requires : tie.Need-is-accepting-requires Inv-loop μ-loop
-is-accepting-requires c κs = search needs
-
 returns : tie.Need-returns Inv-loop μ-loop
 returns c =
     let a = c .before .before .before .before .before .before .before .before .before .args in
     searching-found (systemIn (a .table .now)) (presentIn (a .t)) (a .members .now) (c .before .before .before .before .before .loop .n) (c .before .before .before .before .loop-test .taken) (c .before .before .before .before .before .loop .inv)
     (group-known (systemIn (a .table .now)) (presentIn (a .t)) (processesOf (c .before .before .before .present .result)) (c .before .before .before .before .before .loop .n) (c .before .before .numbered .result) (c .before .is-accepting .result) true (ap processesOf (c .before .before .before .present .ensures) ∙ bits-back (presentIn (a .t))) (c .before .before .numbered .ensures) (c .before .is-accepting .ensures) (c .if1 .taken))
-
-add-next-member : tie.Need-add-next-member Inv-loop μ-loop
-add-next-member c = omega arith
-
-next-member-requires-2 : tie.Need-next-member-requires-2 Inv-loop μ-loop
-next-member-requires-2 c κs = search needs
 
 loop-less : tie.Need-loop-less Inv-loop μ-loop
 loop-less c = omega (arith, next-low (systemIn (c .before .before .before .before .before .before .before .before .before .before .args .table .now)) (presentIn (c .before .before .before .before .before .before .before .before .before .before .args .t)) (c .before .before .before .before .before .before .before .before .before .before .args .members .now) (c .before .before .before .before .before .before .loop .n + 1) (c .next-member2 .result) (c .next-member2 .ensures))
@@ -65,14 +50,14 @@ has-accepting-spec =
     (tie.spec
     Inv-loop
     μ-loop
-    next-member-requires
+    (λ c κs. search needs)
     loop-holds
     present-requires
-    numbered-requires
-    is-accepting-requires
+    (λ c κs. search needs)
+    (λ c κs. search needs)
     returns
-    add-next-member
-    next-member-requires-2
+    (λ c. omega arith)
+    (λ c κs. search needs)
     loop-less
     loop-again
     returns-2)

@@ -8,39 +8,6 @@ use borrow.Author.Needs.{needs}
 use Rattle.acceptance.proofs.is_accepted.Statement.{statement}
 use Rattle.acceptance.proofs.is_accepted.Tie as tie
 
-sub-put-start : tie.Need-sub-put-start
-sub-put-start c = search needs
-
-part-put-start-start : tie.Need-part-put-start-start
-part-put-start-start c = search needs
-
-part-put-start-end : tie.Need-part-put-start-end
-part-put-start-end c = search needs
-
-put-start-requires : tie.Need-put-start-requires
-put-start-requires c κs = search needs
-
-read-word-requires : tie.Need-read-word-requires
-read-word-requires c κs = search needs
-
-sub-has-accepting : tie.Need-sub-has-accepting
-sub-has-accepting c = search needs
-
-part-has-accepting-start : tie.Need-part-has-accepting-start
-part-has-accepting-start c = search needs
-
-part-has-accepting-end : tie.Need-part-has-accepting-end
-part-has-accepting-end c = search needs
-
-has-accepting-requires : tie.Need-has-accepting-requires
-has-accepting-requires c κs = search needs
-
-clear-requires : tie.Need-clear-requires
-clear-requires c κs = search needs
-
-same-length : tie.Need-same-length
-same-length c = search needs
-
 returns : tie.Need-returns
 returns c =
     let s = c .before .before .before .before .before .before .before .before .before .before .before .before .before .before .before .before .before .before in
@@ -54,15 +21,15 @@ pub is-accepted-spec : {M : Type 1} → statement M
 is-accepted-spec =
     tie.close
     (tie.spec
-    sub-put-start
-    part-put-start-start
-    part-put-start-end
-    put-start-requires
-    read-word-requires
-    sub-has-accepting
-    part-has-accepting-start
-    part-has-accepting-end
-    has-accepting-requires
-    clear-requires
-    same-length
+    (λ c. search needs)
+    (λ c. search needs)
+    (λ c. search needs)
+    (λ c κs. search needs)
+    (λ c κs. search needs)
+    (λ c. search needs)
+    (λ c. search needs)
+    (λ c. search needs)
+    (λ c κs. search needs)
+    (λ c κs. search needs)
+    (λ c. search needs)
     returns)

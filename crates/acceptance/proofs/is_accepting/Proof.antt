@@ -20,22 +20,10 @@ abbrev μ-loop : tie.MeasureT-loop
 loop-holds : tie.Need-loop-holds Inv-loop μ-loop
 loop-holds c = record { same = refl }
 
-accepting-group-requires : tie.Need-accepting-group-requires Inv-loop μ-loop
-accepting-group-requires c κs = search needs
-
-same-requires : tie.Need-same-requires Inv-loop μ-loop
-same-requires c κs = search needs
-
 returns : tie.Need-returns Inv-loop μ-loop
 returns c =
     unfound-here (sameGroup (c .before .before .before .before .before .before .before .args .g)) (systemIn (c .before .before .before .before .before .before .before .args .table .now) .accepting) (groupOf [] 0) (c .before .before .before .before .before .loop .k) (omega (arith, accepting-count (c .before .before .before .before .before .before .before .args .table .now) (c .before .before .before .before .before .before .before .args .t) (c .before .before .before .before .before .before .before .pre))) (c .before .before .before .before .before .loop .inv)
     (ap (sameGroup (c .before .before .before .before .before .before .before .args .g)) (sym (c .before .before .accepting-group .ensures)) ∙ sym (c .before .same .ensures) ∙ c .if2 .taken)
-
-add-k : tie.Need-add-k Inv-loop μ-loop
-add-k c = omega arith
-
-loop-less : tie.Need-loop-less Inv-loop μ-loop
-loop-less c = omega arith
 
 loop-again : tie.Need-loop-again Inv-loop μ-loop
 loop-again c =
@@ -53,10 +41,10 @@ is-accepting-spec =
     Inv-loop
     μ-loop
     loop-holds
-    accepting-group-requires
-    same-requires
+    (λ c κs. search needs)
+    (λ c κs. search needs)
     returns
-    add-k
-    loop-less
+    (λ c. omega arith)
+    (λ c. omega arith)
     loop-again
     returns-2)

@@ -9,23 +9,11 @@ use borrow.Author.Needs.{needs}
 use Rattle.acceptance.proofs.is_read.Statement.{statement}
 use Rattle.acceptance.proofs.is_read.Tie as tie
 
-transition-letter-requires : tie.Need-transition-letter-requires
-transition-letter-requires c κs = search needs
-
 returns : tie.Need-returns
 returns c = rw (← c .before .transition-letter .ensures, ne-eqb _ _ (c .if1 .taken)) refl
 
-wide-requires : tie.Need-wide-requires
-wide-requires c κs = search needs
-
 letter-bits-requires : tie.Need-letter-bits-requires
 letter-bits-requires c κs = (c .before .before .before .before .pre .0, (let l = transition-letter-in (c .before .before .before .before .args .table .now) (c .before .before .before .before .args .t) (c .before .before .before .before .pre .0) (c .before .before .before .before .args .k) (c .before .before .before .before .pre .1) in omega (arith, c .wide .ensures .0, c .before .before .transition-letter .ensures)))
-
-transition-before-requires : tie.Need-transition-before-requires
-transition-before-requires c κs = search needs
-
-reads-requires : tie.Need-reads-requires
-reads-requires c κs = search needs
 
 returns-2 : tie.Need-returns-2
 returns-2 c =
@@ -39,10 +27,10 @@ pub is-read-spec : {M : Type 1} → statement M
 is-read-spec =
     tie.close
     (tie.spec
-    transition-letter-requires
+    (λ c κs. search needs)
     returns
-    wide-requires
+    (λ c κs. search needs)
     letter-bits-requires
-    transition-before-requires
-    reads-requires
+    (λ c κs. search needs)
+    (λ c κs. search needs)
     returns-2)

@@ -5,27 +5,6 @@ use borrow.Author.Needs.{needs}
 use Rattle.acceptance.proofs.read_letter.Statement.{statement}
 use Rattle.acceptance.proofs.read_letter.Tie as tie
 
-sub-clear : tie.Need-sub-clear
-sub-clear c = search needs
-
-part-clear-start : tie.Need-part-clear-start
-part-clear-start c = search needs
-
-part-clear-end : tie.Need-part-clear-end
-part-clear-end c = search needs
-
-clear-requires : tie.Need-clear-requires
-clear-requires c κs = search needs
-
-read-members-requires : tie.Need-read-members-requires
-read-members-requires c κs = search needs
-
-move-front-requires : tie.Need-move-front-requires
-move-front-requires c κs = search needs
-
-same-length : tie.Need-same-length
-same-length c = search needs
-
 returns : tie.Need-returns
 returns c =
     let s = c .before .before .before .before .before .before .before .before .before .before .before .before .before .before in
@@ -37,11 +16,11 @@ pub read-letter-spec : {M : Type 1} → statement M
 read-letter-spec =
     tie.close
     (tie.spec
-    sub-clear
-    part-clear-start
-    part-clear-end
-    clear-requires
-    read-members-requires
-    move-front-requires
-    same-length
+    (λ c. search needs)
+    (λ c. search needs)
+    (λ c. search needs)
+    (λ c κs. search needs)
+    (λ c κs. search needs)
+    (λ c κs. search needs)
+    (λ c. search needs)
     returns)

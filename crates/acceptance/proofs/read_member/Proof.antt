@@ -21,41 +21,11 @@ use Rattle.acceptance.proofs.read_member.Tie as tie
 present-requires : tie.Need-present-requires
 present-requires c κs = table-modest (c .before .before .args .table .now) (c .before .before .args .t) (c .before .before .pre .0) .processes
 
-numbered-requires : tie.Need-numbered-requires
-numbered-requires c κs = search needs
-
-sub-follow-all : tie.Need-sub-follow-all
-sub-follow-all c = search needs
-
-part-follow-all-start : tie.Need-part-follow-all-start
-part-follow-all-start c = search needs
-
-part-follow-all-end : tie.Need-part-follow-all-end
-part-follow-all-end c = search needs
-
 follow-all-requires : tie.Need-follow-all-requires
 follow-all-requires c κs =
     let s = c .before .before .before .before .before in
     let same : groupNumbered (presentIn (s .args .t)) (s .args .n) ≡ c .before .numbered .result = sym (c .before .numbered .ensures ∙ ap (λ (L : Processes). groupNumbered L (s .args .n)) (ap processesOf (c .before .before .present .ensures) ∙ bits-back (presentIn (s .args .t)))) in
     (s .pre .0, subst (Over (presentIn (s .args .t))) same (numbered-over (presentIn (s .args .t)) (s .args .n)), length-there (s .args .scratch .now) (s .pre .2))
-
-sub-next-member : tie.Need-sub-next-member
-sub-next-member c = search needs
-
-part-next-member-start : tie.Need-part-next-member-start
-part-next-member-start c = search needs
-
-part-next-member-end : tie.Need-part-next-member-end
-part-next-member-end c = search needs
-
-add-next-member : tie.Need-add-next-member
-add-next-member c = search needs
-
-next-member-requires : tie.Need-next-member-requires
-next-member-requires c κs = search needs
-
-same-length : tie.Need-same-length
-same-length c = search needs
 
 returns : tie.Need-returns
 returns c =
@@ -76,15 +46,15 @@ read-member-spec =
     tie.close
     (tie.spec
     present-requires
-    numbered-requires
-    sub-follow-all
-    part-follow-all-start
-    part-follow-all-end
+    (λ c κs. search needs)
+    (λ c. search needs)
+    (λ c. search needs)
+    (λ c. search needs)
     follow-all-requires
-    sub-next-member
-    part-next-member-start
-    part-next-member-end
-    add-next-member
-    next-member-requires
-    same-length
+    (λ c. search needs)
+    (λ c. search needs)
+    (λ c. search needs)
+    (λ c. search needs)
+    (λ c κs. search needs)
+    (λ c. search needs)
     returns)

@@ -19,18 +19,6 @@ Inv-loop table t letter scratch₀ n₀ scratch n = (length scratch ≡ length s
 abbrev μ-loop : tie.MeasureT-loop
 μ-loop table t letter scratch₀ n₀ scratch n = stateCount - n
 
-sub-next-member : tie.Need-sub-next-member Inv-loop μ-loop
-sub-next-member c = omega arith
-
-part-next-member-start : tie.Need-part-next-member-start Inv-loop μ-loop
-part-next-member-start c = omega arith
-
-part-next-member-end : tie.Need-part-next-member-end Inv-loop μ-loop
-part-next-member-end c = omega arith
-
-next-member-requires : tie.Need-next-member-requires Inv-loop μ-loop
-next-member-requires c κs = search needs
-
 loop-holds : tie.Need-loop-holds Inv-loop μ-loop
 loop-holds c = let a = c .before .before .before .before .before .args in (refl, refl, collected-start (systemIn (a .table .now)) (presentIn (a .t)) (a .letter) (here (a .scratch .now)) (there (a .scratch .now)) (c .next-member .result) (c .next-member .ensures))
 
@@ -66,10 +54,10 @@ read-members-spec =
     (tie.spec
     Inv-loop
     μ-loop
-    sub-next-member
-    part-next-member-start
-    part-next-member-end
-    next-member-requires
+    (λ c. omega arith)
+    (λ c. omega arith)
+    (λ c. omega arith)
+    (λ c κs. search needs)
     loop-holds
     read-member-requires
     loop-less

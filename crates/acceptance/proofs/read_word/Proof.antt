@@ -16,17 +16,8 @@ abbrev μ-loop : tie.MeasureT-loop
 loop-holds : tie.Need-loop-holds Inv-loop μ-loop
 loop-holds c = let a = c .before .before .before .args in ahead-start (systemIn (a .table .now)) (presentIn (a .t)) (a .word .now) (a .scratch .now)
 
-shared-slice-read-read-letter : tie.Need-shared-slice-read-read-letter Inv-loop μ-loop
-shared-slice-read-read-letter c = omega arith
-
 read-letter-requires : tie.Need-read-letter-requires Inv-loop μ-loop
 read-letter-requires c κs = (c .before .before .before .before .before .before .before .pre .0, omega (arith, c .before .before .before .loop .inv .size, c .before .before .before .before .before .before .before .pre .1))
-
-add-i : tie.Need-add-i Inv-loop μ-loop
-add-i c = omega arith
-
-loop-less : tie.Need-loop-less Inv-loop μ-loop
-loop-less c = omega arith
 
 loop-again : tie.Need-loop-again Inv-loop μ-loop
 loop-again c =
@@ -46,10 +37,10 @@ read-word-spec =
     Inv-loop
     μ-loop
     loop-holds
-    shared-slice-read-read-letter
+    (λ c. omega arith)
     read-letter-requires
-    add-i
-    loop-less
+    (λ c. omega arith)
+    (λ c. omega arith)
     loop-again
     same-length
     returns)

@@ -9,23 +9,8 @@ use borrow.Author.Needs.{needs}
 use Rattle.acceptance.proofs.target.Statement.{statement}
 use Rattle.acceptance.proofs.target.Tie as tie
 
-transition-letter-requires : tie.Need-transition-letter-requires
-transition-letter-requires c κs = search needs
-
-wide-requires : tie.Need-wide-requires
-wide-requires c κs = search needs
-
 letter-bits-requires : tie.Need-letter-bits-requires
 letter-bits-requires c κs = (c .before .before .before .pre .0, (let l = transition-letter-in (c .before .before .before .args .table .now) (c .before .before .before .args .t) (c .before .before .before .pre .0) (c .before .before .before .args .k) (c .before .before .before .pre .1) in omega (arith, c .wide .ensures .0, c .before .transition-letter .ensures)))
-
-transition-after-requires : tie.Need-transition-after-requires
-transition-after-requires c κs = search needs
-
-merged-requires : tie.Need-merged-requires
-merged-requires c κs = search needs
-
-number-requires : tie.Need-number-requires
-number-requires c κs = search needs
 
 returns : tie.Need-returns
 returns c =
@@ -39,10 +24,10 @@ pub target-spec : {M : Type 1} → statement M
 target-spec =
     tie.close
     (tie.spec
-    transition-letter-requires
-    wide-requires
+    (λ c κs. search needs)
+    (λ c κs. search needs)
     letter-bits-requires
-    transition-after-requires
-    merged-requires
-    number-requires
+    (λ c κs. search needs)
+    (λ c κs. search needs)
+    (λ c κs. search needs)
     returns)

@@ -6,9 +6,5 @@ use Rattle.exports.proofs.put.Tie as tie
 use Rattle.exports.proofs.put.Reads as reads
 use Rattle.exports.proofs.put.Lts as lts
 
--- src/lib.rt:11:1
-returns : tie.Need-returns
-returns c = search needs
-
 pub put-spec : {M : Type 1} → statement M
-put-spec = tie.close (tie.spec returns)
+put-spec = tie.close (tie.spec (λ c. search needs))

@@ -11,30 +11,6 @@ use Rattle.exports.proofs.put_answer.Reads as reads
 use Rattle.exports.proofs.put_answer.Lts as lts
 use Rattle.exports.proofs.put.Reads as put-reads
 
--- src/lib.rt:48:13
-enum-known-a : tie.Need-enum-known-a
-enum-known-a c = search needs
-
--- src/lib.rt:52:13
-put-requires : tie.Need-put-requires
-put-requires c κs = search needs
-
--- src/lib.rt:55:13
-enum-known-a-2 : tie.Need-enum-known-a-2
-enum-known-a-2 c = search needs
-
--- src/lib.rt:58:13
-put-requires-2 : tie.Need-put-requires-2
-put-requires-2 c κs = search needs
-
--- src/lib.rt:60:29
-enum-known-a-3 : tie.Need-enum-known-a-3
-enum-known-a-3 c = search needs
-
--- src/lib.rt:61:13
-put-requires-3 : tie.Need-put-requires-3
-put-requires-3 c κs = search needs
-
 -- src/lib.rt:43:1
 returns : tie.Need-returns
 returns c =
@@ -60,12 +36,12 @@ pub put-answer-spec : {M : Type 1} → statement M
 put-answer-spec =
     tie.close
     (tie.spec
-    enum-known-a
-    put-requires
-    enum-known-a-2
-    put-requires-2
-    enum-known-a-3
-    put-requires-3
+    (λ c. search needs)
+    (λ c κs. search needs)
+    (λ c. search needs)
+    (λ c κs. search needs)
+    (λ c. search needs)
+    (λ c κs. search needs)
     returns
     returns-2
     returns-3)

@@ -11,22 +11,6 @@ use Rattle.exports.proofs.put_run.Reads as reads
 use Rattle.exports.proofs.put_run.Lts as lts
 use Rattle.exports.proofs.put.Reads as put-reads
 
--- src/lib.rt:71:13
-enum-known-r : tie.Need-enum-known-r
-enum-known-r c = search needs
-
--- src/lib.rt:76:13
-put-requires : tie.Need-put-requires
-put-requires c κs = search needs
-
--- src/lib.rt:78:24
-enum-known-r-2 : tie.Need-enum-known-r-2
-enum-known-r-2 c = search needs
-
--- src/lib.rt:79:13
-put-requires-2 : tie.Need-put-requires-2
-put-requires-2 c κs = search needs
-
 -- src/lib.rt:66:1
 returns : tie.Need-returns
 returns c =
@@ -43,4 +27,4 @@ returns-2 c =
 
 pub put-run-spec : {M : Type 1} → statement M
 put-run-spec =
-    tie.close (tie.spec enum-known-r put-requires enum-known-r-2 put-requires-2 returns returns-2)
+    tie.close (tie.spec (λ c. search needs) (λ c κs. search needs) (λ c. search needs) (λ c κs. search needs) returns returns-2)

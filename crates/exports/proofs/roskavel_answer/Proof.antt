@@ -14,22 +14,6 @@ use Rattle.exports.proofs.roskavel_answer.Lts as lts
 use Rattle.exports.proofs.put_answer.Reads as put-answer-reads
 use Rattle.reach.proofs.answer.Reads as answer-reads
 
--- src/lib.rt:160:9
-answer-requires : tie.Need-answer-requires
-answer-requires c κs = search needs
-
--- src/lib.rt:161:5
-put-answer-requires : tie.Need-put-answer-requires
-put-answer-requires c κs = search needs
-
--- src/lib.rt:151:1
-same-length : tie.Need-same-length
-same-length c = search needs
-
--- src/lib.rt:151:1
-same-length-2 : tie.Need-same-length-2
-same-length-2 c = search needs
-
 -- src/lib.rt:151:1
 returns : tie.Need-returns
 returns c =
@@ -46,4 +30,4 @@ returns c =
 
 pub roskavel-answer-spec : {M : Type 1} → statement M
 roskavel-answer-spec =
-    tie.close (tie.spec answer-requires put-answer-requires same-length same-length-2 returns)
+    tie.close (tie.spec (λ c κs. search needs) (λ c κs. search needs) (λ c. search needs) (λ c. search needs) returns)

@@ -14,26 +14,6 @@ use Rattle.exports.proofs.roskavel_run.Lts as lts
 use Rattle.exports.proofs.put_run.Reads as put-run-reads
 use Rattle.reach.proofs.run.Reads as run-reads
 
--- src/lib.rt:175:9
-run-requires : tie.Need-run-requires
-run-requires c κs = search needs
-
--- src/lib.rt:176:5
-put-run-requires : tie.Need-put-run-requires
-put-run-requires c κs = search needs
-
--- src/lib.rt:165:1
-same-length : tie.Need-same-length
-same-length c = search needs
-
--- src/lib.rt:165:1
-same-length-2 : tie.Need-same-length-2
-same-length-2 c = search needs
-
--- src/lib.rt:165:1
-same-length-3 : tie.Need-same-length-3
-same-length-3 c = search needs
-
 -- src/lib.rt:165:1
 returns : tie.Need-returns
 returns c =
@@ -51,4 +31,4 @@ returns c =
 pub roskavel-run-spec : {M : Type 1} → statement M
 roskavel-run-spec =
     tie.close
-    (tie.spec run-requires put-run-requires same-length same-length-2 same-length-3 returns)
+    (tie.spec (λ c κs. search needs) (λ c κs. search needs) (λ c. search needs) (λ c. search needs) (λ c. search needs) returns)

@@ -16,10 +16,6 @@ use Rattle.exports.proofs.roskavel_walk.Lts as lts
 use Rattle.exports.proofs.put_walk.Reads as put-walk-reads
 use Rattle.walk.proofs.walk.Reads as walk-reads
 
--- src/lib.rt:191:9
-walk-requires : tie.Need-walk-requires
-walk-requires c κs = search needs
-
 -- src/lib.rt:192:16
 sub-from : tie.Need-sub-from
 sub-from c =
@@ -32,14 +28,6 @@ put-walk-requires c κs =
     let a = c .before .before .before .before .before .before .before .before .before .before .before .before .before .before .args in
     let w = c .before .before .before .before .before .before .walk .ensures .0 in
     ap length (w .figures) ∙ figures-length (walkCall (a .table .now) (a .rules .now) (a .pile .now) (a .scratch .now) .answer)
-
--- src/lib.rt:180:1
-same-length : tie.Need-same-length
-same-length c = search needs
-
--- src/lib.rt:180:1
-same-length-2 : tie.Need-same-length-2
-same-length-2 c = search needs
 
 -- src/lib.rt:180:1
 returns : tie.Need-returns
@@ -59,4 +47,4 @@ returns c =
 
 pub roskavel-walk-spec : {M : Type 1} → statement M
 roskavel-walk-spec =
-    tie.close (tie.spec walk-requires sub-from put-walk-requires same-length same-length-2 returns)
+    tie.close (tie.spec (λ c κs. search needs) sub-from put-walk-requires (λ c. search needs) (λ c. search needs) returns)

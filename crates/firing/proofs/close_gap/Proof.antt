@@ -16,21 +16,6 @@ abbrev μ-loop : tie.MeasureT-loop
 loop-holds : tie.Need-loop-holds Inv-loop μ-loop
 loop-holds c = (omega arith, omega arith, refl, closed-none (c .args .pile .now) (c .args .p))
 
-sub-pile : tie.Need-sub-pile Inv-loop μ-loop
-sub-pile c = omega arith
-
-slice-read-pile : tie.Need-slice-read-pile Inv-loop μ-loop
-slice-read-pile c = omega arith
-
-slice-write-pile : tie.Need-slice-write-pile Inv-loop μ-loop
-slice-write-pile c = omega arith
-
-sub-j : tie.Need-sub-j Inv-loop μ-loop
-sub-j c = omega arith
-
-loop-less : tie.Need-loop-less Inv-loop μ-loop
-loop-less c = omega arith
-
 loop-again : tie.Need-loop-again Inv-loop μ-loop
 loop-again c =
     let m = c .before .before .loop in
@@ -53,11 +38,11 @@ close-gap-spec =
     Inv-loop
     μ-loop
     loop-holds
-    sub-pile
-    slice-read-pile
-    slice-write-pile
-    sub-j
-    loop-less
+    (λ c. omega arith)
+    (λ c. omega arith)
+    (λ c. omega arith)
+    (λ c. omega arith)
+    (λ c. omega arith)
     loop-again
     same-length
     returns)

@@ -15,26 +15,14 @@ Inv-loop table t pile top a bits p₀ p = Finding (systemIn table .loc) a pile t
 abbrev μ-loop : tie.MeasureT-loop
 μ-loop table t pile top a bits p₀ p = length pile - p
 
-wide-requires : tie.Need-wide-requires Inv-loop μ-loop
-wide-requires c κs = search needs
-
-letter-bits-requires : tie.Need-letter-bits-requires Inv-loop μ-loop
-letter-bits-requires c κs = search needs
-
 loop-holds : tie.Need-loop-holds Inv-loop μ-loop
 loop-holds c = let s = c .before .before .before .before in finding-start (systemIn (s .args .table .now) .loc) (s .args .a) (s .args .pile .now) (s .args .top) (s .pre .2)
-
-shared-slice-read-if1 : tie.Need-shared-slice-read-if1 Inv-loop μ-loop
-shared-slice-read-if1 c = omega arith
 
 returns : tie.Need-returns Inv-loop μ-loop
 returns c =
     let s = c .before .before .before .before .before .before .before .before .args in
     let m = c .before .before .before .loop in
     finding-here (systemIn (s .table .now) .loc) (s .a) (s .pile .now) (s .top) (m .p) (m .inv) (c .before .before .loop-test .taken) (c .if1 .taken)
-
-shared-slice-read-is-apart : tie.Need-shared-slice-read-is-apart Inv-loop μ-loop
-shared-slice-read-is-apart c = omega arith
 
 is-apart-requires : tie.Need-is-apart-requires Inv-loop μ-loop
 is-apart-requires c κs = (c .before .before .before .before .before .before .before .before .before .pre .0, c .before .before .before .before .before .before .before .before .before .pre .3 (c .before .before .before .before .loop .p) (c .before .before .before .before .loop .inv .low) (c .before .before .before .loop-test .taken), c .before .before .before .before .before .letter-bits .ensures .small)
@@ -44,12 +32,6 @@ returns-2 c =
     let s = c .before .before .before .before .before .before .before .before .before .before .before .args in
     let m = c .before .before .before .before .before .before .loop in
     finding-blocked (systemIn (s .table .now) .loc) (s .a) (s .pile .now) (s .top) (m .p) (m .inv) (c .before .before .before .before .before .loop-test .taken) (c .before .before .before .if1 .left) (apart-known (systemIn (s .table .now) .loc) (s .a) (c .before .before .before .before .before .before .before .before .wide .result) (getD (s .pile .now) (m .p) 0) (processesOf (c .before .before .before .before .before .before .before .letter-bits .result)) (c .before .is-apart .result) false (c .before .is-apart .ensures) (c .before .before .before .before .before .before .before .letter-bits .ensures .same) (c .before .before .before .before .before .before .before .before .wide .ensures .0) (c .if2 .left))
-
-add-p : tie.Need-add-p Inv-loop μ-loop
-add-p c = omega arith
-
-loop-less : tie.Need-loop-less Inv-loop μ-loop
-loop-less c = omega arith
 
 loop-again : tie.Need-loop-again Inv-loop μ-loop
 loop-again c =
@@ -68,15 +50,15 @@ find-spec =
     (tie.spec
     Inv-loop
     μ-loop
-    wide-requires
-    letter-bits-requires
+    (λ c κs. search needs)
+    (λ c κs. search needs)
     loop-holds
-    shared-slice-read-if1
+    (λ c. omega arith)
     returns
-    shared-slice-read-is-apart
+    (λ c. omega arith)
     is-apart-requires
     returns-2
-    add-p
-    loop-less
+    (λ c. omega arith)
+    (λ c. omega arith)
     loop-again
     returns-3)

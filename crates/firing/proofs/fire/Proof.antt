@@ -11,12 +11,6 @@ use borrow.Author.Needs.{needs}
 use Rattle.firing.proofs.fire.Statement.{statement}
 use Rattle.firing.proofs.fire.Tie as tie
 
-firing-place-requires : tie.Need-firing-place-requires
-firing-place-requires c κs = search needs
-
-same-length : tie.Need-same-length
-same-length c = search needs
-
 returns : tie.Need-returns
 returns c =
     let s = c .before .before .before .before .before in
@@ -25,15 +19,6 @@ returns c =
     let ne = located (a .table .now) (a .t) (s .pre .0) in
     let r = ruleIn (a .table .now) (a .k) in
     fires-idle loc ne r (a .pile .now) (a .c) (s .pre .2 .inside) (omega (arith, c .before .firing-place .ensures, c .if1 .taken))
-
-written-count-requires : tie.Need-written-count-requires
-written-count-requires c κs = search needs
-
-add-if2 : tie.Need-add-if2
-add-if2 c = search needs
-
-same-length-2 : tie.Need-same-length-2
-same-length-2 c = search needs
 
 returns-2 : tie.Need-returns-2
 returns-2 c =
@@ -54,18 +39,6 @@ rewrite-requires c κs =
     let low = place-rest loc ne r (a .pile .now) (a .c) (s .pre .2 .inside) (omega (arith, c .before .before .before .before .firing-place .ensures, c .before .before .before .if1 .left)) .0 in
     (s .pre .0, s .pre .1, omega (arith, c .before .before .before .before .firing-place .ensures), c .before .before .before .if1 .left, omega (arith, c .before .before .written-count .ensures, c .before .if2 .left))
 
-states-after-requires : tie.Need-states-after-requires
-states-after-requires c κs = search needs
-
-add-t12 : tie.Need-add-t12
-add-t12 c = search needs
-
-sub-t17 : tie.Need-sub-t17
-sub-t17 c = search needs
-
-same-length-3 : tie.Need-same-length-3
-same-length-3 c = search needs
-
 returns-3 : tie.Need-returns-3
 returns-3 c =
     let s = c .before .before .before .before .before .before .before .before .before .before .before .before in
@@ -82,16 +55,16 @@ pub fire-spec : {M : Type 1} → statement M
 fire-spec =
     tie.close
     (tie.spec
-    firing-place-requires
-    same-length
+    (λ c κs. search needs)
+    (λ c. search needs)
     returns
-    written-count-requires
-    add-if2
-    same-length-2
+    (λ c κs. search needs)
+    (λ c. search needs)
+    (λ c. search needs)
     returns-2
     rewrite-requires
-    states-after-requires
-    add-t12
-    sub-t17
-    same-length-3
+    (λ c κs. search needs)
+    (λ c. search needs)
+    (λ c. search needs)
+    (λ c. search needs)
     returns-3)

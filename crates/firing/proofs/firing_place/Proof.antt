@@ -10,20 +10,8 @@ use borrow.Author.Needs.{needs}
 use Rattle.firing.proofs.firing_place.Statement.{statement}
 use Rattle.firing.proofs.firing_place.Tie as tie
 
-rule-letter-requires : tie.Need-rule-letter-requires
-rule-letter-requires c κs = search needs
-
-wide-requires : tie.Need-wide-requires
-wide-requires c κs = search needs
-
 letter-bits-requires : tie.Need-letter-bits-requires
 letter-bits-requires c κs = (c .before .before .before .before .pre .0, let l = rule-letter-in (c .before .before .before .before .args .table .now) (c .before .before .before .before .args .t) (c .before .before .before .before .pre .0) (c .before .before .before .before .args .k) (c .before .before .before .before .pre .1) in omega (arith, c .wide .ensures .0, c .before .rule-letter .ensures))
-
-rule-before-requires : tie.Need-rule-before-requires
-rule-before-requires c κs = search needs
-
-reads-requires : tie.Need-reads-requires
-reads-requires c κs = search needs
 
 find-requires : tie.Need-find-requires
 find-requires c κs =
@@ -52,11 +40,11 @@ pub firing-place-spec : {M : Type 1} → statement M
 firing-place-spec =
     tie.close
     (tie.spec
-    rule-letter-requires
-    wide-requires
+    (λ c κs. search needs)
+    (λ c κs. search needs)
     letter-bits-requires
-    rule-before-requires
-    reads-requires
+    (λ c κs. search needs)
+    (λ c κs. search needs)
     find-requires
     returns
     returns-2)

@@ -7,12 +7,6 @@ use borrow.Author.Needs.{needs}
 use Rattle.firing.proofs.is_apart.Statement.{statement}
 use Rattle.firing.proofs.is_apart.Tie as tie
 
-wide-requires : tie.Need-wide-requires
-wide-requires c κs = search needs
-
-letter-bits-requires : tie.Need-letter-bits-requires
-letter-bits-requires c κs = search needs
-
 returns : tie.Need-returns
 returns c =
     let s = c .before .before .before in
@@ -20,4 +14,4 @@ returns c =
     apart-bits (s .args .bits) (c .letter-bits .result) (s .pre .2) (l .small) ∙ ap (apartTest (processesOf (s .args .bits))) (l .same ∙ ap (systemIn (s .args .table .now) .loc) (c .before .wide .ensures .0))
 
 pub is-apart-spec : {M : Type 1} → statement M
-is-apart-spec = tie.close (tie.spec wide-requires letter-bits-requires returns)
+is-apart-spec = tie.close (tie.spec (λ c κs. search needs) (λ c κs. search needs) returns)

@@ -9,24 +9,6 @@ use borrow.Author.Needs.{needs}
 use Rattle.firing.proofs.rewrite.Statement.{statement}
 use Rattle.firing.proofs.rewrite.Tie as tie
 
-close-gap-requires : tie.Need-close-gap-requires
-close-gap-requires c κs = search needs
-
-written-count-requires : tie.Need-written-count-requires
-written-count-requires c κs = search needs
-
-add-write-letters : tie.Need-add-write-letters
-add-write-letters c = search needs
-
-sub-write-letters : tie.Need-sub-write-letters
-sub-write-letters c = search needs
-
-write-letters-requires : tie.Need-write-letters-requires
-write-letters-requires c κs = search needs
-
-same-length : tie.Need-same-length
-same-length c = search needs
-
 returns : tie.Need-returns
 returns c =
     let s = c .before .before .before .before .before .before .before .before .before .before .before in
@@ -39,10 +21,10 @@ pub rewrite-spec : {M : Type 1} → statement M
 rewrite-spec =
     tie.close
     (tie.spec
-    close-gap-requires
-    written-count-requires
-    add-write-letters
-    sub-write-letters
-    write-letters-requires
-    same-length
+    (λ c κs. search needs)
+    (λ c κs. search needs)
+    (λ c. search needs)
+    (λ c. search needs)
+    (λ c κs. search needs)
+    (λ c. search needs)
     returns)

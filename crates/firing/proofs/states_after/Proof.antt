@@ -8,20 +8,8 @@ use borrow.Author.Needs.{needs}
 use Rattle.firing.proofs.states_after.Statement.{statement}
 use Rattle.firing.proofs.states_after.Tie as tie
 
-rule-letter-requires : tie.Need-rule-letter-requires
-rule-letter-requires c κs = search needs
-
-wide-requires : tie.Need-wide-requires
-wide-requires c κs = search needs
-
 letter-bits-requires : tie.Need-letter-bits-requires
 letter-bits-requires c κs = (c .before .before .before .pre .0, let l = rule-letter-in (c .before .before .before .args .table .now) (c .before .before .before .args .t) (c .before .before .before .pre .0) (c .before .before .before .args .k) (c .before .before .before .pre .1) in omega (arith, c .wide .ensures .0, c .before .rule-letter .ensures))
-
-rule-after-requires : tie.Need-rule-after-requires
-rule-after-requires c κs = search needs
-
-merged-requires : tie.Need-merged-requires
-merged-requires c κs = search needs
 
 returns : tie.Need-returns
 returns c =
@@ -34,9 +22,9 @@ pub states-after-spec : {M : Type 1} → statement M
 states-after-spec =
     tie.close
     (tie.spec
-    rule-letter-requires
-    wide-requires
+    (λ c κs. search needs)
+    (λ c κs. search needs)
     letter-bits-requires
-    rule-after-requires
-    merged-requires
+    (λ c κs. search needs)
+    (λ c κs. search needs)
     returns)

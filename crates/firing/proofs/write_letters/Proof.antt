@@ -15,26 +15,8 @@ Inv-loop table t k pile₀ at count j₀ pile j = (j ≤ count) × Pasting pile�
 abbrev μ-loop : tie.MeasureT-loop
 μ-loop table t k pile₀ at count j₀ pile j = count - j
 
-written-count-requires : tie.Need-written-count-requires Inv-loop μ-loop
-written-count-requires c κs = search needs
-
 loop-holds : tie.Need-loop-holds Inv-loop μ-loop
 loop-holds c = let s = c .before .before .before .args in (omega arith, pasting-start (s .pile .now) (ruleIn (s .table .now) (s .k) .written) (s .at))
-
-written-letter-requires : tie.Need-written-letter-requires Inv-loop μ-loop
-written-letter-requires c κs = search needs
-
-add-pile : tie.Need-add-pile Inv-loop μ-loop
-add-pile c = omega arith
-
-slice-write-pile : tie.Need-slice-write-pile Inv-loop μ-loop
-slice-write-pile c = omega arith
-
-add-j : tie.Need-add-j Inv-loop μ-loop
-add-j c = omega arith
-
-loop-less : tie.Need-loop-less Inv-loop μ-loop
-loop-less c = omega arith
 
 loop-again : tie.Need-loop-again Inv-loop μ-loop
 loop-again c =
@@ -60,13 +42,13 @@ write-letters-spec =
     (tie.spec
     Inv-loop
     μ-loop
-    written-count-requires
+    (λ c κs. search needs)
     loop-holds
-    written-letter-requires
-    add-pile
-    slice-write-pile
-    add-j
-    loop-less
+    (λ c κs. search needs)
+    (λ c. omega arith)
+    (λ c. omega arith)
+    (λ c. omega arith)
+    (λ c. omega arith)
     loop-again
     same-length
     returns)

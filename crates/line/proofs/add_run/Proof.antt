@@ -12,26 +12,11 @@ use borrow.Author.Needs.{needs}
 use Rattle.line.proofs.add_run.Statement.{statement}
 use Rattle.line.proofs.add_run.Tie as tie
 
-run-requires : tie.Need-run-requires
-run-requires c κs = search needs
-
 put-ran-requires : tie.Need-put-ran-requires
 put-ran-requires c κs =
     let a = c .before .before .before .before .before .before .before .before .before .before .before .before .before .before .before .before .before .args in
     let r = c .before .before .before .before .before .before .before .before .run in
     (omega (arith, ap listed (r .ensures .0 .answer), run-fits (a .input .now) (a .log .now) (a .scratch .now) (a .page .now), r .kept .1 .1 .1 .0), omega (arith, r .kept .1 .1 .1 .0))
-
-same-length : tie.Need-same-length
-same-length c = search needs
-
-same-length-2 : tie.Need-same-length-2
-same-length-2 c = search needs
-
-same-length-3 : tie.Need-same-length-3
-same-length-3 c = search needs
-
-same-length-4 : tie.Need-same-length-4
-same-length-4 c = search needs
 
 returns : tie.Need-returns
 returns c =
@@ -45,10 +30,10 @@ pub add-run-spec : {M : Type 1} → statement M
 add-run-spec =
     tie.close
     (tie.spec
-    run-requires
+    (λ c κs. search needs)
     put-ran-requires
-    same-length
-    same-length-2
-    same-length-3
-    same-length-4
+    (λ c. search needs)
+    (λ c. search needs)
+    (λ c. search needs)
+    (λ c. search needs)
     returns)

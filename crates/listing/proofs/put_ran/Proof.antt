@@ -10,27 +10,6 @@ use borrow.Author.Needs.{needs}
 use Rattle.listing.proofs.put_ran.Statement.{statement}
 use Rattle.listing.proofs.put_ran.Tie as tie
 
-enum-known-ran : tie.Need-enum-known-ran
-enum-known-ran c = search needs
-
-slice-aggregate-put-line : tie.Need-slice-aggregate-put-line
-slice-aggregate-put-line c = search needs
-
-cast-put-line : tie.Need-cast-put-line
-cast-put-line c = search needs
-
-put-line-requires : tie.Need-put-line-requires
-put-line-requires c κs = search needs
-
-cast-count : tie.Need-cast-count
-cast-count c = search needs
-
-sub-put-run : tie.Need-sub-put-run
-sub-put-run c = search needs
-
-part-put-run-start : tie.Need-part-put-run-start
-part-put-run-start c = search needs
-
 part-put-run-end : tie.Need-part-put-run-end
 part-put-run-end c =
     let g = c .before .before .before .before .before .before .before .ran .given in
@@ -41,9 +20,6 @@ put-run-requires : tie.Need-put-run-requires
 put-run-requires c κs =
     omega (arith, length-take (c .before .before .before .before .before .before .before .before .ran .given .0 .1 .1 .0 - 0) (c .before .before .before .before .before .before .before .before .before .before .before .before .args .page .now), c .before .before .before .before .before .before .before .before .before .before .before .before .pre .1)
 
-same-length : tie.Need-same-length
-same-length c = search needs
-
 returns : tie.Need-returns
 unfolding runLines
 returns c =
@@ -52,21 +28,6 @@ returns c =
     let e : a .ran ≡ Ran.Reached (g .0 .0) (g .0 .1 .0) (g .0 .1 .1 .0) (g .0 .1 .1 .1 .0) = g .1 in
     subst (λ (x : Ran). Puts (a .out .now) (a .at) (runLines x (a .page .now)) (6 * length (a .page .now) + 64) (c .before .before .put-run .result) (c .before .before .put-run .last .0)) (sym e)
     (puts-run (a .page .now) (g .0 .1 .1 .0) (c .before .before .before .before .before .before .before .put-line .ensures) (c .before .before .put-run .ensures) (omega (arith, c .before .before .before .before .before .before .before .before .before .before .before .before .before .before .before .pre .1)) (omega arith))
-
-enum-known-ran-2 : tie.Need-enum-known-ran-2
-enum-known-ran-2 c = search needs
-
-slice-aggregate-put-line-2 : tie.Need-slice-aggregate-put-line-2
-slice-aggregate-put-line-2 c = search needs
-
-cast-put-line-2 : tie.Need-cast-put-line-2
-cast-put-line-2 c = search needs
-
-put-line-requires-2 : tie.Need-put-line-requires-2
-put-line-requires-2 c κs = search needs
-
-same-length-2 : tie.Need-same-length-2
-same-length-2 c = search needs
 
 returns-2 : tie.Need-returns-2
 unfolding runLines
@@ -81,20 +42,20 @@ pub put-ran-spec : {M : Type 1} → statement M
 put-ran-spec =
     tie.close
     (tie.spec
-    enum-known-ran
-    slice-aggregate-put-line
-    cast-put-line
-    put-line-requires
-    cast-count
-    sub-put-run
-    part-put-run-start
+    (λ c. search needs)
+    (λ c. search needs)
+    (λ c. search needs)
+    (λ c κs. search needs)
+    (λ c. search needs)
+    (λ c. search needs)
+    (λ c. search needs)
     part-put-run-end
     put-run-requires
-    same-length
+    (λ c. search needs)
     returns
-    enum-known-ran-2
-    slice-aggregate-put-line-2
-    cast-put-line-2
-    put-line-requires-2
-    same-length-2
+    (λ c. search needs)
+    (λ c. search needs)
+    (λ c. search needs)
+    (λ c κs. search needs)
+    (λ c. search needs)
     returns-2)

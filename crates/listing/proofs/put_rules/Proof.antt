@@ -16,21 +16,6 @@ abbrev μ-loop : tie.MeasureT-loop
 loop-holds : tie.Need-loop-holds Inv-loop μ-loop
 loop-holds c = (omega arith, puts-none _ _ _ (omega arith))
 
-mul-put-rule : tie.Need-mul-put-rule Inv-loop μ-loop
-mul-put-rule c = omega arith
-
-shared-slice-read-put-rule : tie.Need-shared-slice-read-put-rule Inv-loop μ-loop
-shared-slice-read-put-rule c = omega arith
-
-put-rule-requires : tie.Need-put-rule-requires Inv-loop μ-loop
-put-rule-requires c κs = omega arith
-
-add-i : tie.Need-add-i Inv-loop μ-loop
-add-i c = omega arith
-
-loop-less : tie.Need-loop-less Inv-loop μ-loop
-loop-less c = omega arith
-
 loop-again : tie.Need-loop-again Inv-loop μ-loop
 loop-again c =
     let m = c .before .before .before .before .before .before .loop in
@@ -49,11 +34,11 @@ put-rules-spec =
     Inv-loop
     μ-loop
     loop-holds
-    mul-put-rule
-    shared-slice-read-put-rule
-    put-rule-requires
-    add-i
-    loop-less
+    (λ c. omega arith)
+    (λ c. omega arith)
+    (λ c κs. omega arith)
+    (λ c. omega arith)
+    (λ c. omega arith)
     loop-again
     same-length
     returns)

@@ -15,26 +15,8 @@ abbrev μ-loop : tie.MeasureT-loop
 loop-holds : tie.Need-loop-holds Inv-loop μ-loop
 loop-holds c = (omega arith, refl)
 
-add-append-doubling : tie.Need-add-append-doubling Inv-loop μ-loop
-add-append-doubling c = omega arith
-
-append-doubling-requires : tie.Need-append-doubling-requires Inv-loop μ-loop
-append-doubling-requires c κs = search needs
-
-add-i : tie.Need-add-i Inv-loop μ-loop
-add-i c = omega arith
-
-loop-less : tie.Need-loop-less Inv-loop μ-loop
-loop-less c = omega arith
-
 loop-again : tie.Need-loop-again Inv-loop μ-loop
 loop-again c = (omega arith, search needs)
-
-same-length : tie.Need-same-length Inv-loop μ-loop
-same-length c = search needs
-
-returns : tie.Need-returns Inv-loop μ-loop
-returns c = search needs
 
 pub append-doublings-spec : {M : Type 1} → statement M
 append-doublings-spec =
@@ -43,10 +25,10 @@ append-doublings-spec =
     Inv-loop
     μ-loop
     loop-holds
-    add-append-doubling
-    append-doubling-requires
-    add-i
-    loop-less
+    (λ c. omega arith)
+    (λ c κs. search needs)
+    (λ c. omega arith)
+    (λ c. omega arith)
     loop-again
-    same-length
-    returns)
+    (λ c. search needs)
+    (λ c. search needs))

@@ -14,29 +14,8 @@ abbrev μ-loop : tie.MeasureT-loop
 loop-holds : tie.Need-loop-holds Inv-loop μ-loop
 loop-holds c = (omega arith, omega arith)
 
-shared-slice-read-as-u16 : tie.Need-shared-slice-read-as-u16 Inv-loop μ-loop
-shared-slice-read-as-u16 c = omega arith
-
-as-u16-requires : tie.Need-as-u16-requires Inv-loop μ-loop
-as-u16-requires c κs = search needs
-
-one-if-requires : tie.Need-one-if-requires Inv-loop μ-loop
-one-if-requires c κs = search needs
-
-add-n : tie.Need-add-n Inv-loop μ-loop
-add-n c = omega arith
-
-add-i : tie.Need-add-i Inv-loop μ-loop
-add-i c = omega arith
-
-loop-less : tie.Need-loop-less Inv-loop μ-loop
-loop-less c = omega arith
-
 loop-again : tie.Need-loop-again Inv-loop μ-loop
 loop-again c = (omega arith, omega arith)
-
-returns : tie.Need-returns Inv-loop μ-loop
-returns c = search needs
 
 pub count-bytes-spec : {M : Type 1} → statement M
 count-bytes-spec =
@@ -45,11 +24,11 @@ count-bytes-spec =
     Inv-loop
     μ-loop
     loop-holds
-    shared-slice-read-as-u16
-    as-u16-requires
-    one-if-requires
-    add-n
-    add-i
-    loop-less
+    (λ c. omega arith)
+    (λ c κs. search needs)
+    (λ c κs. search needs)
+    (λ c. omega arith)
+    (λ c. omega arith)
+    (λ c. omega arith)
     loop-again
-    returns)
+    (λ c. search needs))

@@ -11,45 +11,18 @@ Inv-loop page i₀ i = i ≤ length page
 abbrev μ-loop : tie.MeasureT-loop
 μ-loop page i₀ i = length page - i
 
-loop-holds : tie.Need-loop-holds Inv-loop μ-loop
-loop-holds c = omega arith
-
-mul-print-word : tie.Need-mul-print-word Inv-loop μ-loop
-mul-print-word c = omega arith
-
-shared-slice-read-print-word : tie.Need-shared-slice-read-print-word Inv-loop μ-loop
-shared-slice-read-print-word c = omega arith
-
-print-word-requires : tie.Need-print-word-requires Inv-loop μ-loop
-print-word-requires c κs = search needs
-
-add-i : tie.Need-add-i Inv-loop μ-loop
-add-i c = omega arith
-
-loop-less : tie.Need-loop-less Inv-loop μ-loop
-loop-less c = omega arith
-
-loop-again : tie.Need-loop-again Inv-loop μ-loop
-loop-again c = search needs
-
-returns : tie.Need-returns Inv-loop μ-loop
-returns c = search needs
-
-returns-2 : tie.Need-returns-2 Inv-loop μ-loop
-returns-2 c = search needs
-
 pub print-first-places-spec : {M : Type 1} → statement M
 print-first-places-spec =
     tie.close
     (tie.spec
     Inv-loop
     μ-loop
-    loop-holds
-    mul-print-word
-    shared-slice-read-print-word
-    print-word-requires
-    add-i
-    loop-less
-    loop-again
-    returns
-    returns-2)
+    (λ c. omega arith)
+    (λ c. omega arith)
+    (λ c. omega arith)
+    (λ c κs. search needs)
+    (λ c. omega arith)
+    (λ c. omega arith)
+    (λ c. search needs)
+    (λ c. search needs)
+    (λ c. search needs))

@@ -11,14 +11,5 @@ slice-aggregate-run-in-parts c = sym (length-replicate {0} {A = ℕ} 600 7)
 slice-aggregate-run-in-parts-2 : tie.Need-slice-aggregate-run-in-parts-2
 slice-aggregate-run-in-parts-2 c = sym (length-replicate {0} {A = ℕ} 34200 7)
 
-run-in-parts-requires : tie.Need-run-in-parts-requires
-run-in-parts-requires c κs = search needs
-
-same-length : tie.Need-same-length
-same-length c = search needs
-
-returns : tie.Need-returns
-returns c = search needs
-
 pub run-on-spec : {M : Type 1} → statement M
-run-on-spec = tie.close (tie.spec slice-aggregate-run-in-parts slice-aggregate-run-in-parts-2 run-in-parts-requires same-length returns)
+run-on-spec = tie.close (tie.spec slice-aggregate-run-in-parts slice-aggregate-run-in-parts-2 (λ c κs. search needs) (λ c. search needs) (λ c. search needs))

@@ -11,11 +11,5 @@ slice-aggregate-answer-in-parts c = sym (length-replicate {0} {A = ℕ} 600 7)
 slice-aggregate-answer-in-parts-2 : tie.Need-slice-aggregate-answer-in-parts-2
 slice-aggregate-answer-in-parts-2 c = sym (length-replicate {0} {A = ℕ} 34200 7)
 
-answer-in-parts-requires : tie.Need-answer-in-parts-requires
-answer-in-parts-requires c κs = search needs
-
-returns : tie.Need-returns
-returns c = search needs
-
 pub show-answer-spec : {M : Type 1} → statement M
-show-answer-spec = tie.close (tie.spec slice-aggregate-answer-in-parts slice-aggregate-answer-in-parts-2 answer-in-parts-requires returns)
+show-answer-spec = tie.close (tie.spec slice-aggregate-answer-in-parts slice-aggregate-answer-in-parts-2 (λ c κs. search needs) (λ c. search needs))

@@ -9,11 +9,5 @@ use Rattle.reach_cases.proofs.show_long.Tie as tie
 slice-aggregate-run-on-part : tie.Need-slice-aggregate-run-on-part
 slice-aggregate-run-on-part c = sym (length-replicate {0} {A = ℕ} 1000000 7)
 
-run-on-part-requires : tie.Need-run-on-part-requires
-run-on-part-requires c κs = search needs
-
-returns : tie.Need-returns
-returns c = search needs
-
 pub show-long-spec : {M : Type 1} → statement M
-show-long-spec = tie.close (tie.spec slice-aggregate-run-on-part run-on-part-requires returns)
+show-long-spec = tie.close (tie.spec slice-aggregate-run-on-part (λ c κs. search needs) (λ c. search needs))

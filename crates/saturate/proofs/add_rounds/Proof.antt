@@ -28,10 +28,6 @@ loop-holds c =
     let p = c .before .before .before .before .before .before .before .before .before .before .pre in
     saturating-start (a .table .now) (a .t) (a .n) (a .t .transitions) (c .before .before .before .before .round-count .result) (a .log .now) (a .scratch .now) (c .before .before .before .before .round-count .last .1 .1 .0) (c .before .before .before .before .round-count .last .1 .1 .1 .0) p (c .before .before .before .before .round-count .ensures)
 
--- src/lib.rt:63:11
-goes-on-requires : tie.Need-goes-on-requires Inv-loop μ-loop
-goes-on-requires c κs = search needs
-
 -- src/lib.rt:65:9
 add-round : tie.Need-add-round Inv-loop μ-loop
 add-round c = omega (arith, c .before .before .loop .inv .late, c .before .before .loop .inv .fits, c .before .before .loop .inv .short)
@@ -104,7 +100,7 @@ add-rounds-spec =
     μ-loop
     round-count-requires
     loop-holds
-    goes-on-requires
+    (λ c κs. search needs)
     add-round
     add-round-count
     round-count-requires-2

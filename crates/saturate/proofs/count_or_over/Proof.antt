@@ -10,17 +10,9 @@ use Rattle.saturate.proofs.count_or_over.Tie as tie
 use Rattle.saturate.proofs.count_or_over.Reads as reads
 use Rattle.saturate.proofs.count_or_over.Lts as lts
 
--- src/lib.rt:34:24
-enum-known-added : tie.Need-enum-known-added
-enum-known-added c = search needs
-
 -- src/lib.rt:35:24
 enum-told : tie.Need-enum-told
 enum-told c = search needs
-
--- src/lib.rt:35:24
-add-result : tie.Need-add-result
-add-result c = search needs
 
 -- src/lib.rt:29:1
 returns : tie.Need-returns
@@ -33,4 +25,4 @@ unfolding countOrOver
 returns-2 c = sym (ap (λ (x : Added). countOrOver x (c .before .before .args .n)) (c .enum-told .given .1))
 
 pub count-or-over-spec : {M : Type 1} → statement M
-count-or-over-spec = tie.close (tie.spec enum-known-added enum-told add-result returns returns-2)
+count-or-over-spec = tie.close (tie.spec (λ c. search needs) enum-told (λ c. search needs) returns returns-2)

@@ -9,22 +9,6 @@ use Rattle.saturate.proofs.round_count.Lts as lts
 use Rattle.saturate.proofs.count_or_over.Reads as count-or-over-reads
 use Rattle.saturate.proofs.rounds.add_round.Reads as add-round-reads
 
--- src/lib.rt:43:19
-add-round-requires : tie.Need-add-round-requires
-add-round-requires c κs = search needs
-
--- src/lib.rt:43:5
-count-or-over-requires : tie.Need-count-or-over-requires
-count-or-over-requires c κs = search needs
-
--- src/lib.rt:39:1
-same-length : tie.Need-same-length
-same-length c = search needs
-
--- src/lib.rt:39:1
-same-length-2 : tie.Need-same-length-2
-same-length-2 c = search needs
-
 -- src/lib.rt:39:1
 returns : tie.Need-returns
 returns c =
@@ -35,4 +19,4 @@ returns c =
 pub round-count-spec : {M : Type 1} → statement M
 round-count-spec =
     tie.close
-    (tie.spec add-round-requires count-or-over-requires same-length same-length-2 returns)
+    (tie.spec (λ c κs. search needs) (λ c κs. search needs) (λ c. search needs) (λ c. search needs) returns)

@@ -5,9 +5,6 @@ use Rattle.start.proofs.Tracing.{sought-path, sought-none}
 use Rattle.start.proofs.find.Statement.{statement}
 use Rattle.start.proofs.find.Tie as tie
 
-prepare-requires : tie.Need-prepare-requires
-prepare-requires c κs = search needs
-
 is-accepted-requires : tie.Need-is-accepted-requires
 is-accepted-requires c κs =
     let p = c .before .before .before .before .before .before .before .before .pre in
@@ -19,14 +16,8 @@ write-path-requires c κs =
     let e = c .before .before .before .before .before .before .prepare .ensures in
     (c .before .before .before .before .before .before .before .before .before .before .before .pre .0, e .0, e .1, sym (c .before .before .is-accepted .ensures) ∙ c .before .if1 .taken)
 
-same-length : tie.Need-same-length
-same-length c = search needs
-
 returns : tie.Need-returns
 returns c = sought-path (c .before .before .write-path .ensures)
-
-same-length-2 : tie.Need-same-length-2
-same-length-2 c = search needs
 
 returns-2 : tie.Need-returns-2
 returns-2 c =
@@ -37,10 +28,10 @@ pub find-spec : {M : Type 1} → statement M
 find-spec =
     tie.close
     (tie.spec
-    prepare-requires
+    (λ c κs. search needs)
     is-accepted-requires
     write-path-requires
-    same-length
+    (λ c. search needs)
     returns
-    same-length-2
+    (λ c. search needs)
     returns-2)

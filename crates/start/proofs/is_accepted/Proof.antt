@@ -10,24 +10,6 @@ use Rattle.start.proofs.Grounds.{grounds}
 use Rattle.start.proofs.is_accepted.Statement.{statement}
 use Rattle.start.proofs.is_accepted.Tie as tie
 
-start-group-requires : tie.Need-start-group-requires
-start-group-requires c κs = search needs
-
-sub-contains : tie.Need-sub-contains
-sub-contains c = search needs
-
-part-contains-start : tie.Need-part-contains-start
-part-contains-start c = search needs
-
-part-contains-end : tie.Need-part-contains-end
-part-contains-end c = search needs
-
-number-requires : tie.Need-number-requires
-number-requires c κs = search needs
-
-contains-requires : tie.Need-contains-requires
-contains-requires c κs = search needs
-
 returns : tie.Need-returns
 returns c =
     let a = c .before .before .before .before .before .before .args in
@@ -40,10 +22,10 @@ pub is-accepted-spec : {M : Type 1} → statement M
 is-accepted-spec =
     tie.close
     (tie.spec
-    start-group-requires
-    sub-contains
-    part-contains-start
-    part-contains-end
-    number-requires
-    contains-requires
+    (λ c κs. search needs)
+    (λ c. search needs)
+    (λ c. search needs)
+    (λ c. search needs)
+    (λ c κs. search needs)
+    (λ c κs. search needs)
     returns)

@@ -8,9 +8,6 @@ use Rattle.start.proofs.prepare.Tie as tie
 build-requires : tie.Need-build-requires
 build-requires c κs = let p = c .before .before .before .before .pre in chain-room (p .0) (p .1) (p .2) (p .3)
 
-fill-accepting-requires : tie.Need-fill-accepting-requires
-fill-accepting-requires c κs = search needs
-
 fill-sets-requires : tie.Need-fill-sets-requires
 fill-sets-requires c κs =
     let a = c .before .before .before .before .before .before .before .before .before .before .before .before .args in
@@ -18,9 +15,6 @@ fill-sets-requires c κs =
     let b = c .before .before .before .before .before .before .before .build .ensures in
     let f = c .before .before .before .fill-accepting .ensures in
     (p .0, linked-same (omega (arith, table-modest (a .table .now) (a .t) (p .0 .holds) .pile)) (f .0) (linked-built (chain-room (p .0) (p .1) (p .2) (p .3)) (b .0) (b .1)), f .1)
-
-same-length : tie.Need-same-length
-same-length c = search needs
 
 returns : tie.Need-returns
 returns c =
@@ -35,4 +29,4 @@ returns c =
 pub prepare-spec : {M : Type 1} → statement M
 prepare-spec =
     tie.close
-    (tie.spec build-requires fill-accepting-requires fill-sets-requires same-length returns)
+    (tie.spec build-requires (λ c κs. search needs) fill-sets-requires (λ c. search needs) returns)

@@ -15,21 +15,12 @@ use Rattle.table.proofs.next_item.Tie as tie
 returns : tie.Need-returns
 returns c = step-end (c .before .before .args .bytes .now) (c .before .before .args .c) (c .if1 .taken)
 
-shared-slice-read-kind : tie.Need-shared-slice-read-kind
-shared-slice-read-kind c = search needs
-
-check-item-requires : tie.Need-check-item-requires
-check-item-requires c κs = search needs
-
 returns-2 : tie.Need-returns-2
 returns-2 c =
     let b = c .before .before .before .before .before .args .bytes .now in
     let c′ = c .before .before .before .before .before .args .c in
     let r : c′ .at < length b = c .before .before .before .if1 .left in
     step-refused b c′ (c .before .before .before .before .before .pre) r (c .before .check-item .result) (c .before .check-item .ensures) (c .if2 .taken)
-
-add-next : tie.Need-add-next
-add-next c = search needs
 
 body-length-requires : tie.Need-body-length-requires
 body-length-requires c κs =
@@ -60,12 +51,6 @@ returns-3 c =
     let z = sym (c .before .before .before .before .check-item .ensures) ∙ c .before .before .before .if2 .left in
     subst (λ (d : Cursor). Stepped b c′ (Next d)) (sym (c .advance .ensures ∙ ap (λ (m : ℕ). advanced c′ (getD b (c′ .at) 0) (c′ .at + 1 + m)) (c .before .body-length .ensures))) (step-next b c′ (c .before .before .before .before .before .before .before .before .pre) r z (c .before .before .if3 .taken))
 
-add-if4 : tie.Need-add-if4
-add-if4 c = search needs
-
-add-t18 : tie.Need-add-t18
-add-t18 c = search needs
-
 returns-4 : tie.Need-returns-4
 returns-4 c =
     let b = c .before .before .before .before .before .before .before .args .bytes .now in
@@ -87,15 +72,15 @@ next-item-spec =
     tie.close
     (tie.spec
     returns
-    shared-slice-read-kind
-    check-item-requires
+    (λ c. search needs)
+    (λ c κs. search needs)
     returns-2
-    add-next
+    (λ c. search needs)
     body-length-requires
     add-next-2
     advance-requires
     returns-3
-    add-if4
-    add-t18
+    (λ c. search needs)
+    (λ c. search needs)
     returns-4
     returns-5)

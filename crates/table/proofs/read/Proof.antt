@@ -14,17 +14,11 @@ Inv-loop bytes c₀ c = Going bytes c
 abbrev μ-loop : tie.MeasureT-loop
 μ-loop bytes c₀ c = length bytes - c .at
 
-empty-requires : tie.Need-empty-requires Inv-loop μ-loop
-empty-requires c κs = search needs
-
 loop-holds : tie.Need-loop-holds Inv-loop μ-loop
 loop-holds c = going-start (c .before .before .args .bytes .now) _ (rw (c .empty .ensures) refl)
 
 next-item-requires : tie.Need-next-item-requires Inv-loop μ-loop
 next-item-requires c κs = c .loop .inv .passed
-
-enum-known-n : tie.Need-enum-known-n Inv-loop μ-loop
-enum-known-n c = search needs
 
 loop-less : tie.Need-loop-less Inv-loop μ-loop
 loop-less c =
@@ -41,9 +35,6 @@ loop-again c =
     let m = c .before .before .before .before .loop in
     going-turn b (m .c) (m .inv) (c .before .n .given .0 .0) (c .before .before .before .next-item .ensures .next (c .before .n .given .0 .0) e)
 
-enum-known-p : tie.Need-enum-known-p Inv-loop μ-loop
-enum-known-p c = search needs
-
 returns : tie.Need-returns Inv-loop μ-loop
 returns c =
     let e : c .before .before .before .next-item .result ≡ Done (c .before .p .given .0 .0) = c .before .p .given .1 in
@@ -57,11 +48,11 @@ read-spec =
     (tie.spec
     Inv-loop
     μ-loop
-    empty-requires
+    (λ c κs. search needs)
     loop-holds
     next-item-requires
-    enum-known-n
+    (λ c. search needs)
     loop-less
     loop-again
-    enum-known-p
+    (λ c. search needs)
     returns)

@@ -11,25 +11,7 @@ Inv-loop bytes n₀ n = n ≤ length bytes
 abbrev μ-loop : tie.MeasureT-loop
 μ-loop bytes n₀ n = length bytes - n
 
-loop-holds : tie.Need-loop-holds Inv-loop μ-loop
-loop-holds c = omega arith
-
-show-part-requires : tie.Need-show-part-requires Inv-loop μ-loop
-show-part-requires c κs = search needs
-
-add-n : tie.Need-add-n Inv-loop μ-loop
-add-n c = omega arith
-
-loop-less : tie.Need-loop-less Inv-loop μ-loop
-loop-less c = omega arith
-
-loop-again : tie.Need-loop-again Inv-loop μ-loop
-loop-again c = search needs
-
-returns : tie.Need-returns Inv-loop μ-loop
-returns c = search needs
-
 pub show-cuts-spec : {M : Type 1} → statement M
 show-cuts-spec =
     tie.close
-    (tie.spec Inv-loop μ-loop loop-holds show-part-requires add-n loop-less loop-again returns)
+    (tie.spec Inv-loop μ-loop (λ c. omega arith) (λ c κs. search needs) (λ c. omega arith) (λ c. omega arith) (λ c. search needs) (λ c. search needs))

@@ -21,24 +21,9 @@ loop-holds : tie.Need-loop-holds Inv-loop μ-loop
 loop-holds c =
     let a = c .before .args in counting-start (a .bytes .now) (a .at) (a .n) (a .x)
 
-add-one-if-equal : tie.Need-add-one-if-equal Inv-loop μ-loop
-add-one-if-equal c = omega arith
-
-shared-slice-read-one-if-equal : tie.Need-shared-slice-read-one-if-equal Inv-loop μ-loop
-shared-slice-read-one-if-equal c = omega arith
-
 one-if-equal-requires : tie.Need-one-if-equal-requires Inv-loop μ-loop
 one-if-equal-requires c κs =
     search needs
-
-add-m : tie.Need-add-m Inv-loop μ-loop
-add-m c = omega arith
-
-add-i : tie.Need-add-i Inv-loop μ-loop
-add-i c = omega arith
-
-loop-less : tie.Need-loop-less Inv-loop μ-loop
-loop-less c = omega arith
 
 loop-again : tie.Need-loop-again Inv-loop μ-loop
 loop-again c =
@@ -59,11 +44,11 @@ count-equal-spec =
     Inv-loop
     μ-loop
     loop-holds
-    add-one-if-equal
-    shared-slice-read-one-if-equal
+    (λ c. omega arith)
+    (λ c. omega arith)
     one-if-equal-requires
-    add-m
-    add-i
-    loop-less
+    (λ c. omega arith)
+    (λ c. omega arith)
+    (λ c. omega arith)
     loop-again
     returns)

@@ -12,14 +12,8 @@ Inv-loop members n end m₀ m = (n ≤ m) × (m ≤ end) × Fails (member member
 abbrev μ-loop : tie.MeasureT-loop
 μ-loop members n end m₀ m = end - m
 
-byte-end-requires : tie.Need-byte-end-requires Inv-loop μ-loop
-byte-end-requires c κs = omega arith
-
 loop-holds : tie.Need-loop-holds Inv-loop μ-loop
 loop-holds c = let a = c .before .before .args in (omega arith, omega arith, fails-none (member (a .members .now)) (a .n))
-
-contains-requires : tie.Need-contains-requires Inv-loop μ-loop
-contains-requires c κs = omega arith
 
 returns : tie.Need-returns Inv-loop μ-loop
 returns c =
@@ -27,12 +21,6 @@ returns c =
     let m = c .before .before .before .loop in
     let t = sym (c .before .contains .ensures) ∙ c .if1 .taken in
     first-is (member (a .members .now)) (a .n) (8 - a .n % 8) (m .m) (record { low = m .inv .0; high = omega arith; passes = λ h. t; fails = m .inv .2 })
-
-add-m : tie.Need-add-m Inv-loop μ-loop
-add-m c = omega arith
-
-loop-less : tie.Need-loop-less Inv-loop μ-loop
-loop-less c = omega arith
 
 loop-again : tie.Need-loop-again Inv-loop μ-loop
 loop-again c =
@@ -53,11 +41,11 @@ next-bit-spec =
     (tie.spec
     Inv-loop
     μ-loop
-    byte-end-requires
+    (λ c κs. omega arith)
     loop-holds
-    contains-requires
+    (λ c κs. omega arith)
     returns
-    add-m
-    loop-less
+    (λ c. omega arith)
+    (λ c. omega arith)
     loop-again
     returns-2)

@@ -7,12 +7,6 @@ use borrow.Author.Needs.{needs}
 use Rattle.automaton.proofs.sets.next_in_byte.Statement.{statement}
 use Rattle.automaton.proofs.sets.next_in_byte.Tie as tie
 
-shared-slice-read-if1 : tie.Need-shared-slice-read-if1
-shared-slice-read-if1 c = search needs
-
-byte-end-requires : tie.Need-byte-end-requires
-byte-end-requires c κs = search needs
-
 returns : tie.Need-returns
 returns c =
     let a = c .before .before .before .before .args in
@@ -21,13 +15,7 @@ returns c =
     let fails : Fails (member l) (a .n) r = subst (λ (x : ℕ). Fails (member l) (a .n) x) (sym (c .byte-end .ensures)) (fails-byte l (a .n) (c .before .if1 .taken)) in
     first-is (member l) (a .n) (8 - a .n % 8) r (record { low = omega arith; high = omega arith; passes = λ h. absurd (omega arith); fails = fails })
 
-next-bit-requires : tie.Need-next-bit-requires
-next-bit-requires c κs = search needs
-
-returns-2 : tie.Need-returns-2
-returns-2 c = search needs
-
 pub next-in-byte-spec : {M : Type 1} → statement M
 next-in-byte-spec =
     tie.close
-    (tie.spec shared-slice-read-if1 byte-end-requires returns next-bit-requires returns-2)
+    (tie.spec (λ c. search needs) (λ c κs. search needs) returns (λ c κs. search needs) (λ c. search needs))

@@ -34,10 +34,6 @@ past-block-requires c κs = (omega arith, omega arith)
 next-in-byte-requires : tie.Need-next-in-byte-requires Inv-loop μ-loop
 next-in-byte-requires c κs = (omega arith, omega arith)
 
--- src/sets.rt:135:17
-byte-end-requires : tie.Need-byte-end-requires Inv-loop μ-loop
-byte-end-requires c κs = omega arith
-
 -- src/sets.rt:137:17
 returns : tie.Need-returns Inv-loop μ-loop
 returns c =
@@ -52,10 +48,6 @@ returns c =
       passes = λ h. w .passes (omega arith);
       fails = fails-join (member l) (a .from) (t .n) r (t .inv .2) (w .fails);
     })
-
--- src/sets.rt:131:5
-loop-less : tie.Need-loop-less Inv-loop μ-loop
-loop-less c = omega arith
 
 -- src/sets.rt:131:5
 loop-again : tie.Need-loop-again Inv-loop μ-loop
@@ -98,9 +90,9 @@ next-member-spec =
     loop-holds
     past-block-requires
     next-in-byte-requires
-    byte-end-requires
+    (λ c κs. omega arith)
     returns
-    loop-less
+    (λ c. omega arith)
     loop-again
     loop-less-2
     loop-again-2

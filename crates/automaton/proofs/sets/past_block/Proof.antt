@@ -3,15 +3,6 @@ use borrow.Author.Needs.{needs}
 use Rattle.automaton.proofs.sets.past_block.Statement.{statement}
 use Rattle.automaton.proofs.sets.past_block.Tie as tie
 
-count-equal-requires : tie.Need-count-equal-requires
-count-equal-requires c κs = search needs
-
-cast-if2 : tie.Need-cast-if2
-cast-if2 c = search needs
-
-add-result : tie.Need-add-result
-add-result c = search needs
-
 returns : tie.Need-returns
 returns c =
     let a = c .before .before .before .before .args in
@@ -26,4 +17,4 @@ returns-3 c =
     none-here (c .before .before .args .members .now) (c .before .before .args .n) (c .before .before .pre .0)
 
 pub past-block-spec : {M : Type 1} → statement M
-past-block-spec = tie.close (tie.spec count-equal-requires cast-if2 add-result returns returns-2 returns-3)
+past-block-spec = tie.close (tie.spec (λ c κs. search needs) (λ c. search needs) (λ c. search needs) returns returns-2 returns-3)

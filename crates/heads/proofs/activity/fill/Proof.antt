@@ -16,17 +16,8 @@ abbrev μ-loop : tie.MeasureT-loop
 loop-holds : tie.Need-loop-holds Inv-loop μ-loop
 loop-holds c = (omega arith, c .pre, marked-none (c .args .at) (c .args .at + c .args .n) (λ _. c .args .x) (c .args .scratch .now))
 
-add-scratch : tie.Need-add-scratch Inv-loop μ-loop
-add-scratch c = omega arith
-
 slice-write-scratch : tie.Need-slice-write-scratch Inv-loop μ-loop
 slice-write-scratch c = omega (arith, c .before .loop .inv .2 .kept .size)
-
-add-i : tie.Need-add-i Inv-loop μ-loop
-add-i c = omega arith
-
-loop-less : tie.Need-loop-less Inv-loop μ-loop
-loop-less c = omega arith
 
 loop-again : tie.Need-loop-again Inv-loop μ-loop
 loop-again c = let a = c .before .before .args in let m = c .before .loop in
@@ -46,10 +37,10 @@ fill-spec =
     Inv-loop
     μ-loop
     loop-holds
-    add-scratch
+    (λ c. omega arith)
     slice-write-scratch
-    add-i
-    loop-less
+    (λ c. omega arith)
+    (λ c. omega arith)
     loop-again
     same-length
     returns)

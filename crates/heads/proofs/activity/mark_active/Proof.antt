@@ -9,30 +9,12 @@ use Rattle.heads.proofs.activity.mark_active.Tie as tie
 fill-requires : tie.Need-fill-requires
 fill-requires c κs = let s = c .before .before .before .before .before in omega (arith, s .pre .2, table-modest (s .args .table .now) (s .args .t) (s .pre .0) .rules)
 
-same-length : tie.Need-same-length
-same-length c = search needs
-
 returns : tie.Need-returns
 returns c = let s = c .before .before .before .before .before .before .before .before in
     first-round (s .args .log .now) (s .args .base) (s .args .round) (ruleIn (s .args .table .now)) (s .args .t .rules) (table-modest (s .args .table .now) (s .args .t) (s .pre .0) .rules) (s .args .scratch .now) (c .before .before .fill .last .0) (c .before .before .before .before .if1 .taken) (c .before .before .fill .ensures)
 
-fill-requires-2 : tie.Need-fill-requires-2
-fill-requires-2 c κs = search needs
-
-sub-note-records : tie.Need-sub-note-records
-sub-note-records c = search needs
-
 cast-note-records : tie.Need-cast-note-records
 cast-note-records c = omega (arith, c .before .before .before .before .before .before .before .before .before .pre .4)
-
-note-records-requires : tie.Need-note-records-requires
-note-records-requires c κs = search needs
-
-mark-rules-requires : tie.Need-mark-rules-requires
-mark-rules-requires c κs = search needs
-
-same-length-2 : tie.Need-same-length-2
-same-length-2 c = search needs
 
 returns-2 : tie.Need-returns-2
 returns-2 c = let s = c .before .before .before .before .before .before .before .before .before .before .before .before .before .before .before .before in
@@ -45,12 +27,12 @@ mark-active-spec =
     tie.close
     (tie.spec
     fill-requires
-    same-length
+    (λ c. search needs)
     returns
-    fill-requires-2
-    sub-note-records
+    (λ c κs. search needs)
+    (λ c. search needs)
     cast-note-records
-    note-records-requires
-    mark-rules-requires
-    same-length-2
+    (λ c κs. search needs)
+    (λ c κs. search needs)
+    (λ c. search needs)
     returns-2)

@@ -9,20 +9,11 @@ use Rattle.heads.specs.Marking.{byteFor}
 use Rattle.heads.proofs.activity.mark_rule.Statement.{statement}
 use Rattle.heads.proofs.activity.mark_rule.Tie as tie
 
-writes-fresh-requires : tie.Need-writes-fresh-requires
-writes-fresh-requires c κs = search needs
-
-byte-for-requires : tie.Need-byte-for-requires
-byte-for-requires c κs = search needs
-
 add-scratch : tie.Need-add-scratch
 add-scratch c = let s = c .before .before .before .before .before in omega (arith, s .pre .1, table-modest (s .args .table .now) (s .args .t) (s .pre .0) .rules)
 
 slice-write-scratch : tie.Need-slice-write-scratch
 slice-write-scratch c = let s = c .before .before .before .before .before in omega (arith, s .pre .1, s .pre .2, table-modest (s .args .table .now) (s .args .t) (s .pre .0) .rules)
-
-same-length : tie.Need-same-length
-same-length c = search needs
 
 returns : tie.Need-returns
 returns c = let a = c .before .before .before .before .before .args in ap (set (a .scratch .now) (activeAt + a .k)) (c .byte-for .ensures ∙ ap byteFor (c .before .writes-fresh .ensures))
@@ -31,9 +22,9 @@ pub mark-rule-spec : {M : Type 1} → statement M
 mark-rule-spec =
     tie.close
     (tie.spec
-    writes-fresh-requires
-    byte-for-requires
+    (λ c κs. search needs)
+    (λ c κs. search needs)
     add-scratch
     slice-write-scratch
-    same-length
+    (λ c. search needs)
     returns)

@@ -22,12 +22,6 @@ loop-holds c = let s = c .before .before in (omega arith, s .pre .1, marked-none
 mark-rule-requires : tie.Need-mark-rule-requires Inv-loop μ-loop
 mark-rule-requires c κs = let s = c .before .before .before .before .before .before in let m = c .before .before .before .loop in (s .pre .0, c .before .if1 .taken, omega (arith, m .inv .1, m .inv .2 .kept .size))
 
-add-k : tie.Need-add-k Inv-loop μ-loop
-add-k c = omega arith
-
-loop-less : tie.Need-loop-less Inv-loop μ-loop
-loop-less c = omega arith
-
 loop-again : tie.Need-loop-again Inv-loop μ-loop
 loop-again c = let s = c .before .before .before .before .before .before .before .before .before in let m = c .before .before .before .before .before .before .loop in (
   omega arith,
@@ -51,8 +45,8 @@ mark-rules-spec =
     μ-loop
     loop-holds
     mark-rule-requires
-    add-k
-    loop-less
+    (λ c. omega arith)
+    (λ c. omega arith)
     loop-again
     same-length
     returns)

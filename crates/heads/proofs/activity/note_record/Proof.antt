@@ -4,26 +4,8 @@ use Rattle.heads.proofs.Marking.{noted-large, noted-new, noted-other}
 use Rattle.heads.proofs.activity.note_record.Statement.{statement}
 use Rattle.heads.proofs.activity.note_record.Tie as tie
 
-round-at-requires : tie.Need-round-at-requires
-round-at-requires c κs = search needs
-
 returns : tie.Need-returns
 returns c = let a = c .before .before .before .before .args in noted-other (a .log .now) (a .scratch .now) (a .n) (a .round) (c .before .round-at .result) (c .before .round-at .ensures) (c .if1 .taken)
-
-letter-at-requires : tie.Need-letter-at-requires
-letter-at-requires c κs = search needs
-
-wide-requires : tie.Need-wide-requires
-wide-requires c κs = search needs
-
-add-scratch : tie.Need-add-scratch
-add-scratch c = search needs
-
-slice-write-scratch : tie.Need-slice-write-scratch
-slice-write-scratch c = search needs
-
-same-length : tie.Need-same-length
-same-length c = search needs
 
 returns-2 : tie.Need-returns-2
 returns-2 c = let a = c .before .before .before .before .before .before .before .args in noted-new (a .log .now) (a .scratch .now) (a .n) (a .round) (c .before .before .before .before .round-at .result) (c .before .before .before .before .round-at .ensures)
@@ -37,12 +19,12 @@ pub note-record-spec : {M : Type 1} → statement M
 note-record-spec =
     tie.close
     (tie.spec
-    round-at-requires
+    (λ c κs. search needs)
     returns
-    letter-at-requires
-    wide-requires
-    add-scratch
-    slice-write-scratch
-    same-length
+    (λ c κs. search needs)
+    (λ c κs. search needs)
+    (λ c. search needs)
+    (λ c. search needs)
+    (λ c. search needs)
     returns-2
     returns-3)

@@ -20,12 +20,6 @@ note-record-requires : tie.Need-note-record-requires Inv-loop μ-loop
 note-record-requires c κs = let s = c .before .before .before .before .before in let m = c .before .before .loop in
     (omega (arith, s .pre .0, c .before .loop-test .taken), omega (arith, m .inv .1, m .inv .2 .kept .size))
 
-add-n : tie.Need-add-n Inv-loop μ-loop
-add-n c = omega arith
-
-loop-less : tie.Need-loop-less Inv-loop μ-loop
-loop-less c = omega arith
-
 loop-again : tie.Need-loop-again Inv-loop μ-loop
 loop-again c = let a = c .before .before .before .before .before .before .before .before .args in let m = c .before .before .before .before .before .loop in
     (omega arith, m .inv .1, noted-more (a .log .now) (a .scratch .now) (m .scratch) (a .round) (m .n) (m .inv .2) (m .inv .1) (c .before .before .note-record .last .1 .0) (c .before .before .note-record .ensures))
@@ -45,8 +39,8 @@ note-records-spec =
     μ-loop
     loop-holds
     note-record-requires
-    add-n
-    loop-less
+    (λ c. omega arith)
+    (λ c. omega arith)
     loop-again
     same-length
     returns)

@@ -19,20 +19,8 @@ Inv-loop table t scratch k n j₀ j = (j ≤ n) × (writesFresh scratch (ruleIn 
 abbrev μ-loop : tie.MeasureT-loop
 μ-loop table t scratch k n j₀ j = n - j
 
-written-count-requires : tie.Need-written-count-requires Inv-loop μ-loop
-written-count-requires c κs = search needs
-
 loop-holds : tie.Need-loop-holds Inv-loop μ-loop
 loop-holds c = (omega arith, refl)
-
-written-letter-requires : tie.Need-written-letter-requires Inv-loop μ-loop
-written-letter-requires c κs = search needs
-
-wide-requires : tie.Need-wide-requires Inv-loop μ-loop
-wide-requires c κs = search needs
-
-add-if1 : tie.Need-add-if1 Inv-loop μ-loop
-add-if1 c = omega arith
 
 shared-slice-read-if1 : tie.Need-shared-slice-read-if1 Inv-loop μ-loop
 shared-slice-read-if1 c = let s = c .before .before .before .before .before .before .before .before in
@@ -43,12 +31,6 @@ returns : tie.Need-returns Inv-loop μ-loop
 returns c = let s = c .before .before .before .before .before .before .before .before .before in
     sym (c .before .before .before .before .before .loop .inv .1 ∙ any-here (λ (a : ℕ). eqb (getD (s .args .scratch .now) (freshAt + a) 0) 1) (ruleIn (s .args .table .now) (s .args .k) .written) (c .before .before .before .before .before .loop .j) (c .before .before .wide .result)
     (omega (arith, c .before .before .before .before .loop-test .taken, c .before .before .before .before .before .before .written-count .ensures)) (c .before .before .wide .ensures .0 ∙ c .before .before .before .written-letter .ensures) (eq-eqb _ _ (c .if1 .taken)))
-
-add-j : tie.Need-add-j Inv-loop μ-loop
-add-j c = omega arith
-
-loop-less : tie.Need-loop-less Inv-loop μ-loop
-loop-less c = omega arith
 
 loop-again : tie.Need-loop-again Inv-loop μ-loop
 loop-again c = let s = c .before .before .before .before .before .before .before .before .before in (
@@ -67,14 +49,14 @@ writes-fresh-spec =
     (tie.spec
     Inv-loop
     μ-loop
-    written-count-requires
+    (λ c κs. search needs)
     loop-holds
-    written-letter-requires
-    wide-requires
-    add-if1
+    (λ c κs. search needs)
+    (λ c κs. search needs)
+    (λ c. omega arith)
     shared-slice-read-if1
     returns
-    add-j
-    loop-less
+    (λ c. omega arith)
+    (λ c. omega arith)
     loop-again
     returns-2)

@@ -22,10 +22,6 @@ Inv-loop log scratch₀ n base letter g r₀ scratch r = Holding log n base lett
 abbrev μ-loop : tie.MeasureT-loop
 μ-loop log scratch₀ n base letter g r₀ scratch r = base - r
 
--- src/held.rt:31:9
-first-match-requires : tie.Need-first-match-requires Inv-loop μ-loop
-first-match-requires c κs = search needs
-
 -- src/held.rt:32:5
 loop-holds : tie.Need-loop-holds Inv-loop μ-loop
 loop-holds c = let at-entry = c .before .before .before .before in holding-start _ _ _ _ _ _ (at-entry .pre .0) (at-entry .pre .1) _ (c .first-match .ensures)
@@ -33,10 +29,6 @@ loop-holds c = let at-entry = c .before .before .before .before in holding-start
 -- src/held.rt:33:29
 after-at-requires : tie.Need-after-at-requires Inv-loop μ-loop
 after-at-requires c κs = omega (arith, c .before .before .loop .inv .room .records, c .before .loop-test .taken)
-
--- src/held.rt:33:22
-number-requires : tie.Need-number-requires Inv-loop μ-loop
-number-requires c κs = search needs
 
 -- src/held.rt:33:9
 see-requires : tie.Need-see-requires Inv-loop μ-loop
@@ -81,10 +73,10 @@ see-held-spec =
     (tie.spec
     Inv-loop
     μ-loop
-    first-match-requires
+    (λ c κs. search needs)
     loop-holds
     after-at-requires
-    number-requires
+    (λ c κs. search needs)
     see-requires
     next-match-requires
     loop-less

@@ -11,22 +11,6 @@ use Rattle.saturate.proofs.groups.filled.Reads as filled-reads
 use Rattle.saturate.proofs.groups.find_new.Reads as find-new-reads
 use Rattle.saturate.proofs.groups.search_rules.Reads as search-rules-reads
 
--- src/groups.rt:197:9
-find-new-requires : tie.Need-find-new-requires
-find-new-requires c κs = search needs
-
--- src/groups.rt:198:14
-sub-if1 : tie.Need-sub-if1
-sub-if1 c = search needs
-
--- src/groups.rt:199:9
-same-length : tie.Need-same-length
-same-length c = search needs
-
--- src/groups.rt:199:9
-same-length-2 : tie.Need-same-length-2
-same-length-2 c = search needs
-
 -- src/groups.rt:199:9
 returns : tie.Need-returns
 returns c =
@@ -35,23 +19,11 @@ returns c =
     group-full (a .table .now) (a .t) (a .stage) (a .log .now) (a .scratch .now) _ _ _ (c .before .before .before .before .before .before .find-new .ensures) (a .count) (c .if1 .taken) (p .3)
 
 -- src/groups.rt:202:9
-same-length-3 : tie.Need-same-length-3
-same-length-3 c = search needs
-
--- src/groups.rt:202:9
-same-length-4 : tie.Need-same-length-4
-same-length-4 c = search needs
-
--- src/groups.rt:202:9
 returns-2 : tie.Need-returns-2
 returns-2 c =
     let a = c .before .before .before .before .before .before .before .before .before .before .before .before .before .args in
     let p = c .before .before .before .before .before .before .before .before .before .before .before .before .before .pre in
     group-none (a .table .now) (a .t) (a .stage) (a .log .now) (a .scratch .now) _ _ _ (c .before .before .before .before .before .before .before .find-new .ensures) (a .count) (p .3) (c .if2 .taken)
-
--- src/groups.rt:204:24
-sub-place-new : tie.Need-sub-place-new
-sub-place-new c = search needs
 
 -- src/groups.rt:204:5
 place-new-requires : tie.Need-place-new-requires
@@ -60,28 +32,12 @@ place-new-requires c κs =
     let p = c .before .before .before .before .before .before .before .before .before .before .before .before .before .before .before .pre in
     place-room (a .table .now) (a .t) (a .stage) (a .log .now) (a .scratch .now) _ _ _ (c .before .before .before .before .before .before .before .before .before .find-new .ensures) (a .count) (p .2) (c .before .before .before .if1 .left) (p .3) (c .before .before .if2 .left) (p .4)
 
--- src/groups.rt:205:42
-filled-requires : tie.Need-filled-requires
-filled-requires c κs = search needs
-
 -- src/groups.rt:205:5
 search-rules-requires : tie.Need-search-rules-requires
 search-rules-requires c κs =
     let a = c .before .before .before .before .before .before .before .before .before .before .before .before .before .before .before .before .before .before .before .before .before .args in
     let p = c .before .before .before .before .before .before .before .before .before .before .before .before .before .before .before .before .before .before .before .before .before .pre in
     ready-to-fill (a .table .now) (a .t) (a .stage) (a .log .now) (a .scratch .now) _ _ _ (c .before .before .before .before .before .before .before .before .before .before .before .before .before .before .before .find-new .ensures) (a .count) (p .2) (c .before .before .before .before .before .before .before .before .before .if1 .left) (p .3) (c .before .before .before .before .before .before .before .before .if2 .left) (p .4) _ (c .before .before .before .before .before .place-new .ensures) _ (c .filled .ensures)
-
--- src/groups.rt:206:20
-add-t12 : tie.Need-add-t12
-add-t12 c = search needs
-
--- src/groups.rt:186:1
-same-length-5 : tie.Need-same-length-5
-same-length-5 c = search needs
-
--- src/groups.rt:186:1
-same-length-6 : tie.Need-same-length-6
-same-length-6 c = search needs
 
 -- src/groups.rt:186:1
 returns-3 : tie.Need-returns-3
@@ -94,19 +50,19 @@ pub add-group-spec : {M : Type 1} → statement M
 add-group-spec =
     tie.close
     (tie.spec
-    find-new-requires
-    sub-if1
-    same-length
-    same-length-2
+    (λ c κs. search needs)
+    (λ c. search needs)
+    (λ c. search needs)
+    (λ c. search needs)
     returns
-    same-length-3
-    same-length-4
+    (λ c. search needs)
+    (λ c. search needs)
     returns-2
-    sub-place-new
+    (λ c. search needs)
     place-new-requires
-    filled-requires
+    (λ c κs. search needs)
     search-rules-requires
-    add-t12
-    same-length-5
-    same-length-6
+    (λ c. search needs)
+    (λ c. search needs)
+    (λ c. search needs)
     returns-3)

@@ -11,26 +11,6 @@ use Rattle.saturate.proofs.groups.clear.Reads as reads
 use Rattle.saturate.proofs.groups.clear.Lts as lts
 use Rattle.automaton.proofs.sets.clear.Reads as clear-reads
 
--- src/groups.rt:106:17
-sub-clear : tie.Need-sub-clear
-sub-clear c = search needs
-
--- src/groups.rt:106:17
-part-clear-start : tie.Need-part-clear-start
-part-clear-start c = search needs
-
--- src/groups.rt:106:17
-part-clear-end : tie.Need-part-clear-end
-part-clear-end c = search needs
-
--- src/groups.rt:106:5
-clear-requires : tie.Need-clear-requires
-clear-requires c κs = search needs
-
--- src/groups.rt:102:1
-same-length : tie.Need-same-length
-same-length c = search needs
-
 -- src/groups.rt:102:1
 returns : tie.Need-returns
 returns c =
@@ -43,4 +23,4 @@ returns c =
 pub clear-spec : {M : Type 1} → statement M
 clear-spec =
     tie.close
-    (tie.spec sub-clear part-clear-start part-clear-end clear-requires same-length returns)
+    (tie.spec (λ c. search needs) (λ c. search needs) (λ c. search needs) (λ c κs. search needs) (λ c. search needs) returns)

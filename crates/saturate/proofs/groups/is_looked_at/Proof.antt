@@ -9,35 +9,15 @@ use Rattle.automaton.proofs.groups.same.Reads as same-reads
 use Rattle.table.proofs.rule_before.Reads as rule-before-reads
 use Rattle.table.proofs.rule_letter.Reads as rule-letter-reads
 
--- src/groups.rt:93:16
-add-if1 : tie.Need-add-if1
-add-if1 c = search needs
-
--- src/groups.rt:93:8
-shared-slice-read-if1 : tie.Need-shared-slice-read-if1
-shared-slice-read-if1 c = search needs
-
 -- src/groups.rt:94:9
 returns : tie.Need-returns
 unfolding isHead
 returns c = simp (ne-eqb _ _ (c .if1 .taken))
 
--- src/groups.rt:96:8
-rule-letter-requires : tie.Need-rule-letter-requires
-rule-letter-requires c κs = search needs
-
 -- src/groups.rt:97:9
 returns-2 : tie.Need-returns-2
 unfolding isHead
 returns-2 c = simp (ne-eqb _ _ (c .if2 .taken), ← (c .before .before .rule-letter .ensures), eq-eqb _ _ (c .before .before .before .if1 .left))
-
--- src/groups.rt:99:18
-rule-before-requires : tie.Need-rule-before-requires
-rule-before-requires c κs = search needs
-
--- src/groups.rt:99:5
-same-requires : tie.Need-same-requires
-same-requires c κs = search needs
 
 -- src/groups.rt:89:1
 returns-3 : tie.Need-returns-3
@@ -48,11 +28,11 @@ pub is-looked-at-spec : {M : Type 1} → statement M
 is-looked-at-spec =
     tie.close
     (tie.spec
-    add-if1
-    shared-slice-read-if1
+    (λ c. search needs)
+    (λ c. search needs)
     returns
-    rule-letter-requires
+    (λ c κs. search needs)
     returns-2
-    rule-before-requires
-    same-requires
+    (λ c κs. search needs)
+    (λ c κs. search needs)
     returns-3)

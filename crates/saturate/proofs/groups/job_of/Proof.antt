@@ -19,14 +19,6 @@ use Rattle.table.proofs.rule_before.Reads as rule-before-reads
 use Rattle.table.proofs.rule_letter.Reads as rule-letter-reads
 use Rattle.table.proofs.written_count.Reads as written-count-reads
 
--- src/groups.rt:66:9
-rule-letter-requires : tie.Need-rule-letter-requires
-rule-letter-requires c κs = search needs
-
--- src/groups.rt:69:44
-wide-requires : tie.Need-wide-requires
-wide-requires c κs = search needs
-
 -- src/groups.rt:69:15
 letter-bits-requires : tie.Need-letter-bits-requires
 letter-bits-requires c κs =
@@ -34,55 +26,12 @@ letter-bits-requires c κs =
     let p = c .before .before .before .pre in
     (p .0, subst (λ (n : ℕ). n < x .t .letters) (sym (c .wide .ensures .0 ∙ c .before .rule-letter .ensures)) (rule-letter-in (x .table .now) (x .t) (p .0) (x .k) (p .1)))
 
--- src/groups.rt:70:17
-rule-before-requires : tie.Need-rule-before-requires
-rule-before-requires c κs = search needs
-
 -- src/groups.rt:71:15
 cast-t9 : tie.Need-cast-t9
 cast-t9 c =
     let x = c .before .before .before .before .before .args in
     let p = c .before .before .before .before .before .pre in
     omega (arith, p .1, table-modest (x .table .now) (x .t) (p .0) .rules)
-
-label-requires : tie.Need-label-requires
-label-requires c κs = search needs
-
--- src/groups.rt:73:16
-written-count-requires : tie.Need-written-count-requires
-written-count-requires c κs = search needs
-
--- src/groups.rt:74:13
-word-letter-requires : tie.Need-word-letter-requires
-word-letter-requires c κs = search needs
-
--- src/groups.rt:75:13
-word-letter-requires-2 : tie.Need-word-letter-requires-2
-word-letter-requires-2 c κs = search needs
-
--- src/groups.rt:76:13
-word-letter-requires-3 : tie.Need-word-letter-requires-3
-word-letter-requires-3 c κs = search needs
-
--- src/groups.rt:77:13
-word-letter-requires-4 : tie.Need-word-letter-requires-4
-word-letter-requires-4 c κs = search needs
-
--- src/groups.rt:78:13
-word-bits-requires : tie.Need-word-bits-requires
-word-bits-requires c κs = search needs
-
--- src/groups.rt:79:13
-word-bits-requires-2 : tie.Need-word-bits-requires-2
-word-bits-requires-2 c κs = search needs
-
--- src/groups.rt:80:13
-word-bits-requires-3 : tie.Need-word-bits-requires-3
-word-bits-requires-3 c κs = search needs
-
--- src/groups.rt:81:13
-word-bits-requires-4 : tie.Need-word-bits-requires-4
-word-bits-requires-4 c κs = search needs
 
 -- src/groups.rt:62:1
 returns : tie.Need-returns
@@ -117,19 +66,19 @@ pub job-of-spec : {M : Type 1} → statement M
 job-of-spec =
     tie.close
     (tie.spec
-    rule-letter-requires
-    wide-requires
+    (λ c κs. search needs)
+    (λ c κs. search needs)
     letter-bits-requires
-    rule-before-requires
+    (λ c κs. search needs)
     cast-t9
-    label-requires
-    written-count-requires
-    word-letter-requires
-    word-letter-requires-2
-    word-letter-requires-3
-    word-letter-requires-4
-    word-bits-requires
-    word-bits-requires-2
-    word-bits-requires-3
-    word-bits-requires-4
+    (λ c κs. search needs)
+    (λ c κs. search needs)
+    (λ c κs. search needs)
+    (λ c κs. search needs)
+    (λ c κs. search needs)
+    (λ c κs. search needs)
+    (λ c κs. search needs)
+    (λ c κs. search needs)
+    (λ c κs. search needs)
+    (λ c κs. search needs)
     returns)

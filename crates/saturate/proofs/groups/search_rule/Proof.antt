@@ -27,27 +27,11 @@ is-looked-at-requires : tie.Need-is-looked-at-requires
 is-looked-at-requires c κs = (c .before .before .before .before .pre .0 .round .holds, c .before .before .before .before .pre .1, omega (arith, c .before .before .before .before .pre .0 .round .room .room, table-modest _ _ (c .before .before .before .before .pre .0 .round .holds) .rules, c .before .before .before .before .pre .1))
 
 -- src/groups.rt:115:9
-same-length : tie.Need-same-length
-same-length c = search needs
-
--- src/groups.rt:115:9
 returns : tie.Need-returns
 returns c =
     let a = c .before .before .before .before .before .before .args in
     rule-passed (a .table .now) (a .t) (a .stage) (a .log .now) (a .scratch .now) (a .k)
     (sym (looked-at (a .table .now) (a .t) (a .stage) (a .log .now) (a .scratch .now) (a .k) (c .before .before .before .before .before .before .pre .1) (c .before .before .before .before .before .before .pre .0)) ∙ sym (c .before .is-looked-at .ensures) ∙ not-true _ (c .if1 .taken))
-
--- src/groups.rt:117:5
-clear-requires : tie.Need-clear-requires
-clear-requires c κs = search needs
-
--- src/groups.rt:118:9
-job-of-requires : tie.Need-job-of-requires
-job-of-requires c κs = search needs
-
--- src/groups.rt:125:35
-rule-after-requires : tie.Need-rule-after-requires
-rule-after-requires c κs = search needs
 
 -- src/groups.rt:125:5
 explore-requires : tie.Need-explore-requires
@@ -57,14 +41,6 @@ explore-requires c κs =
       rule-searchable (a .table .now) (a .t) (a .stage) (a .k) _ holds (c .before .before .before .before .before .before .before .before .before .before .before .before .before .before .pre .1) (c .before .before .before .job-of .ensures) (a .log .now) (a .scratch .now) _ (c .before .before .before .before .before .before .before .before .before .before .before .before .before .before .pre .0) (c .before .before .before .before .before .before .clear .ensures),
       rule-standing (a .table .now) (a .t) (a .stage) (a .k) _ holds (c .before .before .before .before .before .before .before .before .before .before .before .before .before .before .pre .1) (c .before .before .before .job-of .ensures) (a .log .now) (a .scratch .now) _ (c .before .before .before .before .before .before .before .before .before .before .before .before .before .before .pre .0) (c .before .before .before .before .before .before .clear .ensures) _ no-places _ (c .rule-after .ensures),
     )
-
--- src/groups.rt:110:1
-same-length-2 : tie.Need-same-length-2
-same-length-2 c = search needs
-
--- src/groups.rt:110:1
-same-length-3 : tie.Need-same-length-3
-same-length-3 c = search needs
 
 -- src/groups.rt:110:1
 returns-2 : tie.Need-returns-2
@@ -80,12 +56,12 @@ search-rule-spec =
     tie.close
     (tie.spec
     is-looked-at-requires
-    same-length
+    (λ c. search needs)
     returns
-    clear-requires
-    job-of-requires
-    rule-after-requires
+    (λ c κs. search needs)
+    (λ c κs. search needs)
+    (λ c κs. search needs)
     explore-requires
-    same-length-2
-    same-length-3
+    (λ c. search needs)
+    (λ c. search needs)
     returns-2)

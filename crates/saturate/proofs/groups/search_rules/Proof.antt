@@ -24,14 +24,6 @@ loop-holds c = let a = c .before .before .before .args in remaining-all (a .tabl
 search-rule-requires : tie.Need-search-rule-requires Inv-loop μ-loop
 search-rule-requires c κs = (c .before .before .before .before .loop .inv .staged, c .before .before .if1 .taken)
 
--- src/groups.rt:136:9
-add-k : tie.Need-add-k Inv-loop μ-loop
-add-k c = omega arith
-
--- src/groups.rt:134:5
-loop-less : tie.Need-loop-less Inv-loop μ-loop
-loop-less c = omega arith
-
 -- src/groups.rt:134:5
 loop-again : tie.Need-loop-again Inv-loop μ-loop
 loop-again c =
@@ -62,8 +54,8 @@ search-rules-spec =
     μ-loop
     loop-holds
     search-rule-requires
-    add-k
-    loop-less
+    (λ c. omega arith)
+    (λ c. omega arith)
     loop-again
     same-length
     same-length-2

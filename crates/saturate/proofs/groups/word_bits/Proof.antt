@@ -13,18 +13,6 @@ use Rattle.table.proofs.letter_bits.Reads as letter-bits-reads
 use Rattle.table.proofs.written_count.Reads as written-count-reads
 use Rattle.table.proofs.written_letter.Reads as written-letter-reads
 
--- src/groups.rt:55:12
-written-count-requires : tie.Need-written-count-requires
-written-count-requires c κs = search needs
-
--- src/groups.rt:56:13
-written-letter-requires : tie.Need-written-letter-requires
-written-letter-requires c κs = search needs
-
--- src/groups.rt:57:45
-wide-requires : tie.Need-wide-requires
-wide-requires c κs = search needs
-
 -- src/groups.rt:57:9
 letter-bits-requires : tie.Need-letter-bits-requires
 letter-bits-requires c κs =
@@ -48,9 +36,9 @@ pub word-bits-spec : {M : Type 1} → statement M
 word-bits-spec =
     tie.close
     (tie.spec
-    written-count-requires
-    written-letter-requires
-    wide-requires
+    (λ c κs. search needs)
+    (λ c κs. search needs)
+    (λ c κs. search needs)
     letter-bits-requires
     returns
     returns-2)

@@ -11,18 +11,6 @@ use Rattle.saturate.proofs.groups.word_letter.Lts as lts
 use Rattle.table.proofs.written_count.Reads as written-count-reads
 use Rattle.table.proofs.written_letter.Reads as written-letter-reads
 
--- src/groups.rt:44:12
-written-count-requires : tie.Need-written-count-requires
-written-count-requires c κs = search needs
-
--- src/groups.rt:45:9
-written-letter-requires : tie.Need-written-letter-requires
-written-letter-requires c κs = search needs
-
--- src/groups.rt:45:9
-returns : tie.Need-returns
-returns c = search needs
-
 -- src/groups.rt:40:1
 returns-2 : tie.Need-returns-2
 returns-2 c =
@@ -32,4 +20,4 @@ returns-2 c =
 
 pub word-letter-spec : {M : Type 1} → statement M
 word-letter-spec =
-    tie.close (tie.spec written-count-requires written-letter-requires returns returns-2)
+    tie.close (tie.spec (λ c κs. search needs) (λ c κs. search needs) (λ c. search needs) returns-2)

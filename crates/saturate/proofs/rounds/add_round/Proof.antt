@@ -33,14 +33,6 @@ add-heads-requires c κs =
     at-start (a .table .now) (a .t) (a .base) (a .n) (a .round) _ _ (round-stands (a .table .now) (a .t) (a .base) (a .n) (a .round) (a .log .now) (a .scratch .now) _ _ p (c .before .before .before .before .before .before .before .before .before .build .ensures .0) (c .before .before .before .before .before .before .before .before .before .build .ensures .1) (c .before .before .before .before .mark-active .ensures)) (p .room)
 
 -- src/rounds.rt:51:1
-same-length : tie.Need-same-length
-same-length c = search needs
-
--- src/rounds.rt:51:1
-same-length-2 : tie.Need-same-length-2
-same-length-2 c = search needs
-
--- src/rounds.rt:51:1
 returns : tie.Need-returns
 returns c =
     let a = c .before .before .before .before .before .before .before .before .before .before .before .before .before .before .before .before .before .before .before .before .args in
@@ -54,6 +46,6 @@ add-round-spec =
     build-requires
     mark-active-requires
     add-heads-requires
-    same-length
-    same-length-2
+    (λ c. search needs)
+    (λ c. search needs)
     returns)

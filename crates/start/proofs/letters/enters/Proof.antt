@@ -10,33 +10,6 @@ use Rattle.start.proofs.ScratchRegions.{set-part}
 use Rattle.start.proofs.letters.enters.Statement.{statement}
 use Rattle.start.proofs.letters.enters.Tie as tie
 
-after-at-requires : tie.Need-after-at-requires
-after-at-requires c κs = search needs
-
-merged-requires : tie.Need-merged-requires
-merged-requires c κs = search needs
-
-number-requires : tie.Need-number-requires
-number-requires c κs = search needs
-
-mul-at : tie.Need-mul-at
-mul-at c = search needs
-
-add-contains : tie.Need-add-contains
-add-contains c = search needs
-
-sub-contains : tie.Need-sub-contains
-sub-contains c = search needs
-
-part-contains-start : tie.Need-part-contains-start
-part-contains-start c = search needs
-
-part-contains-end : tie.Need-part-contains-end
-part-contains-end c = search needs
-
-contains-requires : tie.Need-contains-requires
-contains-requires c κs = search needs
-
 returns : tie.Need-returns
 returns c =
     let a = c .before .before .before .before .before .before .before .args in
@@ -48,13 +21,13 @@ pub enters-spec : {M : Type 1} → statement M
 enters-spec =
     tie.close
     (tie.spec
-    after-at-requires
-    merged-requires
-    number-requires
-    mul-at
-    add-contains
-    sub-contains
-    part-contains-start
-    part-contains-end
-    contains-requires
+    (λ c κs. search needs)
+    (λ c κs. search needs)
+    (λ c κs. search needs)
+    (λ c. search needs)
+    (λ c. search needs)
+    (λ c. search needs)
+    (λ c. search needs)
+    (λ c. search needs)
+    (λ c κs. search needs)
     returns)

@@ -7,12 +7,6 @@ use Rattle.table.proofs.Layouts.{pile-letter-in}
 use Rattle.start.proofs.letters.letter_at.Statement.{statement}
 use Rattle.start.proofs.letters.letter_at.Tie as tie
 
-pile-letter-requires : tie.Need-pile-letter-requires
-pile-letter-requires c κs = search needs
-
-wide-requires : tie.Need-wide-requires
-wide-requires c κs = search needs
-
 letter-bits-requires : tie.Need-letter-bits-requires
 letter-bits-requires c κs =
     let a = c .before .before .before .args in
@@ -28,4 +22,4 @@ returns c =
 
 pub letter-at-spec : {M : Type 1} → statement M
 letter-at-spec =
-    tie.close (tie.spec pile-letter-requires wide-requires letter-bits-requires returns)
+    tie.close (tie.spec (λ c κs. search needs) (λ c κs. search needs) letter-bits-requires returns)

@@ -13,23 +13,11 @@ use Rattle.start.proofs.Tracing.{lead-inside, next-record}
 use Rattle.start.proofs.paths.advance.Statement.{statement}
 use Rattle.start.proofs.paths.advance.Tie as tie
 
-letter-at-requires : tie.Need-letter-at-requires
-letter-at-requires c κs = search needs
-
-add-first-lead : tie.Need-add-first-lead
-add-first-lead c = search needs
-
 first-lead-requires : tie.Need-first-lead-requires
 first-lead-requires c κs =
     let a = c .before .before .before .before .before .before .args in
     let p = c .before .before .before .before .before .before .pre in
     (p .1, omega (arith, p .2, table-modest (a .table .now) (a .t) (p .0 .holds) .pile))
-
-sub-put-number : tie.Need-sub-put-number
-sub-put-number c = search needs
-
-sub-put-number-2 : tie.Need-sub-put-number-2
-sub-put-number-2 c = search needs
 
 cast-put-number : tie.Need-cast-put-number
 cast-put-number c =
@@ -55,9 +43,6 @@ after-at-requires c κs =
     lead-inside (p .0) (a .i) (p .2) (c .before .before .before .before .before .before .before .before .letter-at .result) (c .before .before .before .before .before .before .before .before .letter-at .ensures) (a .scratch .now) (p .3) (a .c .state) (p .4 .over) (p .4 .accepted) r (c .before .before .before .before .before .first-lead .ensures) in
     limit-has (p .0) r less
 
-merged-requires : tie.Need-merged-requires
-merged-requires c κs = search needs
-
 steps-at-requires : tie.Need-steps-at-requires
 steps-at-requires c κs =
     let a = c .before .before .before .before .before .before .before .before .before .before .before .before .before .before .args in
@@ -75,9 +60,6 @@ add-steps-requires c κs =
     let less : r < a .count =
     lead-inside (p .0) (a .i) (p .2) (c .before .before .before .before .before .before .before .before .before .before .before .letter-at .result) (c .before .before .before .before .before .before .before .before .before .before .before .letter-at .ensures) (a .scratch .now) (p .3) (a .c .state) (p .4 .over) (p .4 .accepted) r (c .before .before .before .before .before .before .before .before .first-lead .ensures) in
     (p .4 .steps, omega (arith, c .steps-at .ensures, limit-reads (p .0) r less .steps, limit-fits (p .0) r less .steps))
-
-same-length : tie.Need-same-length
-same-length c = search needs
 
 returns : tie.Need-returns
 returns c =
@@ -105,16 +87,16 @@ pub advance-spec : {M : Type 1} → statement M
 advance-spec =
     tie.close
     (tie.spec
-    letter-at-requires
-    add-first-lead
+    (λ c κs. search needs)
+    (λ c. search needs)
     first-lead-requires
-    sub-put-number
-    sub-put-number-2
+    (λ c. search needs)
+    (λ c. search needs)
     cast-put-number
     put-number-requires
     after-at-requires
-    merged-requires
+    (λ c κs. search needs)
     steps-at-requires
     add-steps-requires
-    same-length
+    (λ c. search needs)
     returns)

@@ -7,19 +7,10 @@ use Rattle.start.specs.Regions.{withState}
 use Rattle.start.proofs.sets.add_accepting.Statement.{statement}
 use Rattle.start.proofs.sets.add_accepting.Tie as tie
 
-accepting-group-requires : tie.Need-accepting-group-requires
-accepting-group-requires c κs = search needs
-
-number-requires : tie.Need-number-requires
-number-requires c κs = search needs
-
 insert-state-requires : tie.Need-insert-state-requires
 insert-state-requires c κs =
     let a = c .before .before .before .before .before .args in
     (table-modest (a .table .now) (a .t) (c .before .before .before .before .before .pre .0) .pile, c .number .ensures .1, c .before .before .before .before .before .pre .2)
-
-same-length : tie.Need-same-length
-same-length c = search needs
 
 returns : tie.Need-returns
 returns c =
@@ -29,4 +20,4 @@ returns c =
 pub add-accepting-spec : {M : Type 1} → statement M
 add-accepting-spec =
     tie.close
-    (tie.spec accepting-group-requires number-requires insert-state-requires same-length returns)
+    (tie.spec (λ c κs. search needs) (λ c κs. search needs) insert-state-requires (λ c. search needs) returns)

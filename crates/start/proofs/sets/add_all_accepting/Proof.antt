@@ -25,18 +25,12 @@ loop-holds c =
     let p = c .before .before .pre in
     numbering-start (systemIn (a .table .now) .accepting) (a .t .pile) (a .scratch .now) (a .t .accepting) (sym (accepting-count (a .table .now) (a .t) (p .0))) (p .2)
 
-sub-j : tie.Need-sub-j Inv-loop μ-loop
-sub-j c = omega arith
-
 add-accepting-requires : tie.Need-add-accepting-requires Inv-loop μ-loop
 add-accepting-requires c κs =
     let a = c .before .before .before .before .before .args in
     let p = c .before .before .before .before .before .pre in
     let m = c .before .before .loop in
     (p .0, omega (arith, m .inv .few, accepting-count (a .table .now) (a .t) (p .0), c .before .loop-test .taken), omega (arith, p .1, m .inv .same .size))
-
-loop-less : tie.Need-loop-less Inv-loop μ-loop
-loop-less c = omega arith
 
 loop-again : tie.Need-loop-again Inv-loop μ-loop
 loop-again c =
@@ -64,9 +58,9 @@ add-all-accepting-spec =
     Inv-loop
     μ-loop
     loop-holds
-    sub-j
+    (λ c. omega arith)
     add-accepting-requires
-    loop-less
+    (λ c. omega arith)
     loop-again
     same-length
     returns)

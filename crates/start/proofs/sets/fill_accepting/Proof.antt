@@ -11,12 +11,6 @@ clear-set-requires c κs =
     let a = c .before .before .before .args in
     (table-modest (a .table .now) (a .t) (c .before .before .before .pre .0) .pile, c .before .before .before .pre .1)
 
-add-all-accepting-requires : tie.Need-add-all-accepting-requires
-add-all-accepting-requires c κs = search needs
-
-same-length : tie.Need-same-length
-same-length c = search needs
-
 returns : tie.Need-returns
 returns c =
     let a = c .before .before .before .before .before .before .before .before .before .before .args in
@@ -29,4 +23,4 @@ returns c =
 
 pub fill-accepting-spec : {M : Type 1} → statement M
 fill-accepting-spec =
-    tie.close (tie.spec clear-set-requires add-all-accepting-requires same-length returns)
+    tie.close (tie.spec clear-set-requires (λ c κs. search needs) (λ c. search needs) returns)

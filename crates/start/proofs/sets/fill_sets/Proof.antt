@@ -16,9 +16,6 @@ abbrev μ-loop : tie.MeasureT-loop
 loop-holds : tie.Need-loop-holds Inv-loop μ-loop
 loop-holds c = backwards-start (c .before .before .before .args .scratch .now) (c .before .before .before .pre .2)
 
-sub-i : tie.Need-sub-i Inv-loop μ-loop
-sub-i c = omega arith
-
 fill-set-requires : tie.Need-fill-set-requires Inv-loop μ-loop
 fill-set-requires c κs =
     let p = c .before .before .before .before .before .before .pre in
@@ -29,9 +26,6 @@ fill-set-requires c κs =
       omega (arith, c .before .loop-test .taken, m .inv .few),
       m .inv .right (m .i - 1 + 1) (omega arith) (omega (arith, m .inv .few)),
     )
-
-loop-less : tie.Need-loop-less Inv-loop μ-loop
-loop-less c = omega arith
 
 loop-again : tie.Need-loop-again Inv-loop μ-loop
 loop-again c =
@@ -55,9 +49,9 @@ fill-sets-spec =
     Inv-loop
     μ-loop
     loop-holds
-    sub-i
+    (λ c. omega arith)
     fill-set-requires
-    loop-less
+    (λ c. omega arith)
     loop-again
     same-length
     returns)

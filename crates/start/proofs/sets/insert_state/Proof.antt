@@ -8,27 +8,6 @@ use Rattle.start.proofs.ScratchRegions.{set-part, set-back}
 use Rattle.start.proofs.sets.insert_state.Statement.{statement}
 use Rattle.start.proofs.sets.insert_state.Tie as tie
 
-mul-at : tie.Need-mul-at
-mul-at c = search needs
-
-add-insert : tie.Need-add-insert
-add-insert c = search needs
-
-sub-insert : tie.Need-sub-insert
-sub-insert c = search needs
-
-part-insert-start : tie.Need-part-insert-start
-part-insert-start c = search needs
-
-part-insert-end : tie.Need-part-insert-end
-part-insert-end c = search needs
-
-insert-requires : tie.Need-insert-requires
-insert-requires c κs = search needs
-
-same-length : tie.Need-same-length
-same-length c = search needs
-
 returns : tie.Need-returns
 unfolding withState
 returns c =
@@ -41,11 +20,11 @@ pub insert-state-spec : {M : Type 1} → statement M
 insert-state-spec =
     tie.close
     (tie.spec
-    mul-at
-    add-insert
-    sub-insert
-    part-insert-start
-    part-insert-end
-    insert-requires
-    same-length
+    (λ c. search needs)
+    (λ c. search needs)
+    (λ c. search needs)
+    (λ c. search needs)
+    (λ c. search needs)
+    (λ c κs. search needs)
+    (λ c. search needs)
     returns)

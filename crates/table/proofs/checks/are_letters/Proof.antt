@@ -20,20 +20,8 @@ abbrev μ-loop : tie.MeasureT-loop
 loop-holds : tie.Need-loop-holds Inv-loop μ-loop
 loop-holds c = (omega arith, refl)
 
-shared-slice-read-wide : tie.Need-shared-slice-read-wide Inv-loop μ-loop
-shared-slice-read-wide c = omega arith
-
-wide-requires : tie.Need-wide-requires Inv-loop μ-loop
-wide-requires c κs = search needs
-
 returns : tie.Need-returns Inv-loop μ-loop
 returns c = sym (all-fails (λ a. ltb a (c .before .before .before .before .before .before .args .letters)) (c .before .before .before .before .before .before .args .part .now) (c .before .before .before .before .loop .j) (c .before .before .before .loop-test .taken) (rw (← (c .before .wide .ensures .0)) (le-ltb _ _ (c .if1 .left))))
-
-add-j : tie.Need-add-j Inv-loop μ-loop
-add-j c = omega arith
-
-loop-less : tie.Need-loop-less Inv-loop μ-loop
-loop-less c = omega arith
 
 loop-again : tie.Need-loop-again Inv-loop μ-loop
 loop-again c = (omega arith, all-more (λ a. ltb a (c .before .before .before .before .before .before .args .letters)) (c .before .before .before .before .before .before .args .part .now) (c .before .before .before .before .loop .j) (c .before .before .before .loop-test .taken) (c .before .before .before .before .loop .inv .1) (rw (← (c .before .wide .ensures .0)) (lt-ltb _ _ (c .if1 .taken))))
@@ -48,10 +36,10 @@ are-letters-spec =
     Inv-loop
     μ-loop
     loop-holds
-    shared-slice-read-wide
-    wide-requires
+    (λ c. omega arith)
+    (λ c κs. search needs)
     returns
-    add-j
-    loop-less
+    (λ c. omega arith)
+    (λ c. omega arith)
     loop-again
     returns-2)

@@ -19,17 +19,8 @@ abbrev μ-loop : tie.MeasureT-loop
 loop-holds : tie.Need-loop-holds Inv-loop μ-loop
 loop-holds c = (omega arith, refl)
 
-shared-slice-read-if1 : tie.Need-shared-slice-read-if1 Inv-loop μ-loop
-shared-slice-read-if1 c = omega arith
-
 returns : tie.Need-returns Inv-loop μ-loop
 returns c = sym (all-fails (λ a. eqb a 255) (c .before .before .before .before .args .part .now) (c .before .before .before .loop .j) (c .before .before .loop-test .taken) (ne-eqb _ _ (c .if1 .left)))
-
-add-j : tie.Need-add-j Inv-loop μ-loop
-add-j c = omega arith
-
-loop-less : tie.Need-loop-less Inv-loop μ-loop
-loop-less c = omega arith
 
 loop-again : tie.Need-loop-again Inv-loop μ-loop
 loop-again c = (omega arith, all-more (λ a. eqb a 255) (c .before .before .before .before .args .part .now) (c .before .before .before .loop .j) (c .before .before .loop-test .taken) (c .before .before .before .loop .inv .1) (eq-eqb _ _ (c .if1 .taken)))
@@ -44,9 +35,9 @@ are-spare-spec =
     Inv-loop
     μ-loop
     loop-holds
-    shared-slice-read-if1
+    (λ c. omega arith)
     returns
-    add-j
-    loop-less
+    (λ c. omega arith)
+    (λ c. omega arith)
     loop-again
     returns-2)

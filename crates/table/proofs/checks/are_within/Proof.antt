@@ -21,26 +21,11 @@ abbrev μ-loop : tie.MeasureT-loop
 loop-holds : tie.Need-loop-holds Inv-loop μ-loop
 loop-holds c = (omega arith, refl)
 
-shared-slice-read-wide : tie.Need-shared-slice-read-wide Inv-loop μ-loop
-shared-slice-read-wide c = omega arith
-
-wide-requires : tie.Need-wide-requires Inv-loop μ-loop
-wide-requires c κs = search needs
-
 bits-of-requires : tie.Need-bits-of-requires Inv-loop μ-loop
 bits-of-requires c κs = (c .before .before .before .before .before .before .pre .0, rw (c .wide .ensures .0) (ltb-true _ _ (all-at (λ a. ltb a (c .before .before .before .before .before .before .args .t .letters)) (c .before .before .before .before .before .before .args .written .now) (c .before .before .before .loop .j) (c .before .before .loop-test .taken) (c .before .before .before .before .before .before .pre .1))))
 
-is-within-requires : tie.Need-is-within-requires Inv-loop μ-loop
-is-within-requires c κs = search needs
-
 returns : tie.Need-returns Inv-loop μ-loop
 returns c = sym (all-fails (within (c .before .before .before .before .before .before .before .before .before .args .bytes .now) (c .before .before .before .before .before .before .before .before .before .args .t) (c .before .before .before .before .before .before .before .before .before .args .outer)) (c .before .before .before .before .before .before .before .before .before .args .written .now) (c .before .before .before .before .before .before .loop .j) (c .before .before .before .before .before .loop-test .taken) (rw (← (c .before .before .before .wide .ensures .0), ← (c .before .before .bits-of .ensures)) (sym (c .before .is-within .ensures) ∙ c .if1 .left)))
-
-add-j : tie.Need-add-j Inv-loop μ-loop
-add-j c = omega arith
-
-loop-less : tie.Need-loop-less Inv-loop μ-loop
-loop-less c = omega arith
 
 loop-again : tie.Need-loop-again Inv-loop μ-loop
 loop-again c = (omega arith, all-more (within (c .before .before .before .before .before .before .before .before .before .args .bytes .now) (c .before .before .before .before .before .before .before .before .before .args .t) (c .before .before .before .before .before .before .before .before .before .args .outer)) (c .before .before .before .before .before .before .before .before .before .args .written .now) (c .before .before .before .before .before .before .loop .j) (c .before .before .before .before .before .loop-test .taken) (c .before .before .before .before .before .before .loop .inv .1) (rw (← (c .before .before .before .wide .ensures .0), ← (c .before .before .bits-of .ensures)) (sym (c .before .is-within .ensures) ∙ c .if1 .taken)))
@@ -55,12 +40,12 @@ are-within-spec =
     Inv-loop
     μ-loop
     loop-holds
-    shared-slice-read-wide
-    wide-requires
+    (λ c. omega arith)
+    (λ c κs. search needs)
     bits-of-requires
-    is-within-requires
+    (λ c κs. search needs)
     returns
-    add-j
-    loop-less
+    (λ c. omega arith)
+    (λ c. omega arith)
     loop-again
     returns-2)

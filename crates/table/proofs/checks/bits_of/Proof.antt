@@ -9,12 +9,6 @@ use Rattle.table.proofs.Places.{second-item}
 use Rattle.table.proofs.checks.bits_of.Statement.{statement}
 use Rattle.table.proofs.checks.bits_of.Tie as tie
 
-letters-at-requires : tie.Need-letters-at-requires
-letters-at-requires c κs = search needs
-
-mul-result : tie.Need-mul-result
-mul-result c = search needs
-
 add-result : tie.Need-add-result
 add-result c = omega (arith, c .letters-at .ensures, second-item (c .before .before .args .t), c .before .before .pre .0 .inside, c .before .before .pre .1)
 
@@ -34,8 +28,8 @@ pub bits-of-spec : {M : Type 1} → statement M
 bits-of-spec =
     tie.close
     (tie.spec
-    letters-at-requires
-    mul-result
+    (λ c κs. search needs)
+    (λ c. search needs)
     add-result
     add-result-2
     shared-slice-read-result

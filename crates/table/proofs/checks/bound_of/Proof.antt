@@ -8,21 +8,6 @@ use Rattle.table.proofs.Bodies.{bodies-byte, bodies-past, absent-bound}
 use Rattle.table.proofs.checks.bound_of.Statement.{statement}
 use Rattle.table.proofs.checks.bound_of.Tie as tie
 
-mul-wide : tie.Need-mul-wide
-mul-wide c = search needs
-
-add-wide : tie.Need-add-wide
-add-wide c = search needs
-
-add-wide-2 : tie.Need-add-wide-2
-add-wide-2 c = search needs
-
-shared-slice-read-wide : tie.Need-shared-slice-read-wide
-shared-slice-read-wide c = search needs
-
-wide-requires : tie.Need-wide-requires
-wide-requires c κs = search needs
-
 returns : tie.Need-returns
 returns c = c .wide .ensures .0 ∙ ap (λ (i : ℕ). getD (c .before .before .before .before .before .args .bytes .now) i 0) (let e : 3 * c .before .before .before .before .before .args .i + 1 + c .before .before .before .before .before .args .field ≡ 0 + c .before .before .before .before .before .args .i * 3 + 1 + c .before .before .before .before .before .args .field = omega arith in e) ∙ sym (bodies-byte (c .before .before .before .before .before .args .bytes .now) 2 0 (c .before .before .before .before .before .args .t .processes) (c .before .before .before .before .before .args .i) (c .before .before .before .before .before .args .field) absent (c .before .before .if1 .taken) (c .before .before .before .before .before .pre .1))
 
@@ -32,4 +17,4 @@ returns-2 c = sym (ap (λ b. byteOf b (c .before .before .before .args .field)) 
 pub bound-of-spec : {M : Type 1} → statement M
 bound-of-spec =
     tie.close
-    (tie.spec mul-wide add-wide add-wide-2 shared-slice-read-wide wide-requires returns returns-2)
+    (tie.spec (λ c. search needs) (λ c. search needs) (λ c. search needs) (λ c. search needs) (λ c κs. search needs) returns returns-2)

@@ -11,17 +11,8 @@ use Rattle.table.proofs.Values.{power-bound, present-bits}
 use Rattle.table.proofs.checks.full_group_fits.Statement.{statement}
 use Rattle.table.proofs.checks.full_group_fits.Tie as tie
 
-power-of-requires : tie.Need-power-of-requires
-power-of-requires c κs = search needs
-
 sub-all : tie.Need-sub-all
 sub-all c = omega (arith, power-bound (c .before .before .before .args .t .processes) (c .before .before .before .pre .0 .processes) .0, c .power-of .ensures)
-
-group-at-requires : tie.Need-group-at-requires
-group-at-requires c κs = search needs
-
-group-fits-requires : tie.Need-group-fits-requires
-group-fits-requires c κs = search needs
 
 returns : tie.Need-returns
 returns c =
@@ -32,4 +23,4 @@ returns c =
 
 pub full-group-fits-spec : {M : Type 1} → statement M
 full-group-fits-spec =
-    tie.close (tie.spec power-of-requires sub-all group-at-requires group-fits-requires returns)
+    tie.close (tie.spec (λ c κs. search needs) sub-all (λ c κs. search needs) (λ c κs. search needs) returns)

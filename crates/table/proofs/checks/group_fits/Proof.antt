@@ -5,29 +5,17 @@ use Rattle.table.proofs.Tests.{four-0, four-1, four-2, four-3}
 use Rattle.table.proofs.checks.group_fits.Statement.{statement}
 use Rattle.table.proofs.checks.group_fits.Tie as tie
 
-state-fits-requires : tie.Need-state-fits-requires
-state-fits-requires c κs = search needs
-
 returns : tie.Need-returns
 unfolding groupFits
 returns c = sym (four-0 _ _ _ _ (sym (c .before .state-fits .ensures) ∙ c .if1 .left))
-
-state-fits-requires-2 : tie.Need-state-fits-requires-2
-state-fits-requires-2 c κs = search needs
 
 returns-2 : tie.Need-returns-2
 unfolding groupFits
 returns-2 c = sym (four-1 _ _ _ _ (sym (c .before .before .before .state-fits .ensures) ∙ c .before .before .if1 .taken) (sym (c .before .state-fits2 .ensures) ∙ c .if2 .left))
 
-state-fits-requires-3 : tie.Need-state-fits-requires-3
-state-fits-requires-3 c κs = search needs
-
 returns-3 : tie.Need-returns-3
 unfolding groupFits
 returns-3 c = sym (four-2 _ _ _ _ (sym (c .before .before .before .before .before .state-fits .ensures) ∙ c .before .before .before .before .if1 .taken) (sym (c .before .before .before .state-fits2 .ensures) ∙ c .before .before .if2 .taken) (sym (c .before .state-fits3 .ensures) ∙ c .if3 .left))
-
-state-fits-requires-4 : tie.Need-state-fits-requires-4
-state-fits-requires-4 c κs = search needs
 
 returns-4 : tie.Need-returns-4
 unfolding groupFits
@@ -37,11 +25,11 @@ pub group-fits-spec : {M : Type 1} → statement M
 group-fits-spec =
     tie.close
     (tie.spec
-    state-fits-requires
+    (λ c κs. search needs)
     returns
-    state-fits-requires-2
+    (λ c κs. search needs)
     returns-2
-    state-fits-requires-3
+    (λ c κs. search needs)
     returns-3
-    state-fits-requires-4
+    (λ c κs. search needs)
     returns-4)

@@ -19,17 +19,11 @@ returns c = rw (ne-eqb _ _ (c .if1 .taken))
 shared-slice-read-wide : tie.Need-shared-slice-read-wide
 shared-slice-read-wide c = let e : length (c .before .before .before .before .args .body .now) ≡ 9 = c .before .before .before .before .pre .0 .size ∙ ap bodyLength (c .before .if1 .left) in omega arith
 
-wide-requires : tie.Need-wide-requires
-wide-requires c κs = search needs
-
 bits-of-requires : tie.Need-bits-of-requires
 bits-of-requires c κs = (c .before .before .before .before .before .pre .0 .heads, rw (c .wide .ensures .0, ← (bodies-length (c .before .before .before .before .before .args .bytes .now) 1 (3 * c .before .before .before .before .before .args .t .processes) (c .before .before .before .before .before .args .t .letters))) (transition-letter (processesIn (c .before .before .before .before .before .args .bytes .now) (c .before .before .before .before .before .args .t)) (lettersIn (c .before .before .before .before .before .args .bytes .now) (c .before .before .before .before .before .args .t)) (c .before .before .before .before .before .args .body .now) (subst (λ (k : ℕ). valueFits (processesIn (c .before .before .before .before .before .args .bytes .now) (c .before .before .before .before .before .args .t)) (lettersIn (c .before .before .before .before .before .args .bytes .now) (c .before .before .before .before .before .args .t)) k (c .before .before .before .before .before .args .body .now) ≡ true) (c .before .before .if1 .left) (c .before .before .before .before .before .pre .1))))
 
 group-at-requires : tie.Need-group-at-requires
 group-at-requires c κs = let e : length (c .before .before .before .before .before .before .args .body .now) ≡ 9 = c .before .before .before .before .before .before .pre .0 .size ∙ ap bodyLength (c .before .before .before .if1 .left) in omega arith
-
-leaves-control-requires : tie.Need-leaves-control-requires
-leaves-control-requires c κs = search needs
 
 returns-2 : tie.Need-returns-2
 returns-2 c =
@@ -53,9 +47,9 @@ is-reentry-spec =
     (tie.spec
     returns
     shared-slice-read-wide
-    wide-requires
+    (λ c κs. search needs)
     bits-of-requires
     group-at-requires
-    leaves-control-requires
+    (λ c κs. search needs)
     returns-2
     returns-3)

@@ -22,26 +22,11 @@ returns c = rw (ne-eqb _ _ (c .if1 .taken))
 shared-slice-read-wide : tie.Need-shared-slice-read-wide
 shared-slice-read-wide c = let e : length (c .before .before .before .before .args .body .now) ≡ bodyLength 3 = c .before .before .before .before .pre .0 .size ∙ ap bodyLength (c .before .if1 .left) in omega arith
 
-wide-requires : tie.Need-wide-requires
-wide-requires c κs = search needs
-
 bits-of-requires : tie.Need-bits-of-requires
 bits-of-requires c κs = (c .before .before .before .before .before .pre .0 .heads, rw (c .wide .ensures .0, ← (bodies-length (c .before .before .before .before .before .args .bytes .now) 1 (3 * c .before .before .before .before .before .args .t .processes) (c .before .before .before .before .before .args .t .letters))) (rule-letter (processesIn (c .before .before .before .before .before .args .bytes .now) (c .before .before .before .before .before .args .t)) (lettersIn (c .before .before .before .before .before .args .bytes .now) (c .before .before .before .before .before .args .t)) (c .before .before .before .before .before .args .body .now) (subst (λ (k : ℕ). valueFits (processesIn (c .before .before .before .before .before .args .bytes .now) (c .before .before .before .before .before .args .t)) (lettersIn (c .before .before .before .before .before .args .bytes .now) (c .before .before .before .before .before .args .t)) k (c .before .before .before .before .before .args .body .now) ≡ true) (c .before .before .if1 .left) (c .before .before .before .before .before .pre .1))))
 
 shared-slice-read-wide-2 : tie.Need-shared-slice-read-wide-2
 shared-slice-read-wide-2 c = let e : length (c .before .before .before .before .before .before .before .args .body .now) ≡ bodyLength 3 = c .before .before .before .before .before .before .before .pre .0 .size ∙ ap bodyLength (c .before .before .before .before .if1 .left) in omega arith
-
-wide-requires-2 : tie.Need-wide-requires-2
-wide-requires-2 c κs = search needs
-
-add-end : tie.Need-add-end
-add-end c = search needs
-
-sub-are-within : tie.Need-sub-are-within
-sub-are-within c = search needs
-
-part-are-within-start : tie.Need-part-are-within-start
-part-are-within-start c = search needs
 
 part-are-within-end : tie.Need-part-are-within-end
 part-are-within-end c =
@@ -83,13 +68,13 @@ is-stray-spec =
     (tie.spec
     returns
     shared-slice-read-wide
-    wide-requires
+    (λ c κs. search needs)
     bits-of-requires
     shared-slice-read-wide-2
-    wide-requires-2
-    add-end
-    sub-are-within
-    part-are-within-start
+    (λ c κs. search needs)
+    (λ c. search needs)
+    (λ c. search needs)
+    (λ c. search needs)
     part-are-within-end
     are-within-requires
     returns-2

@@ -4,26 +4,14 @@ use Rattle.table.proofs.Tests.{four-0, four-1, four-2, four-3}
 use Rattle.table.proofs.checks.is_within.Statement.{statement}
 use Rattle.table.proofs.checks.is_within.Tie as tie
 
-implies-requires : tie.Need-implies-requires
-implies-requires c κs = search needs
-
 returns : tie.Need-returns
 returns c = sym (four-0 _ _ _ _ (sym (c .before .implies .ensures) ∙ c .if1 .left))
-
-implies-requires-2 : tie.Need-implies-requires-2
-implies-requires-2 c κs = search needs
 
 returns-2 : tie.Need-returns-2
 returns-2 c = sym (four-1 _ _ _ _ (sym (c .before .before .before .implies .ensures) ∙ c .before .before .if1 .taken) (sym (c .before .implies2 .ensures) ∙ c .if2 .left))
 
-implies-requires-3 : tie.Need-implies-requires-3
-implies-requires-3 c κs = search needs
-
 returns-3 : tie.Need-returns-3
 returns-3 c = sym (four-2 _ _ _ _ (sym (c .before .before .before .before .before .implies .ensures) ∙ c .before .before .before .before .if1 .taken) (sym (c .before .before .before .implies2 .ensures) ∙ c .before .before .if2 .taken) (sym (c .before .implies3 .ensures) ∙ c .if3 .left))
-
-implies-requires-4 : tie.Need-implies-requires-4
-implies-requires-4 c κs = search needs
 
 returns-4 : tie.Need-returns-4
 returns-4 c = c .implies4 .ensures ∙ sym (four-3 _ _ _ _ (sym (c .before .before .before .before .before .before .implies .ensures) ∙ c .before .before .before .before .before .if1 .taken) (sym (c .before .before .before .before .implies2 .ensures) ∙ c .before .before .before .if2 .taken) (sym (c .before .before .implies3 .ensures) ∙ c .before .if3 .taken))
@@ -32,11 +20,11 @@ pub is-within-spec : {M : Type 1} → statement M
 is-within-spec =
     tie.close
     (tie.spec
-    implies-requires
+    (λ c κs. search needs)
     returns
-    implies-requires-2
+    (λ c κs. search needs)
     returns-2
-    implies-requires-3
+    (λ c κs. search needs)
     returns-3
-    implies-requires-4
+    (λ c κs. search needs)
     returns-4)

@@ -3,11 +3,8 @@ use Rattle.table.proofs.Values.{powers}
 use Rattle.table.proofs.checks.power_of.Statement.{statement}
 use Rattle.table.proofs.checks.power_of.Tie as tie
 
-array-read-result : tie.Need-array-read-result
-array-read-result c = search needs
-
 returns : tie.Need-returns
 returns c = powers (c .args .processes) (c .pre)
 
 pub power-of-spec : {M : Type 1} → statement M
-power-of-spec = tie.close (tie.spec array-read-result returns)
+power-of-spec = tie.close (tie.spec (λ c. search needs) returns)

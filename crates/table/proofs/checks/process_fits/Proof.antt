@@ -5,12 +5,6 @@ use Rattle.table.proofs.Tests.{three-2}
 use Rattle.table.proofs.checks.process_fits.Statement.{statement}
 use Rattle.table.proofs.checks.process_fits.Tie as tie
 
-shared-slice-read-controls : tie.Need-shared-slice-read-controls
-shared-slice-read-controls c = search needs
-
-shared-slice-read-states : tie.Need-shared-slice-read-states
-shared-slice-read-states c = search needs
-
 returns : tie.Need-returns
 returns c = simp (lt-leb _ _ (c .if1 .taken))
 
@@ -23,4 +17,4 @@ returns-3 c = sym (three-2 _ _ _ (le-leb _ _ (c .before .if1 .left)) (le-leb _ _
 pub process-fits-spec : {M : Type 1} → statement M
 process-fits-spec =
     tie.close
-    (tie.spec shared-slice-read-controls shared-slice-read-states returns returns-2 returns-3)
+    (tie.spec (λ c. search needs) (λ c. search needs) returns returns-2 returns-3)

@@ -7,15 +7,9 @@ use Rattle.table.proofs.Tests.{two-0, two-1}
 use Rattle.table.proofs.checks.rule_fits.Statement.{statement}
 use Rattle.table.proofs.checks.rule_fits.Tie as tie
 
-transition-fits-requires : tie.Need-transition-fits-requires
-transition-fits-requires c κs = search needs
-
 returns : tie.Need-returns
 unfolding writtenFit
 returns c = sym (two-0 _ _ (sym (c .before .transition-fits .ensures) ∙ c .if1 .left))
-
-written-fit-requires : tie.Need-written-fit-requires
-written-fit-requires c κs = search needs
 
 returns-2 : tie.Need-returns-2
 unfolding writtenFit
@@ -23,4 +17,4 @@ returns-2 c = sym (two-1 _ _ (sym (c .before .before .transition-fits .ensures) 
 
 pub rule-fits-spec : {M : Type 1} → statement M
 rule-fits-spec =
-    tie.close (tie.spec transition-fits-requires returns written-fit-requires returns-2)
+    tie.close (tie.spec (λ c κs. search needs) returns (λ c κs. search needs) returns-2)

@@ -2,12 +2,6 @@ use borrow.Author.Needs.{needs}
 use Rattle.table.proofs.checks.state_fits.Statement.{statement}
 use Rattle.table.proofs.checks.state_fits.Tie as tie
 
-wide-requires : tie.Need-wide-requires
-wide-requires c κs = search needs
-
-bound-of-requires : tie.Need-bound-of-requires
-bound-of-requires c κs = search needs
-
 returns : tie.Need-returns
 returns c = simp (c .before .before .if1 .taken, c .before .wide .ensures .0, c .bound-of .ensures)
 
@@ -15,4 +9,4 @@ returns-2 : tie.Need-returns-2
 returns-2 c = simp (c .if1 .left)
 
 pub state-fits-spec : {M : Type 1} → statement M
-state-fits-spec = tie.close (tie.spec wide-requires bound-of-requires returns returns-2)
+state-fits-spec = tie.close (tie.spec (λ c κs. search needs) (λ c κs. search needs) returns returns-2)

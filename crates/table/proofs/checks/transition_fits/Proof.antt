@@ -10,12 +10,6 @@ use Rattle.table.proofs.Values.{fits-0, fits-1, fits-2}
 use Rattle.table.proofs.checks.transition_fits.Statement.{statement}
 use Rattle.table.proofs.checks.transition_fits.Tie as tie
 
-shared-slice-read-wide : tie.Need-shared-slice-read-wide
-shared-slice-read-wide c = search needs
-
-wide-requires : tie.Need-wide-requires
-wide-requires c κs = search needs
-
 returns : tie.Need-returns
 returns c =
     let x = c .before .before .before .before .before .before .args in
@@ -25,15 +19,6 @@ returns c =
     let a : c .before .before .wide .result ≡ byteOf (x .body .now) 0 = c .before .before .wide .ensures .0 in
     sym (fits-0 ls bound (transitionOf (x .body .now)) (omega (arith, c .if1 .taken)))
 
-bits-of-requires : tie.Need-bits-of-requires
-bits-of-requires c κs = search needs
-
-group-at-requires : tie.Need-group-at-requires
-group-at-requires c κs = search needs
-
-group-fits-requires : tie.Need-group-fits-requires
-group-fits-requires c κs = search needs
-
 returns-2 : tie.Need-returns-2
 returns-2 c =
     let x = c .before .before .before .before .before .before .before .before .before .before .args in
@@ -42,12 +27,6 @@ returns-2 c =
     let n : length ls ≡ x .t .letters = bodies-length (x .bytes .now) 1 (3 * x .t .processes) (x .t .letters) in
     let a : c .before .before .before .before .before .before .wide .result ≡ byteOf (x .body .now) 0 = c .before .before .before .before .before .before .wide .ensures .0 in
     sym (fits-1 ls bound (transitionOf (x .body .now)) (omega (arith, c .before .before .before .before .if1 .left)) (rw (← a, ← (c .before .before .before .bits-of .ensures), ← (c .before .before .group-at .ensures)) (sym (c .before .group-fits .ensures) ∙ c .if2 .left)))
-
-group-at-requires-2 : tie.Need-group-at-requires-2
-group-at-requires-2 c κs = search needs
-
-group-fits-requires-2 : tie.Need-group-fits-requires-2
-group-fits-requires-2 c κs = search needs
 
 returns-3 : tie.Need-returns-3
 returns-3 c =
@@ -62,13 +41,13 @@ pub transition-fits-spec : {M : Type 1} → statement M
 transition-fits-spec =
     tie.close
     (tie.spec
-    shared-slice-read-wide
-    wide-requires
+    (λ c. search needs)
+    (λ c κs. search needs)
     returns
-    bits-of-requires
-    group-at-requires
-    group-fits-requires
+    (λ c κs. search needs)
+    (λ c κs. search needs)
+    (λ c κs. search needs)
     returns-2
-    group-at-requires-2
-    group-fits-requires-2
+    (λ c κs. search needs)
+    (λ c κs. search needs)
     returns-3)

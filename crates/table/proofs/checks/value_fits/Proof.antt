@@ -54,9 +54,6 @@ returns-6 c = rw (c .before .if6 .taken) (c .full-group-fits2 .ensures)
 shared-slice-read-wide : tie.Need-shared-slice-read-wide
 shared-slice-read-wide c = let e : length (c .before .before .before .before .before .before .before .before .before .before .args .body .now) ≡ 1 = c .before .before .before .before .before .before .before .before .before .before .pre .size ∙ ap bodyLength (c .before .if7 .taken) in omega arith
 
-wide-requires : tie.Need-wide-requires
-wide-requires c κs = search needs
-
 returns-7 : tie.Need-returns-7
 unfolding valueFits
 returns-7 c = rw (c .before .before .before .if7 .taken, bodies-length (c .before .before .before .before .before .before .before .before .before .before .before .before .args .bytes .now) 1 (3 * c .before .before .before .before .before .before .before .before .before .before .before .before .args .t .processes) (c .before .before .before .before .before .before .before .before .before .before .before .before .args .t .letters), c .before .wide .ensures .0) refl
@@ -82,6 +79,6 @@ value-fits-spec =
     full-group-fits-requires-2
     returns-6
     shared-slice-read-wide
-    wide-requires
+    (λ c κs. search needs)
     returns-7
     returns-8)

@@ -4,12 +4,9 @@ use Rattle.table.specs.Places.{offset}
 use Rattle.table.proofs.fields.letters_at.Statement.{statement}
 use Rattle.table.proofs.fields.letters_at.Tie as tie
 
-mul-result : tie.Need-mul-result
-mul-result c = search needs
-
 returns : tie.Need-returns
 unfolding offset
 returns c = omega arith
 
 pub letters-at-spec : {M : Type 1} → statement M
-letters-at-spec = tie.close (tie.spec mul-result returns)
+letters-at-spec = tie.close (tie.spec (λ c. search needs) returns)

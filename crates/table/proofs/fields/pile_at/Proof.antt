@@ -4,9 +4,6 @@ use Rattle.table.specs.Places.{offset}
 use Rattle.table.proofs.fields.pile_at.Statement.{statement}
 use Rattle.table.proofs.fields.pile_at.Tie as tie
 
-start-at-requires : tie.Need-start-at-requires
-start-at-requires c κs = search needs
-
 add-result : tie.Need-add-result
 unfolding offset
 add-result c = omega (arith, c .start-at .ensures, c .before .pre .processes, c .before .pre .letters, c .before .pre .rules, c .before .pre .transitions, c .before .pre .accepting, c .before .pre .pile)
@@ -16,4 +13,4 @@ unfolding offset
 returns c = omega (arith, c .start-at .ensures)
 
 pub pile-at-spec : {M : Type 1} → statement M
-pile-at-spec = tie.close (tie.spec start-at-requires add-result returns)
+pile-at-spec = tie.close (tie.spec (λ c κs. search needs) add-result returns)

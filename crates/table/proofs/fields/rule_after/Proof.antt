@@ -10,9 +10,6 @@ use Rattle.table.proofs.Layouts.{body-size, rule-in}
 use Rattle.table.proofs.fields.rule_after.Statement.{statement}
 use Rattle.table.proofs.fields.rule_after.Tie as tie
 
-rule-body-requires : tie.Need-rule-body-requires
-rule-body-requires c κs = search needs
-
 group-at-requires : tie.Need-group-at-requires
 group-at-requires c κs =
     let b = c .before .before .args .bytes .now in
@@ -27,4 +24,4 @@ returns c =
     c .group-at .ensures ∙ ap (λ (l : List ℕ). groupOf l 5) (c .before .rule-body .ensures) ∙ sym (ap (λ (r : Rule). r .after) (rule-in b t (c .before .before .before .pre .0) (c .before .before .before .args .k) (c .before .before .before .pre .1)))
 
 pub rule-after-spec : {M : Type 1} → statement M
-rule-after-spec = tie.close (tie.spec rule-body-requires group-at-requires returns)
+rule-after-spec = tie.close (tie.spec (λ c κs. search needs) group-at-requires returns)

@@ -10,9 +10,6 @@ use Rattle.table.proofs.Layouts.{body-size, rule-in}
 use Rattle.table.proofs.fields.rule_letter.Statement.{statement}
 use Rattle.table.proofs.fields.rule_letter.Tie as tie
 
-rule-body-requires : tie.Need-rule-body-requires
-rule-body-requires c κs = search needs
-
 shared-slice-read-result : tie.Need-shared-slice-read-result
 shared-slice-read-result c =
     let b = c .before .before .before .args .bytes .now in
@@ -27,4 +24,4 @@ returns c =
     ap (λ (l : List ℕ). byteOf l 0) (c .before .rule-body .ensures) ∙ sym (ap (λ (r : Rule). r .letter) (rule-in b t (c .before .before .before .pre .0) (c .before .before .before .args .k) (c .before .before .before .pre .1)))
 
 pub rule-letter-spec : {M : Type 1} → statement M
-rule-letter-spec = tie.close (tie.spec rule-body-requires shared-slice-read-result returns)
+rule-letter-spec = tie.close (tie.spec (λ c κs. search needs) shared-slice-read-result returns)

@@ -4,12 +4,6 @@ use Rattle.table.specs.Places.{offset}
 use Rattle.table.proofs.fields.rules_at.Statement.{statement}
 use Rattle.table.proofs.fields.rules_at.Tie as tie
 
-letters-at-requires : tie.Need-letters-at-requires
-letters-at-requires c κs = search needs
-
-mul-result : tie.Need-mul-result
-mul-result c = search needs
-
 add-result : tie.Need-add-result
 unfolding offset
 add-result c = omega (arith, c .before .letters-at .ensures, c .before .before .pre .processes, c .before .before .pre .letters, c .before .before .pre .rules, c .before .before .pre .transitions, c .before .before .pre .accepting, c .before .before .pre .pile)
@@ -19,4 +13,4 @@ unfolding offset
 returns c = omega (arith, c .before .letters-at .ensures)
 
 pub rules-at-spec : {M : Type 1} → statement M
-rules-at-spec = tie.close (tie.spec letters-at-requires mul-result add-result returns)
+rules-at-spec = tie.close (tie.spec (λ c κs. search needs) (λ c. search needs) add-result returns)

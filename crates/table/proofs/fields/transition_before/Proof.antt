@@ -10,9 +10,6 @@ use Rattle.table.proofs.Layouts.{body-size, transition-in}
 use Rattle.table.proofs.fields.transition_before.Statement.{statement}
 use Rattle.table.proofs.fields.transition_before.Tie as tie
 
-transition-body-requires : tie.Need-transition-body-requires
-transition-body-requires c κs = search needs
-
 group-at-requires : tie.Need-group-at-requires
 group-at-requires c κs =
     let b = c .before .before .args .bytes .now in
@@ -27,4 +24,4 @@ returns c =
     c .group-at .ensures ∙ ap (λ (l : List ℕ). groupOf l 1) (c .before .transition-body .ensures) ∙ sym (ap (λ (r : Transition). r .before) (transition-in b t (c .before .before .before .pre .0) (c .before .before .before .args .k) (c .before .before .before .pre .1)))
 
 pub transition-before-spec : {M : Type 1} → statement M
-transition-before-spec = tie.close (tie.spec transition-body-requires group-at-requires returns)
+transition-before-spec = tie.close (tie.spec (λ c κs. search needs) group-at-requires returns)

@@ -10,9 +10,6 @@ use Rattle.table.proofs.Layouts.{body-size, transition-in}
 use Rattle.table.proofs.fields.transition_letter.Statement.{statement}
 use Rattle.table.proofs.fields.transition_letter.Tie as tie
 
-transition-body-requires : tie.Need-transition-body-requires
-transition-body-requires c κs = search needs
-
 shared-slice-read-result : tie.Need-shared-slice-read-result
 shared-slice-read-result c =
     let b = c .before .before .before .args .bytes .now in
@@ -28,4 +25,4 @@ returns c =
 
 pub transition-letter-spec : {M : Type 1} → statement M
 transition-letter-spec =
-    tie.close (tie.spec transition-body-requires shared-slice-read-result returns)
+    tie.close (tie.spec (λ c κs. search needs) shared-slice-read-result returns)

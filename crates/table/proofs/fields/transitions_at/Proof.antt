@@ -4,12 +4,6 @@ use Rattle.table.specs.Places.{offset}
 use Rattle.table.proofs.fields.transitions_at.Statement.{statement}
 use Rattle.table.proofs.fields.transitions_at.Tie as tie
 
-rules-at-requires : tie.Need-rules-at-requires
-rules-at-requires c κs = search needs
-
-mul-result : tie.Need-mul-result
-mul-result c = search needs
-
 add-result : tie.Need-add-result
 unfolding offset
 add-result c = omega (arith, c .before .rules-at .ensures, c .before .before .pre .processes, c .before .before .pre .letters, c .before .before .pre .rules, c .before .before .pre .transitions, c .before .before .pre .accepting, c .before .before .pre .pile)
@@ -19,4 +13,4 @@ unfolding offset
 returns c = omega (arith, c .before .rules-at .ensures)
 
 pub transitions-at-spec : {M : Type 1} → statement M
-transitions-at-spec = tie.close (tie.spec rules-at-requires mul-result add-result returns)
+transitions-at-spec = tie.close (tie.spec (λ c κs. search needs) (λ c. search needs) add-result returns)

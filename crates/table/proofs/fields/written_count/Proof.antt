@@ -9,18 +9,12 @@ use Rattle.table.proofs.Layouts.{body-size, written-count-in}
 use Rattle.table.proofs.fields.written_count.Statement.{statement}
 use Rattle.table.proofs.fields.written_count.Tie as tie
 
-rule-body-requires : tie.Need-rule-body-requires
-rule-body-requires c κs = search needs
-
 shared-slice-read-wide : tie.Need-shared-slice-read-wide
 shared-slice-read-wide c =
     let b = c .before .before .before .args .bytes .now in
     let t = c .before .before .before .args .t in
     let s : length (c .before .rule-body .result .now) ≡ bodyLength 3 = ap length (c .before .rule-body .ensures) ∙ body-size b t (c .before .before .before .pre .0) 3 (c .before .before .before .args .k) (omega arith) (c .before .before .before .pre .1) in
     omega arith
-
-wide-requires : tie.Need-wide-requires
-wide-requires c κs = search needs
 
 returns : tie.Need-returns
 returns c =
@@ -30,4 +24,4 @@ returns c =
 
 pub written-count-spec : {M : Type 1} → statement M
 written-count-spec =
-    tie.close (tie.spec rule-body-requires shared-slice-read-wide wide-requires returns)
+    tie.close (tie.spec (λ c κs. search needs) shared-slice-read-wide (λ c κs. search needs) returns)

@@ -9,9 +9,6 @@ use Rattle.table.proofs.Layouts.{body-size, written-in, written-few}
 use Rattle.table.proofs.fields.written_letter.Statement.{statement}
 use Rattle.table.proofs.fields.written_letter.Tie as tie
 
-rule-body-requires : tie.Need-rule-body-requires
-rule-body-requires c κs = search needs
-
 add-result : tie.Need-add-result
 add-result c =
     let b = c .before .before .args .bytes .now in
@@ -33,4 +30,4 @@ returns c =
 
 pub written-letter-spec : {M : Type 1} → statement M
 written-letter-spec =
-    tie.close (tie.spec rule-body-requires add-result shared-slice-read-result returns)
+    tie.close (tie.spec (λ c κs. search needs) add-result shared-slice-read-result returns)

@@ -11,9 +11,6 @@ use Rattle.table.proofs.Cursors.{processes-before, letters-before}
 use Rattle.table.proofs.items.check_body.Statement.{statement}
 use Rattle.table.proofs.items.check_body.Tie as tie
 
-value-fits-requires : tie.Need-value-fits-requires
-value-fits-requires c κs = search needs
-
 returns : tie.Need-returns
 unfolding bodyRefusal
 returns c =
@@ -59,9 +56,6 @@ returns-3 c =
     let ts = ap (isTwin (itemsBefore b c′) k) (c .before .before .before .before .before .before .before .before .before .pre .3) in
     rw (vs ∙ sym (c .before .before .before .before .before .value-fits .ensures) ∙ c .before .before .before .before .if1 .taken, ss ∙ sym (c .before .before .before .is-stray .ensures) ∙ c .before .before .if2 .left, rs ∙ sym (c .before .is-reentry .ensures) ∙ c .if3 .taken)
 
-is-twin-requires : tie.Need-is-twin-requires
-is-twin-requires c κs = search needs
-
 returns-4 : tie.Need-returns-4
 unfolding bodyRefusal
 returns-4 c =
@@ -92,12 +86,12 @@ pub check-body-spec : {M : Type 1} → statement M
 check-body-spec =
     tie.close
     (tie.spec
-    value-fits-requires
+    (λ c κs. search needs)
     returns
     is-stray-requires
     returns-2
     is-reentry-requires
     returns-3
-    is-twin-requires
+    (λ c κs. search needs)
     returns-4
     returns-5)

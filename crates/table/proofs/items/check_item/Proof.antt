@@ -14,9 +14,6 @@ use Rattle.table.proofs.Steps.{kind-of, turn-of, cut-test, early, early
 use Rattle.table.proofs.items.check_item.Statement.{statement}
 use Rattle.table.proofs.items.check_item.Tie as tie
 
-is-stranger-requires : tie.Need-is-stranger-requires
-is-stranger-requires c κs = search needs
-
 returns : tie.Need-returns
 unfolding refusal
 returns c = rw (sym (c .before .is-stranger .ensures) ∙ c .if1 .taken)
@@ -24,20 +21,11 @@ returns c = rw (sym (c .before .is-stranger .ensures) ∙ c .if1 .taken)
 body-length-requires : tie.Need-body-length-requires
 body-length-requires c κs = kind-of (c .before .before .before .args .kind) (sym (c .before .is-stranger .ensures) ∙ c .if1 .left) .1
 
-is-out-of-turn-requires : tie.Need-is-out-of-turn-requires
-is-out-of-turn-requires c κs = search needs
-
 ceiling-of-requires : tie.Need-ceiling-of-requires
 ceiling-of-requires c κs = kind-of (c .before .before .before .before .before .args .kind) (sym (c .before .before .before .is-stranger .ensures) ∙ c .before .before .if1 .left) .1
 
 count-of-requires : tie.Need-count-of-requires
 count-of-requires c κs = kind-of (c .before .before .before .before .before .before .args .kind) (sym (c .before .before .before .before .is-stranger .ensures) ∙ c .before .before .before .if1 .left) .1
-
-sub-cut : tie.Need-sub-cut
-sub-cut c = search needs
-
-early-refusal-requires : tie.Need-early-refusal-requires
-early-refusal-requires c κs = search needs
 
 returns-2 : tie.Need-returns-2
 returns-2 c =
@@ -98,14 +86,14 @@ pub check-item-spec : {M : Type 1} → statement M
 check-item-spec =
     tie.close
     (tie.spec
-    is-stranger-requires
+    (λ c κs. search needs)
     returns
     body-length-requires
-    is-out-of-turn-requires
+    (λ c κs. search needs)
     ceiling-of-requires
     count-of-requires
-    sub-cut
-    early-refusal-requires
+    (λ c. search needs)
+    (λ c κs. search needs)
     returns-2
     body-at-requires
     check-body-requires

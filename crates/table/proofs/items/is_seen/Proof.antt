@@ -13,9 +13,6 @@ abbrev μ-loop : tie.MeasureT-loop
 loop-holds : tie.Need-loop-holds Inv-loop μ-loop
 loop-holds c = record { room = c .before .pre .0; same = refl }
 
-add-same-bytes : tie.Need-add-same-bytes Inv-loop μ-loop
-add-same-bytes c = omega arith
-
 add-same-bytes-2 : tie.Need-add-same-bytes-2 Inv-loop μ-loop
 add-same-bytes-2 c = omega (arith, left-room (c .before .loop .inv) (c .loop-test .taken))
 
@@ -31,12 +28,6 @@ add-place c = omega (arith, left-room (c .before .before .before .loop .inv) (c 
 add-place-2 : tie.Need-add-place-2 Inv-loop μ-loop
 add-place-2 c = omega (arith, left-room (c .before .before .before .loop .inv) (c .before .before .loop-test .taken))
 
-sub-left : tie.Need-sub-left Inv-loop μ-loop
-sub-left c = omega arith
-
-loop-less : tie.Need-loop-less Inv-loop μ-loop
-loop-less c = omega arith
-
 loop-again : tie.Need-loop-again Inv-loop μ-loop
 loop-again c = left-turn (c .before .before .before .loop .inv) (c .before .before .loop-test .taken) (sym (c .before .same-bytes .ensures) ∙ c .if1 .left)
 
@@ -50,13 +41,13 @@ is-seen-spec =
     Inv-loop
     μ-loop
     loop-holds
-    add-same-bytes
+    (λ c. omega arith)
     add-same-bytes-2
     same-bytes-requires
     returns
     add-place
     add-place-2
-    sub-left
-    loop-less
+    (λ c. omega arith)
+    (λ c. omega arith)
     loop-again
     returns-2)
