@@ -1,5 +1,5 @@
 -- Laws of the rings: clearing them, one record more, and the search that follows one.
-use mathlib.Core.Path.{_≡_, refl, ap, sym, subst, _∙_}
+use mathlib.Core.Path.{_≡_, refl, ap, ap₂, sym, subst, _∙_}
 use mathlib.Core.Bool.{Bool, true, false, true≢false}
 use mathlib.Core.Logic.{_⊎_, inl, inr, ⊎-elim}
 use mathlib.Core.List.{List}
@@ -13,11 +13,12 @@ use borrow.Author.Tests.{eq-eqb, eqb-true, ne-eqb, lt-ltb, le-ltb}
 use Rattle.model.proofs.Tests.{and-left, and-right, by-test}
 use Rattle.automaton.specs.StateSets.{firstFrom}
 use Rattle.automaton.proofs.StateSets.{first-at, first-of, first-is}
-use Rattle.model.specs.Records.{letterAt}
-use Rattle.packs.specs.Packs.{packedBefore}
+use Rattle.model.specs.Records.{letterAt, beforeAt}
+use Rattle.packs.specs.Packs.{packed, packedBefore}
+use Rattle.packs.proofs.Packs.{packed-before}
 use Rattle.numbers.specs.WordBytes.{withWord}
 use Rattle.numbers.proofs.WordBytes.{length-word, byte-other, word-back, word-other, word-same}
-use Rattle.rings.specs.Rings.{bucketOf, recordBucket, inBucket, recordReads, noLink, linkPlace, linkAt, RingRoom, NoneIn, NoTail, Greatest, Ahead, Around, Ringed, Freshened, OutsideSame, withLink, started, lengthened, appended}
+use Rattle.rings.specs.Rings.{bucketOf, recordBucket, inBucket, packedReads, noLink, linkPlace, linkAt, RingRoom, NoneIn, NoTail, Greatest, Ahead, Around, Ringed, Freshened, OutsideSame, withLink, started, lengthened, appended}
 
 -- ---- links
 link-same : (s : List ℕ) (at k x : ℕ) → linkPlace at k + 2 ≤ length s → x ≤ noLink → linkAt (withWord s (linkPlace at k) x) at k ≡ x
@@ -35,8 +36,8 @@ pub bucket-below : (n letter g : ℕ) → 0 < n → bucketOf n letter g < n
 unfolding bucketOf
 bucket-below n letter g h = scaled-below ((g + 8 * letter) * 820265763 / 65536 % 65536) n (omega arith) h
 
-pub reads-bucket : (log : List ℕ) (n letter g i : ℕ) → recordReads log letter g i ≡ true → recordBucket log n i ≡ bucketOf n letter g
-unfolding recordReads recordBucket
+pub reads-bucket : (log : List ℕ) (n letter g i : ℕ) → packedReads log letter g i ≡ true → recordBucket log n i ≡ bucketOf n letter g
+unfolding packedReads recordBucket
 reads-bucket log n letter g i e = rw (
   eqb-true (letterAt log i) letter (and-left (eqb (letterAt log i) letter) (eqb (packedBefore log i) g) e),
   eqb-true (packedBefore log i) g (and-right (eqb (letterAt log i) letter) (eqb (packedBefore log i) g) e),
@@ -403,9 +404,9 @@ pub tail-below : {log : List ℕ} {r n at : ℕ} {s : List ℕ} {h t : ℕ} → 
 tail-below w l e ne = ⊎-elim (λ x. absurd (ne (e ∙ x .is))) (λ x. omega (arith, x .below)) (w .tail _ l)
 
 -- ---- following a ring
-none-reads : (log : List ℕ) (n letter : ℕ) (g : ℕ) (h from to : ℕ) → h ≡ bucketOf n letter g → NoneIn (inBucket log n h) from to → NoneIn (recordReads log letter g) from to
+none-reads : (log : List ℕ) (n letter : ℕ) (g : ℕ) (h from to : ℕ) → h ≡ bucketOf n letter g → NoneIn (inBucket log n h) from to → NoneIn (packedReads log letter g) from to
 unfolding inBucket
-none-reads log n letter g h from to b f j p q = by-test (recordReads log letter g j)
+none-reads log n letter g h from to b f j p q = by-test (packedReads log letter g j)
     (λ t. absurd (true≢false (sym (eq-eqb (recordBucket log n j) h (reads-bucket log n letter g j t ∙ sym b)) ∙ f j p q)))
     (λ e. e)
 
@@ -413,13 +414,13 @@ none-reads log n letter g h from to b f j p q = by-test (recordReads log letter 
 pub record Walks (log : List ℕ) (base n letter : ℕ) (g : ℕ) (from r : ℕ) : Type 0 where
   pub low : from ≤ r
   pub below : r < base
-  pub skips : NoneIn (recordReads log letter g) from r
+  pub skips : NoneIn (packedReads log letter g) from r
   pub bucket : recordBucket log n r ≡ bucketOf n letter g
 
 pub walks-start : (log : List ℕ) (base n letter : ℕ) (g : ℕ) (r : ℕ) → r < base → recordBucket log n r ≡ bucketOf n letter g → Walks log base n letter g r r
 walks-start log base n letter g r l b = record { low = omega arith; below = l; skips = λ j p q. absurd (omega arith); bucket = b }
 
-pub walks-turn : {log : List ℕ} {base n at letter : ℕ} {g : ℕ} {s : List ℕ} {from r w : ℕ} → Ringed log base n at s → Walks log base n letter g from r → recordReads log letter g r ≡ false
+pub walks-turn : {log : List ℕ} {base n at letter : ℕ} {g : ℕ} {s : List ℕ} {from r w : ℕ} → Ringed log base n at s → Walks log base n letter g from r → packedReads log letter g r ≡ false
     → w ≡ linkAt s at (n + r) → r < w → Walks log base n letter g from w
 walks-turn {log} {base} {n} {at} {letter} {g} {s} {from} {r} {w} rings x f e l =
     let k = linkAt s at (n + r) in
@@ -430,37 +431,37 @@ walks-turn {log} {base} {n} {at} {letter} {g} {s} {from} {r} {w} rings x f e l =
       below = a .below;
       skips = λ j p q. elim (decLt j r) [
         | yes y ↦ x .skips j p y
-        | no y ↦ elim (ℕ-discrete j r) [ yes z ↦ ap (recordReads log letter g) z ∙ f | no z ↦ none j (omega arith) q ]
+        | no y ↦ elim (ℕ-discrete j r) [ yes z ↦ ap (packedReads log letter g) z ∙ f | no z ↦ none j (omega arith) q ]
       ];
       bucket = in-true log n (recordBucket log n r) k (a .passes) ∙ x .bucket;
     })
 
 -- a link that is not above its record: there is none
-pub walks-none : {log : List ℕ} {base n at letter : ℕ} {g : ℕ} {s : List ℕ} {from r w : ℕ} → Ringed log base n at s → Walks log base n letter g from r → recordReads log letter g r ≡ false
-    → w ≡ linkAt s at (n + r) → w ≤ r → base ≡ firstFrom (recordReads log letter g) from (base - from)
+pub walks-none : {log : List ℕ} {base n at letter : ℕ} {g : ℕ} {s : List ℕ} {from r w : ℕ} → Ringed log base n at s → Walks log base n letter g from r → packedReads log letter g r ≡ false
+    → w ≡ linkAt s at (n + r) → w ≤ r → base ≡ firstFrom (packedReads log letter g) from (base - from)
 walks-none {log} {base} {n} {at} {letter} {g} {s} {from} {r} {w} rings x f e l =
     let k = linkAt s at (n + r) in
     let a : Around (inBucket log n (recordBucket log n r)) base r k = ⊎-elim (λ y. absurd (omega (arith, y .later))) (λ y. y) (rings .next r (x .below)) in
     let none = none-reads log n letter g (recordBucket log n r) (suc r) base (x .bucket) (a .behind) in
-    first-is (recordReads log letter g) from (base - from) base (record {
+    first-is (packedReads log letter g) from (base - from) base (record {
       low = omega (arith, x .low, x .below);
       high = omega arith;
       passes = λ h. absurd (omega (arith, x .low, x .below));
       fails = λ j p q. elim (decLt j r) [
         | yes y ↦ x .skips j p y
-        | no y ↦ elim (ℕ-discrete j r) [ yes z ↦ ap (recordReads log letter g) z ∙ f | no z ↦ none j (omega arith) q ]
+        | no y ↦ elim (ℕ-discrete j r) [ yes z ↦ ap (packedReads log letter g) z ∙ f | no z ↦ none j (omega arith) q ]
       ];
     })
 
-pub walks-end : {log : List ℕ} {base n letter : ℕ} {g : ℕ} {from r : ℕ} → Walks log base n letter g from r → recordReads log letter g r ≡ true → r ≡ firstFrom (recordReads log letter g) from (base - from)
-walks-end {log} {base} {n} {letter} {g} {from} {r} x t = first-is (recordReads log letter g) from (base - from) r (record { low = x .low; high = omega (arith, x .below); passes = λ h. t; fails = x .skips })
+pub walks-end : {log : List ℕ} {base n letter : ℕ} {g : ℕ} {from r : ℕ} → Walks log base n letter g from r → packedReads log letter g r ≡ true → r ≡ firstFrom (packedReads log letter g) from (base - from)
+walks-end {log} {base} {n} {letter} {g} {from} {r} x t = first-is (packedReads log letter g) from (base - from) r (record { low = x .low; high = omega (arith, x .below); passes = λ h. t; fails = x .skips })
 
 -- ---- where a search begins
 -- none from `from` on and before a record of the ring reads them: the first from that record on is the first from `from` on
-pub walks-first : {log : List ℕ} {base n letter : ℕ} {g : ℕ} {from start k : ℕ} → Walks log base n letter g from start → k ≡ firstFrom (recordReads log letter g) start (base - start)
-    → k ≡ firstFrom (recordReads log letter g) from (base - from)
+pub walks-first : {log : List ℕ} {base n letter : ℕ} {g : ℕ} {from start k : ℕ} → Walks log base n letter g from start → k ≡ firstFrom (packedReads log letter g) start (base - start)
+    → k ≡ firstFrom (packedReads log letter g) from (base - from)
 walks-first {log} {base} {n} {letter} {g} {from} {start} {k} x e =
-    let test = recordReads log letter g in
+    let test = packedReads log letter g in
     let f = first-at test start (base - start) k e in
     first-is test from (base - from) k (record {
       low = omega (arith, x .low, f .low);
@@ -470,11 +471,11 @@ walks-first {log} {base} {n} {letter} {g} {from} {start} {k} x e =
     })
 
 -- no record of the bucket: the first is base
-pub none-first : (log : List ℕ) (base n letter : ℕ) (g : ℕ) (h from : ℕ) → from ≤ base → h ≡ bucketOf n letter g → NoneIn (inBucket log n h) from base → base ≡ firstFrom (recordReads log letter g) from (base - from)
-none-first log base n letter g h from l b f = first-is (recordReads log letter g) from (base - from) base (record { low = l; high = omega arith; passes = λ q. absurd (omega arith); fails = none-reads log n letter g h from base b f })
+pub none-first : (log : List ℕ) (base n letter : ℕ) (g : ℕ) (h from : ℕ) → from ≤ base → h ≡ bucketOf n letter g → NoneIn (inBucket log n h) from base → base ≡ firstFrom (packedReads log letter g) from (base - from)
+none-first log base n letter g h from l b f = first-is (packedReads log letter g) from (base - from) base (record { low = l; high = omega arith; passes = λ q. absurd (omega arith); fails = none-reads log n letter g h from base b f })
 
 pub empty-first : {log : List ℕ} {base n at : ℕ} {s : List ℕ} {h t : ℕ} (letter : ℕ) (g : ℕ) (from : ℕ) → from ≤ base → base ≤ n → n ≤ noLink → Ringed log base n at s → h < n → h ≡ bucketOf n letter g → t ≡ linkAt s at h → t ≡ noLink
-    → base ≡ firstFrom (recordReads log letter g) from (base - from)
+    → base ≡ firstFrom (packedReads log letter g) from (base - from)
 empty-first {log} {base} {n} {at} {s} {h} {t} letter g from l fits short rings lh b e z = ⊎-elim
     (λ x. none-first log base n letter g h from l b (λ j p q. x .none j (omega arith) q))
     (λ x. absurd (omega (arith, x .below)))
@@ -505,7 +506,7 @@ walks-next {log} {base} {n} {at} {s} {r} {w} letter g rings lr b e l =
     rw e (record { low = a .later; below = a .below; skips = none-reads log n letter g (recordBucket log n r) (suc r) k b (a .between); bucket = in-true log n (recordBucket log n r) k (a .passes) ∙ b })
 
 pub last-first : {log : List ℕ} {base n at : ℕ} {s : List ℕ} {r w : ℕ} (letter : ℕ) (g : ℕ) → Ringed log base n at s → r < base → recordBucket log n r ≡ bucketOf n letter g → w ≡ linkAt s at (n + r) → w ≤ r
-    → base ≡ firstFrom (recordReads log letter g) (suc r) (base - suc r)
+    → base ≡ firstFrom (packedReads log letter g) (suc r) (base - suc r)
 last-first {log} {base} {n} {at} {s} {r} {w} letter g rings lr b e l =
     let k = linkAt s at (n + r) in
     let a : Around (inBucket log n (recordBucket log n r)) base r k = ⊎-elim (λ y. absurd (omega (arith, y .later))) (λ y. y) (rings .next r lr) in
@@ -527,7 +528,7 @@ walks-fresh {log} {lo} {base} {n} {at} {s} {h} {t} {w} letter g rings fresh lh b
         rw is (record { low = f .low; below = less; skips = none-reads log n letter g h lo k b (f .fails); bucket = in-true log n h k (f .passes (omega (arith, f .low))) ∙ b })
 
 pub stale-first : {log : List ℕ} {lo base n at : ℕ} {s : List ℕ} {h t : ℕ} (letter : ℕ) (g : ℕ) → lo ≤ base → Ringed log base n at s → h < n → h ≡ bucketOf n letter g → t ≡ linkAt s at h → (t ≡ noLink → ⊥) → t < lo
-    → base ≡ firstFrom (recordReads log letter g) lo (base - lo)
+    → base ≡ firstFrom (packedReads log letter g) lo (base - lo)
 stale-first {log} {lo} {base} {n} {at} {s} {h} {t} letter g l rings lh b e ne q = ⊎-elim
     (λ x. absurd (ne (e ∙ x .is)))
     (λ x. none-first log base n letter g h lo l b (λ j y z. x .behind j (omega arith) z))
@@ -546,10 +547,10 @@ freshened-scratch log lo base n at s t same w h l p q = kept (2 * n + h) (omega 
     kept k l = word-same s t (linkPlace at k) (same (linkPlace at k) (omega arith) (omega arith)) (same (suc (linkPlace at k)) (omega arith) (omega arith))
 
 -- for any log whose first records have the same letters and states before
-module _ (log new : List ℕ) (base n at : ℕ) (s : List ℕ) (letters : (r : ℕ) → r < base → letterAt new r ≡ letterAt log r) (states : (r : ℕ) → r < base → packedBefore new r ≡ packedBefore log r) where
+module _ (log new : List ℕ) (base n at : ℕ) (s : List ℕ) (letters : (r : ℕ) → r < base → letterAt new r ≡ letterAt log r) (states : (r : ℕ) → r < base → beforeAt new r ≡ beforeAt log r) where
   same-bucket : (r : ℕ) → r < base → recordBucket new n r ≡ recordBucket log n r
   unfolding recordBucket
-  same-bucket r l = rw (letters r l, states r l)
+  same-bucket r l = ap₂ (bucketOf n) (letters r l) (packed-before new r ∙ ap packed (states r l) ∙ sym (packed-before log r))
 
   same-in : (h r : ℕ) → r < base → inBucket new n h r ≡ inBucket log n h r
   unfolding inBucket

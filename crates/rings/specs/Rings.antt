@@ -9,9 +9,11 @@ use Prim.Native.Nat.{ℕ, suc, _+_, _-_, _*_, _/_, _%_, _<_, _≤_}
 use lib.Dec.{eqb, ltb}
 use lib.ListN.{length, getD}
 use Rattle.automaton.specs.StateSets.{firstFrom}
-use Rattle.model.specs.Records.{recordLength, letterAt}
+use Rattle.model.specs.declared.Group.{Group}
+use Rattle.model.specs.Groups.{sameGroup}
+use Rattle.model.specs.Records.{recordLength, letterAt, beforeAt}
 use Rattle.numbers.specs.WordBytes.{wordAt, withWord}
-use Rattle.packs.specs.Packs.{packedBefore}
+use Rattle.packs.specs.Packs.{packed, Bytes, packedBefore}
 
 -- ---- buckets
 -- the bucket, of n, of a letter and the states before as one number: the middle bits of a product, scaled to n
@@ -25,8 +27,16 @@ unfoldable pub inBucket : List ℕ → ℕ → ℕ → ℕ → Bool
 inBucket log n h r = eqb (recordBucket log n r) h
 
 -- record i reads the letter with the states g before
-unfoldable pub recordReads : List ℕ → ℕ → ℕ → ℕ → Bool
-recordReads log letter g i = eqb (letterAt log i) letter && eqb (packedBefore log i) g
+unfoldable pub recordReads : List ℕ → ℕ → Group → ℕ → Bool
+recordReads log letter g i = eqb (letterAt log i) letter && sameGroup g (beforeAt log i)
+
+-- with the states before that have the number x
+unfoldable pub packedReads : List ℕ → ℕ → ℕ → ℕ → Bool
+packedReads log letter x i = eqb (letterAt log i) letter && eqb (packedBefore log i) x
+
+-- r is the first of k records from the record m on that reads the letter with the states before that have the number x
+abbrev pub FirstReading : ℕ → List ℕ → ℕ → ℕ → ℕ → ℕ → Type 0
+FirstReading r log letter x m k = (g : Group) → Bytes g → x ≡ packed g → r ≡ firstFrom (recordReads log letter g) m k
 
 -- ---- links
 -- FFFF is no record

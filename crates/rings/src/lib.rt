@@ -12,7 +12,7 @@ ghost use Prim.Native.Nat.{_+_, _-_, _*_, _<_, _≤_};
 ghost use lib.ListN.{length};
 ghost use Rattle.automaton.specs.StateSets.{firstFrom};
 ghost use Rattle.records.specs.Entries.{HasRecord};
-ghost use Rattle.rings.specs.Rings.{bucketOf, recordBucket, recordReads, noLink, linkPlace, linkAt, RingRoom, Ringed, Freshened, OutsideSame, withLink, started, lengthened, appended};
+ghost use Rattle.rings.specs.Rings.{bucketOf, recordBucket, packedReads, FirstReading, noLink, linkPlace, linkAt, RingRoom, Ringed, Freshened, OutsideSame, withLink, started, lengthened, appended};
 
 const NO_LINK: usize = 65535;
 
@@ -122,7 +122,7 @@ pub fn append(log: &[u8], scratch: &mut [u8], at: usize, n: usize, from: usize, 
 // Record r reads the letter with the states g before.
 fn matches(log: &[u8], r: usize, letter: u8, g: u32) -> bool
     requires { ⌜ HasRecord (now log) r ⌝ }
-    ensures { λ b. ⌜ b ≡ recordReads (now (log .entry)) letter g r ⌝ }
+    ensures { λ b. ⌜ b ≡ packedReads (now (log .entry)) letter g r ⌝ }
 {
     if letter_at(log, r) != letter {
         return false;
@@ -143,7 +143,7 @@ fn follow(
     g: u32,
 ) -> usize
     requires { ⌜ RingRoom (now log) base n at (now scratch) × Ringed (now log) base n at (now scratch) × (start < base) × (recordBucket (now log) n start ≡ bucketOf n letter g) ⌝ }
-    ensures { λ r. ⌜ r ≡ firstFrom (recordReads (now (log .entry)) letter g) start (base - start) ⌝ }
+    ensures { λ r. ⌜ r ≡ firstFrom (packedReads (now (log .entry)) letter g) start (base - start) ⌝ }
 {
     let mut r = start;
     while !matches(log, r, letter, g) {
@@ -167,7 +167,7 @@ pub fn first_match(
     g: u32,
 ) -> usize
     requires { ⌜ RingRoom (now log) base n at (now scratch) × Ringed (now log) base n at (now scratch) ⌝ }
-    ensures { λ r. ⌜ r ≡ firstFrom (recordReads (now (log .entry)) letter g) 0 base ⌝ }
+    ensures { λ r. ⌜ FirstReading r (now (log .entry)) letter g 0 base ⌝ }
 {
     if base == 0 {
         return base;
@@ -191,8 +191,8 @@ pub fn next_match(
     letter: u8,
     g: u32,
 ) -> usize
-    requires { ⌜ RingRoom (now log) base n at (now scratch) × Ringed (now log) base n at (now scratch) × (r < base) × (recordReads (now log) letter g r ≡ true) ⌝ }
-    ensures { λ k. ⌜ k ≡ firstFrom (recordReads (now (log .entry)) letter g) (r + 1) (base - (r + 1)) ⌝ }
+    requires { ⌜ RingRoom (now log) base n at (now scratch) × Ringed (now log) base n at (now scratch) × (r < base) × (packedReads (now log) letter g r ≡ true) ⌝ }
+    ensures { λ k. ⌜ FirstReading k (now (log .entry)) letter g (r + 1) (base - (r + 1)) ⌝ }
 {
     let start = link_at(scratch, at, n + r);
     if start <= r {
@@ -213,7 +213,7 @@ pub fn first_fresh(
     g: u32,
 ) -> usize
     requires { ⌜ RingRoom (now log) base n at (now scratch) × Ringed (now log) base n at (now scratch) × Freshened (now log) lo base n at (now scratch) × (lo ≤ base) ⌝ }
-    ensures { λ r. ⌜ r ≡ firstFrom (recordReads (now (log .entry)) letter g) lo (base - lo) ⌝ }
+    ensures { λ r. ⌜ FirstReading r (now (log .entry)) letter g lo (base - lo) ⌝ }
 {
     if base == 0 {
         return base;

@@ -1,5 +1,7 @@
-use Rattle.rings.specs.Rings.{recordReads}
+-- The first match is sought from the record behind the bucket's tail on.
+use Rattle.rings.specs.Rings.{packedReads}
 use Rattle.automaton.specs.StateSets.{firstFrom}
+use Rattle.rings.proofs.Reading.{first-reading}
 use Rattle.rings.proofs.Rings.{tail-below, empty-first, walks-head, walks-first}
 use Prim.Native.Nat.{ℕ, _-_}
 use mathlib.Core.Path.{ap, _∙_}
@@ -10,15 +12,18 @@ use Rattle.rings.proofs.first_match.Tie as tie
 
 returns : tie.Need-returns
 unfolding firstFrom
-returns c = rw (c .if1 .taken)
+returns c =
+    let a = c .before .before .before .args in
+    first-reading (a .log .now) (λ i. omega (arith, c .before .before .shared-slice-known .given i)) (a .base) (a .letter) (a .g) 0 (a .base) (rw (c .if1 .taken))
 
 returns-2 : tie.Need-returns-2
 returns-2 c =
     let a = c .before .before .before .before .before .before .args in
     let p = c .before .before .before .before .before .before .pre in
     let b = c .before .before .bucket .ensures in
-    empty-first (a .letter) (a .g) 0 (omega arith) (p .0 .fits) (p .0 .short) (p .1) (b .1) (b .0) (c .before .link-at .ensures .0) (c .if2 .taken)
-    ∙ ap (λ (k : ℕ). firstFrom (recordReads (a .log .now) (a .letter) (a .g)) 0 k) (omega arith)
+    first-reading (a .log .now) (λ i. omega (arith, c .before .before .before .before .before .shared-slice-known .given i)) (a .base) (a .letter) (a .g) 0 (a .base)
+    (empty-first (a .letter) (a .g) 0 (omega arith) (p .0 .fits) (p .0 .short) (p .1) (b .1) (b .0) (c .before .link-at .ensures .0) (c .if2 .taken)
+    ∙ ap (λ (k : ℕ). firstFrom (packedReads (a .log .now) (a .letter) (a .g)) 0 k) (omega arith))
 
 add-link-at : tie.Need-add-link-at
 add-link-at c = omega (arith, c .before .before .before .before .before .before .pre .0 .fits, c .before .before .before .before .before .before .pre .0 .short, tail-below (c .before .before .before .before .before .before .pre .1) (c .before .before .bucket .ensures .1) (c .before .link-at .ensures .0) (c .if2 .left))
@@ -40,7 +45,8 @@ returns-3 c =
     let p = c .before .before .before .before .before .before .before .before .pre in
     let b = c .before .before .before .before .bucket .ensures in
     let w = walks-head (a .letter) (a .g) (p .1) (b .1) (b .0) (c .before .before .before .link-at .ensures .0) (c .before .before .if2 .left) (c .before .link-at2 .ensures .0) in
-    walks-first w (c .follow .ensures) ∙ ap (λ (k : ℕ). firstFrom (recordReads (a .log .now) (a .letter) (a .g)) 0 k) (omega arith)
+    first-reading (a .log .now) (λ i. omega (arith, c .before .before .before .before .before .before .before .shared-slice-known .given i)) (c .follow .result) (a .letter) (a .g) 0 (a .base)
+    (walks-first w (c .follow .ensures) ∙ ap (λ (k : ℕ). firstFrom (packedReads (a .log .now) (a .letter) (a .g)) 0 k) (omega arith))
 
 pub first-match-spec : {M : Type 1} → statement M
 first-match-spec =

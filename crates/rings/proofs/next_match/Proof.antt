@@ -1,6 +1,9 @@
+-- The next match is sought from the record behind r in its ring on.
 use native.Mathlib.Numerals.{add-one}
+use Rattle.rings.proofs.Reading.{first-reading}
 use Rattle.rings.proofs.Rings.{last-first, reads-bucket, walks-next, walks-first}
-use Prim.Native.Nat.{_-_}
+use Prim.Native.Nat.{_+_, _-_}
+use native.Mathlib.Omega.{arith}
 use borrow.Author.Needs.{needs}
 use Rattle.rings.proofs.next_match.Statement.{statement}
 use Rattle.rings.proofs.next_match.Tie as tie
@@ -10,7 +13,8 @@ returns c =
     let a = c .before .before .before .before .args in
     let p = c .before .before .before .before .pre in
     let b = reads-bucket (a .log .now) (a .n) (a .letter) (a .g) (a .r) (p .3) in
-    rw (add-one (a .r)) (last-first (a .letter) (a .g) (p .1) (p .2) b (c .before .link-at .ensures .0) (c .if1 .taken))
+    first-reading (a .log .now) (λ i. omega (arith, c .before .before .before .shared-slice-known .given i)) (a .base) (a .letter) (a .g) (a .r + 1) (a .base - (a .r + 1))
+    (rw (add-one (a .r)) (last-first (a .letter) (a .g) (p .1) (p .2) b (c .before .link-at .ensures .0) (c .if1 .taken)))
 
 follow-requires : tie.Need-follow-requires
 follow-requires c κs =
@@ -26,7 +30,7 @@ returns-2 c =
     let p = c .before .before .before .before .before .pre in
     let b = reads-bucket (a .log .now) (a .n) (a .letter) (a .g) (a .r) (p .3) in
     let w = walks-next (a .letter) (a .g) (p .1) (p .2) b (c .before .before .link-at .ensures .0) (c .before .if1 .left) in
-    rw (add-one (a .r)) (walks-first w (c .follow .ensures))
+    first-reading (a .log .now) (λ i. omega (arith, c .before .before .before .before .shared-slice-known .given i)) (c .follow .result) (a .letter) (a .g) (a .r + 1) (a .base - (a .r + 1)) (rw (add-one (a .r)) (walks-first w (c .follow .ensures)))
 
 pub next-match-spec : {M : Type 1} → statement M
 next-match-spec =
