@@ -21,11 +21,11 @@ use Rattle.automaton.proofs.StateSets.{first-at}
 use Rattle.automaton.proofs.StateNumbers.{stateNumber-below}
 use Rattle.model.specs.Records.{afterAt, beforeAt, letterAt}
 use Rattle.records.specs.Entries.{HasRecord}
-use Rattle.chains.specs.Buckets.{ChainRoom, Chained, recordReads}
+use Rattle.rings.specs.Rings.{RingRoom, Ringed, recordReads}
 use Rattle.numbers.specs.WordBytes.{withWord}
-use Rattle.chains.proofs.Buckets.{chained-scratch}
+use Rattle.rings.proofs.Rings.{ringed-scratch}
 use Rattle.numbers.proofs.WordBytes.{byte-other, length-word, word-back, word-other}
-use Rattle.search.specs.Jobs.{chainsAt, glances, marksOf, placeIn, placesAt}
+use Rattle.search.specs.Jobs.{ringsAt, glances, marksOf, placeIn, placesAt}
 use Rattle.search.proofs.Searching.{glances-at, length-glances}
 use Rattle.ends.specs.Ends.{HeldMarked, NoneNew, Placed, block, heldEnd, oneIfNew, withOwnPlace}
 use Rattle.ends.proofs.Ranks.{isNew, rank, rank-less, rank-more, rank-same, rank-suc}
@@ -70,17 +70,17 @@ module _ (log : List ℕ) (base letter : ℕ) (g : Group) where
 
   -- the records before r are done: with the ends from r on still to mark, the marks are right
   pub record Marking (n : ℕ) (s₀ s : List ℕ) (r : ℕ) : Type 0 where
-    pub room : ChainRoom log base n chainsAt s
-    pub chained : Chained log base n chainsAt s
+    pub room : RingRoom log base n ringsAt s
+    pub ringed : Ringed log base n ringsAt s
     pub reads : r < base → recordReads log letter g r ≡ true
     pub size : length s ≡ length s₀
     pub marks : (x : ℕ) → x < stateCount → cond (heldFrom r x) 1 (getD s x 0) ≡ cond (heldFrom 0 x) 1 (getD s₀ x 0)
     pub outside : (i : ℕ) → stateCount ≤ i → getD s i 0 ≡ getD s₀ i 0
 
-  pub marking-start : (n : ℕ) (s : List ℕ) (r : ℕ) → ChainRoom log base n chainsAt s → Chained log base n chainsAt s → r ≡ firstFrom (recordReads log letter g) 0 base → Marking n s s r
-  marking-start n s r room chained e = record {
+  pub marking-start : (n : ℕ) (s : List ℕ) (r : ℕ) → RingRoom log base n ringsAt s → Ringed log base n ringsAt s → r ≡ firstFrom (recordReads log letter g) 0 base → Marking n s s r
+  marking-start n s r room ringed e = record {
     room = room;
-    chained = chained;
+    ringed = ringed;
     reads = λ h. first-at (recordReads log letter g) 0 base r e .passes (omega arith);
     size = refl;
     marks = λ x h. ap (λ (b : Bool). cond b 1 (getD s x 0)) (ap (λ (k : ℕ). heldFrom k x) e ∙ sym (held-first base 0 x (omega arith)));
@@ -95,12 +95,12 @@ module _ (log : List ℕ) (base letter : ℕ) (g : Group) where
       below : x < stateCount
       below = rw e (stateNumber-below (afterAt log r))
 
-      -- a mark leaves the chains alone
-      pub marked-room : (v : ℕ) → ChainRoom log base n chainsAt (set s x v)
+      -- a mark leaves the rings alone
+      pub marked-room : (v : ℕ) → RingRoom log base n ringsAt (set s x v)
       marked-room v = record { fits = w .room .fits; short = w .room .short; records = w .room .records; room = omega (arith, w .room .room, length-set s x v) }
 
-      pub marked-chained : (v : ℕ) → Chained log base n chainsAt (set s x v)
-      marked-chained v = chained-scratch log base n chainsAt s (set s x v) (w .room .fits) (λ i a b. getD-set-other s x i v 0 (λ q. omega (arith, below))) (w .chained)
+      pub marked-ringed : (v : ℕ) → Ringed log base n ringsAt (set s x v)
+      marked-ringed v = ringed-scratch log base n ringsAt s (set s x v) (w .room .fits) (λ i a b. getD-set-other s x i v 0 (λ q. omega (arith, below))) (w .ringed)
 
       marked-one : (r′ : ℕ) → ((y : ℕ) → heldFrom (suc r) y ≡ heldFrom r′ y) → (y : ℕ) → cond (heldFrom r′ y) 1 (getD (set s x 1) y 0) ≡ cond (heldFrom r y) 1 (getD s y 0)
       marked-one r′ f y = by-test (eqb x y)
@@ -121,7 +121,7 @@ module _ (log : List ℕ) (base letter : ℕ) (g : Group) where
       pub marking-turn : (r′ : ℕ) → r′ ≡ firstFrom (recordReads log letter g) (r + 1) (base - (r + 1)) → Marking n s₀ (set s x 1) r′
       marking-turn r′ q = record {
         room = marked-room 1;
-        chained = marked-chained 1;
+        ringed = marked-ringed 1;
         reads = λ k. first-at (recordReads log letter g) (r + 1) (base - (r + 1)) r′ q .passes (omega arith);
         size = length-set s x 1 ∙ w .size;
         marks = λ y l. marked-one r′ (λ z. ap (λ (k : ℕ). heldFrom k z) (sym (add-one r)) ∙ held-first (base - (r + 1)) (r + 1) z (omega arith) ∙ ap (λ (k : ℕ). heldFrom k z) (sym q)) y ∙ w .marks y l;

@@ -1,16 +1,17 @@
 // The ends of a group of rules: which the log has, which are new, and the places of the new ones' records.
 use automaton::states;
-use chains::first_match;
-use chains::next_match;
 use model::Group;
 use numbers::put_word;
-use search::CHAINS;
+use packs::pack;
+use rings::first_match;
+use rings::next_match;
 use search::PLACES;
+use search::RINGS;
 ghost use mathlib.Core.Path.{_≡_};
 ghost use Prim.Native.Nat.{_+_, _*_, _<_, _≤_};
 ghost use lib.ListN.{length, getD};
-ghost use Rattle.chains.specs.Buckets.{ChainRoom, Chained};
-ghost use Rattle.search.specs.Jobs.{chainsAt, marksOf, placesAt};
+ghost use Rattle.rings.specs.Rings.{RingRoom, Ringed};
+ghost use Rattle.search.specs.Jobs.{ringsAt, marksOf, placesAt};
 ghost use Rattle.automaton.specs.StateNumbers.{stateCount};
 ghost use Rattle.ends.specs.Ends.{block, newBelow, oneIfNew, withOwnPlace, HeldMarked, NoneNew, Placed};
 
@@ -21,15 +22,16 @@ const BLOCKS: usize = 32;
 
 // Marks the ends of the log's transitions on a letter with the states g before.
 pub fn mark_held(log: &[u8], scratch: &mut [u8], n: usize, base: usize, letter: u8, g: Group)
-    requires { ⌜ ChainRoom (now log) base n chainsAt (now scratch) × Chained (now log) base n chainsAt (now scratch) ⌝ }
+    requires { ⌜ RingRoom (now log) base n ringsAt (now scratch) × Ringed (now log) base n ringsAt (now scratch) ⌝ }
     ensures { λ _. ⌜ HeldMarked (now (log .entry)) base letter g (now (scratch .entry)) (now (scratch .exit)) ⌝ }
 {
-    let mut r = first_match(log, scratch, CHAINS, n, base, letter, g);
+    let before = pack(g);
+    let mut r = first_match(log, scratch, RINGS, n, base, letter, before);
     while r < base {
         let after = records::after_at(log, r);
         let x = states::number(after);
         scratch[x] = 1;
-        r = next_match(log, scratch, CHAINS, n, base, r, letter, g);
+        r = next_match(log, scratch, RINGS, n, base, r, letter, before);
     }
 }
 

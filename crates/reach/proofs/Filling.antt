@@ -5,6 +5,7 @@ use mathlib.Core.List.{List, _++_}
 use Prim.Native.Nat.{_*_, _+_, _-_, _<_, _≤_, ℕ}
 use native.Mathlib.Omega.{arith}
 use lib.ListN.{length, length-append, length-replicate, replicate, take}
+use lib.Seq.{length-take-le, take-at}
 use borrow.Fn.PlainCycle.{is}
 use Rattle.model.specs.Calls.{capacity, scratchNeeded, zeros}
 use Rattle.model.specs.Log.{limit, saturatedAt}
@@ -18,6 +19,9 @@ use Rattle.reach.specs.Outcomes.{LimitLeft, LogLeft, NoneLeft, Roomy}
 use Rattle.saturate.specs.Limits.{SaturatedDone, SaturatedFull, SaturatedLimit}
 use Rattle.table.specs.Reading.{Holds, systemIn}
 use Rattle.verdict.specs.Verdicts.{Settled}
+use Rattle.start.specs.Regions.{Linked, chainsPlace}
+use Rattle.rings.proofs.Rings.{ringed-log}
+use Rattle.search.proofs.Searching.{before-same, letter-same}
 use Rattle.logs.proofs.Logs.{log-fits}
 use Rattle.model.proofs.RecordBytes.{length-log}
 
@@ -46,6 +50,22 @@ module _ (table : List ℕ) (t : Table) (n : ℕ) (log scratch : List ℕ) (hold
     few-rounds : saturatedAt sys ≤ 65535
     few-rounds = omega (arith, rounds-short sys, count-is, whole .fits, roomy .short)
 
+    -- the zeros behind the records leave the rings alone
+    still-linked : (log₂ : List ℕ) → log₂ ≡ take (count * recordLength) log₁ ++ replicate (length log₁ - count * recordLength) 0 → Linked log₂ count n scratch₁
+    still-linked log₂ p =
+        let zeros : List ℕ = replicate (length log₁ - count * recordLength) 0 in
+        let front : length (take (count * recordLength) log₁) ≡ count * recordLength = length-take-le (count * recordLength) log₁ behind-room in
+        let same : take (count * recordLength) log₂ ≡ take (count * recordLength) log₁ = ap (take (count * recordLength)) p ∙ take-at (take (count * recordLength) log₁) zeros (count * recordLength) front in
+        record {
+          room = record {
+            fits = whole .fits;
+            short = roomy .short;
+            records = omega (arith, ap length p, length-append (take (count * recordLength) log₁) zeros, front);
+            room = omega (arith, roomy .scratch-room, whole .scratch-length);
+          };
+          ringed = ringed-log log₁ log₂ count n chainsPlace scratch₁ (letter-same log₁ log₂ count same) (before-same log₁ log₂ count same) (whole .fits) (whole .ringed);
+        }
+
     pub limit-left : (log₂ : List ℕ) → log₂ ≡ take (count * recordLength) log₁ ++ replicate (length log₁ - count * recordLength) 0 → LimitLeft table t n log scratch count most log₂ scratch₁
     limit-left log₂ p =
         let is : log₂ ≡ logBytes (limit sys) ++ replicate (length log₁ - count * recordLength) 0 = p ∙ ap (λ (l : List ℕ). l ++ replicate (length log₁ - count * recordLength) 0) (whole .logged .bytes) in
@@ -59,9 +79,7 @@ module _ (table : List ℕ) (t : Table) (n : ℕ) (log scratch : List ℕ) (hold
               size = count-is;
               short = omega (arith, whole .fits, roomy .short);
             };
-            fits = whole .fits;
-            short = roomy .short;
-            room = omega (arith, roomy .scratch-room, whole .scratch-length);
+            linked = still-linked log₂ p;
             highest = whole .last-round;
           };
           log-left = is ∙ ap₂ (λ (a b : ℕ). logBytes (limit sys) ++ replicate (a - b) 0) (whole .log-length) (sym bytes-long);
@@ -80,7 +98,7 @@ module _ (table : List ℕ) (t : Table) (n : ℕ) (log scratch log′ scratch′
 
     -- the highest round is a number of a record
     pub rounds-few : most ≤ 65535
-    rounds-few = let l = left-limit in omega (arith, l .settled .highest, rounds-limit (systemIn table), rounds-short (systemIn table), l .settled .log-of .size, l .settled .fits, l .settled .short)
+    rounds-few = let l = left-limit in omega (arith, l .settled .highest, rounds-limit (systemIn table), rounds-short (systemIn table), l .settled .log-of .size, l .settled .linked .room .fits, l .settled .linked .room .short)
 
     pub settled-as : (m : ℕ) → m ≡ most → Settled table t log′ n count m scratch′
     settled-as m q = subst (λ (x : ℕ). Settled table t log′ n count x scratch′) (sym q) (left-limit .settled)

@@ -29,7 +29,7 @@ use Rattle.records.specs.Entries.{Fits}
 use Rattle.ends.specs.Ends.{HeldMarked, Placed, firstFor, heldEnd, hit, newBelow}
 use Rattle.heads.specs.Heads.{isActive}
 use Rattle.saturate.specs.Rounds.{Cleared, Found, GroupAdded, GroupFull, InRound, Offered, Staged, earlierLog, filling, lookedAt, ruleCandidates, ruleOffers, stageAdditions, stageCandidates}
-use Rattle.search.specs.Jobs.{chainsAt, finishedAt, glances, marksOf, placeIn, placesAt, tailOf, visitIn}
+use Rattle.search.specs.Jobs.{ringsAt, finishedAt, glances, marksOf, placeIn, placesAt, tailOf, visitIn}
 use Rattle.search.specs.Visits.{Visit, endNumber, offer, offerAll}
 use Rattle.table.specs.Reading.{Holds, ruleIn, systemIn}
 use Rattle.automaton.proofs.StateNumbers.{stateNumber-below}
@@ -67,7 +67,7 @@ two-or true false = refl
 two-or false true = refl
 two-or false false = refl
 
-marks-long : (s : List ℕ) → chainsAt ≤ length s → length (marksOf s) ≡ stateCount
+marks-long : (s : List ℕ) → ringsAt ≤ length s → length (marksOf s) ≡ stateCount
 marks-long s h = length-take stateCount s ∙ omega arith
 
 head-parts : (a : ℕ) (b : Group) (r : Rule) → isHead a b r ≡ true → (r .letter ≡ a) × (r .before ≡ b)
@@ -181,7 +181,7 @@ module _ (table : List ℕ) (t : Table) (stage : Stage) where
     holds : Holds table t
     holds = round₃ .holds
 
-    long : chainsAt ≤ length s₃
+    long : ringsAt ≤ length s₃
     long = omega (arith, round₃ .room .room)
 
     log-same : log₁ ≡ log

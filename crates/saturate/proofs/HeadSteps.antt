@@ -28,14 +28,13 @@ use Rattle.heads.specs.declared.Head.{Head}
 use Rattle.heads.specs.declared.Head.the-variants.{At, Outside}
 use Rattle.saturate.specs.declared.groups.Stage.{Stage}
 use Rattle.table.specs.declared.Table.{Table}
-use Rattle.chains.specs.Buckets.{ChainRoom, Chained, SameOutside}
 use Rattle.heads.specs.Heads.{activeAt, activeIn, digitsOf, isActive, nextHead}
 use Rattle.saturate.specs.Limits.{AtHead, RoundAdded, RoundBegins, RoundDone, RoundFull, logUpTo, rulesAfter}
 use Rattle.heads.specs.Marking.{Marked, activeBy, byteFor, freshEnd}
-use Rattle.saturate.specs.Rounds.{GroupAdded, GroupDone, GroupFull, InRound, earlierLog, stageAdditions}
-use Rattle.search.specs.Jobs.{chainsAt}
+use Rattle.saturate.specs.Rounds.{GroupAdded, GroupDone, GroupFull, InRound, earlierLog, lastBegins, stageAdditions}
+use Rattle.search.specs.Jobs.{ringsAt}
 use Rattle.table.specs.Reading.{Holds, ruleIn, systemIn}
-use Rattle.chains.proofs.Buckets.{chained-scratch}
+use Rattle.rings.proofs.Rings.{freshened-scratch, ringed-scratch}
 use Rattle.logs.proofs.Logs.{log-fits, skip-stale}
 use Rattle.model.proofs.RecordBytes.{log-append}
 use Rattle.heads.proofs.Marking.{looked-at}
@@ -82,9 +81,9 @@ fewer f g i (a ∷ xs) (suc n) x e y z = by-test (g a)
     (λ m. rw m (by-test (f a) (λ t. rw t (omega (arith, fewer f g i xs n x e y z))) (λ o. rw o (fewer f g i xs n x e y z))))
 
 -- a round that has come to these buffers ends as it does from there
-pub done-before : (table : List ℕ) (n round : ℕ) (log s log′ s′ : List ℕ) (r : Added) (log″ s″ : List ℕ) → length log′ ≡ length log → length s′ ≡ length s → RoundDone table n round log′ s′ r log″ s″ → RoundDone table n round log s r log″ s″
-done-before table n round log s log′ s′ (Records c) log″ s″ l m d = record { logged = d .logged; fits = d .fits; log-length = d .log-length ∙ l; scratch-length = d .scratch-length ∙ m }
-done-before table n round log s log′ s′ Full log″ s″ l m d = record { over = d .over; log-length = d .log-length ∙ l; scratch-length = d .scratch-length ∙ m }
+pub done-before : (table : List ℕ) (base n round : ℕ) (log s log′ s′ : List ℕ) (r : Added) (log″ s″ : List ℕ) → length log′ ≡ length log → length s′ ≡ length s → RoundDone table base n round log′ s′ r log″ s″ → RoundDone table base n round log s r log″ s″
+done-before table base n round log s log′ s′ (Records c) log″ s″ l m d = record { logged = d .logged; ringed = d .ringed; fits = d .fits; log-length = d .log-length ∙ l; scratch-length = d .scratch-length ∙ m }
+done-before table base n round log s log′ s′ Full log″ s″ l m d = record { over = d .over; log-length = d .log-length ∙ l; scratch-length = d .scratch-length ∙ m }
 
 -- ---- rounds
 module _ (table : List ℕ) (t : Table) (base n round : ℕ) where
@@ -118,13 +117,14 @@ module _ (table : List ℕ) (t : Table) (base n round : ℕ) where
     looked : (k : ℕ) → k < length (systemIn table .rules) → activeIn s k ≡ ok (getD (systemIn table .rules) k (ruleOf []))
     looked k h = at-last .standing .active k (omega (arith, rules-count table t holds))
 
-    pub at-end : nextHead (activeIn s) last (systemIn table .rules) 0 Outside ≡ Outside → RoundAdded table n round log s count log s
+    pub at-end : nextHead (activeIn s) last (systemIn table .rules) 0 Outside ≡ Outside → RoundAdded table base n round log s count log s
     at-end e =
         let whole : logUpTo table round last ≡ logAt (systemIn table) round =
         ap (λ (cs : List Candidate). R ++ map (addedRecord round R) cs) (last-head (systemIn table) R ok (passed-over (systemIn table) round (at-last .standing .begun)) (digitsOf last)
         (next-outside ok last (systemIn table .rules) (activeIn s) (ruleOf []) looked e)) ∙ sym (log-of-round (at-last .standing .begun)) in
         record {
           logged = record { size = at-last .logged .size ∙ ap length whole; bytes = at-last .logged .bytes ∙ ap logBytes whole };
+          ringed = at-last .standing .ringed;
           fits = at-last .fits;
           log-length = refl;
           scratch-length = refl;
@@ -196,30 +196,28 @@ module _ (table : List ℕ) (t : Table) (base n round : ℕ) where
       then-full r log′ s′ e d = at-full log′ s′ (subst (λ (x : Added). GroupDone table t stage count log s x log′ s′) e d)
 
       pub then-done : (r : Added) (more : ℕ) (log′ s′ : List ℕ) → r ≡ Records more → GroupDone table t stage count log s r log′ s′
-          → (q : Added) (log″ s″ : List ℕ) → RoundDone table n round log′ s′ q log″ s″ → RoundDone table n round log s q log″ s″
+          → (q : Added) (log″ s″ : List ℕ) → RoundDone table base n round log′ s′ q log″ s″ → RoundDone table base n round log s q log″ s″
       then-done r more log′ s′ e d q log″ s″ f =
           let added : GroupAdded table t stage count log s more log′ s′ = subst (λ (x : Added). GroupDone table t stage count log s x log′ s′) e d in
-          done-before table n round log s log′ s′ q log″ s″ (added .log-length) (added .scratch-length) f
+          done-before table base n round log s log′ s′ q log″ s″ (added .log-length) (added .scratch-length) f
 
       pub at-behind : base ≤ count
       at-behind = omega (arith, at-last .logged .size, at-last .standing .size, length-append R (map (addedRecord round R) (filter (upTo (digitsOf last)) all)))
 
 -- ---- the start of a round
-pub round-begins : (table : List ℕ) (t : Table) (base n round : ℕ) (log s : List ℕ) → RoundBegins table t base n round log s → ChainRoom log base n chainsAt s
-round-begins table t base n round log s b = record { fits = b .fits; short = b .short; records = omega (arith, b .fits, b .room); room = b .scratch }
-
-pub round-stands : (table : List ℕ) (t : Table) (base n round : ℕ) (log s s₁ s₂ : List ℕ) → RoundBegins table t base n round log s → SameOutside n chainsAt s s₁ → Chained log base n chainsAt s₁
-    → Marked activeAt freshEnd (λ (k : ℕ). byteFor (activeBy log base round (ruleIn table k))) (t .rules) s₁ s₂ → InRound table t round base n log s₂
-round-stands table t base n round log s s₁ s₂ b o c m = record {
+pub round-stands : (table : List ℕ) (t : Table) (base n round : ℕ) (log s s′ : List ℕ) → RoundBegins table t base n round log s
+    → Marked activeAt freshEnd (λ (k : ℕ). byteFor (activeBy log base round (ruleIn table k))) (t .rules) s s′ → InRound table t round base n log s′
+round-stands table t base n round log s s′ b m = record {
   holds = b .holds;
   begun = b .begun;
   late = b .late;
   size = b .logged .size;
   bytes = b .logged .bytes;
-  room = record { fits = b .fits; short = b .short; records = omega (arith, b .fits, b .room); room = omega (arith, m .kept .size, o .size, b .scratch) };
-  chained = chained-scratch log base n chainsAt s₁ s₂ (b .fits) (λ i h l. m .kept .above i (omega arith)) c;
-  active = looked-at (earlierLog table round) (drop (base * recordLength) log) log split (log-fits table t (b .holds) (round - 1) (omega (arith, b .late, b .fits, b .short)) (omega (arith, b .logged .size, b .fits, b .short))) round (ruleIn table) (t .rules) s₁ s₂
-      (subst (λ (x : ℕ). Marked activeAt freshEnd (λ (k : ℕ). byteFor (activeBy log x round (ruleIn table k))) (t .rules) s₁ s₂) (b .logged .size) m);
+  room = record { fits = b .fits; short = b .short; records = omega (arith, b .fits, b .room); room = omega (arith, m .kept .size, b .scratch) };
+  ringed = ringed-scratch log base n ringsAt s s′ (b .fits) (λ i h l. m .kept .above i (omega arith)) (b .ringed);
+  fresh = freshened-scratch log (lastBegins table round) base n ringsAt s s′ (λ i h l. m .kept .above i (omega arith)) (b .fresh);
+  active = looked-at (earlierLog table round) (drop (base * recordLength) log) log split (log-fits table t (b .holds) (round - 1) (omega (arith, b .late, b .fits, b .short)) (omega (arith, b .logged .size, b .fits, b .short))) round (ruleIn table) (t .rules) s s′
+      (subst (λ (x : ℕ). Marked activeAt freshEnd (λ (k : ℕ). byteFor (activeBy log x round (ruleIn table k))) (t .rules) s s′) (b .logged .size) m);
 }
   where
     split : log ≡ logBytes (earlierLog table round) ++ drop (base * recordLength) log

@@ -2,20 +2,21 @@
 use mathlib.Core.Path.{_∙_, _≡_, ap, ap₂, refl, subst, sym}
 use mathlib.Core.Bool.{Bool, _&&_, false, not, true, true≢false}
 use mathlib.Core.Logic.{_≢_}
-use mathlib.Core.List.{List, [], _++_, _∷_}
+use mathlib.Core.List.{List, [], _++_, _∷_, map}
 use Prim.Native.Nat.{_*_, _+_, _-_, _<_, _≤_, min, suc, zero, ℕ}
 use native.Mathlib.Omega.{arith}
 use lib.Dec.{eqb}
-use lib.ListN.{drop, drop-of-length-le, getD, getD-replicate, length, length-drop, length-replicate, length-take, replicate, take}
+use lib.ListN.{drop, drop-of-length-le, getD, getD-replicate, length, length-append, length-drop, length-replicate, length-take, replicate, take}
 use lib.Seq.{ext-getD, getD-drop, getD-take}
 use borrow.Author.Tests.{eqb-false, eqb-true}
 use Rattle.model.specs.declared.Group.{Group}
 use Rattle.model.specs.Groups.{Processes, merge, processesOf}
 use Rattle.model.specs.Lists.{Each}
-use Rattle.model.specs.Log.{Candidate, Record, noNumber, recordAt}
+use Rattle.model.specs.Log.{Candidate, Record, addedRecord, additions, logAt, noNumber, recordAt}
 use Rattle.model.specs.Records.{logBytes, recordLength, afterAt, letterAt}
 use Rattle.model.specs.Systems.{Rule}
 use Rattle.model.specs.Tables.{writtenPlaces}
+use Rattle.model.proofs.Collecting.{logAt-suc}
 use Rattle.model.proofs.RoundGroups.{isHead}
 use Rattle.model.proofs.Tests.{by-test}
 use Rattle.saturate.specs.declared.groups.Stage.{Stage}
@@ -26,16 +27,16 @@ use Rattle.automaton.specs.StateNumbers.{Over, stateCount}
 use Rattle.automaton.specs.StateSets.{member}
 use Rattle.records.specs.Entries.{Fits, HasRecord, Reads}
 use Rattle.heads.specs.Heads.{activeAt, activeIn}
-use Rattle.saturate.specs.Rounds.{Cleared, InRound, Offered, StageJob, Staged, earlierLog, lookedAt, ruleCandidates, ruleOffers, stageCandidates}
-use Rattle.search.specs.Jobs.{Searchable, Searched, Standing, bitsOf, chainsAt, finishedAt, finishedEnd, glances, isFinished, jobLoc, jobWord, letterOf, marksOf, offers, placeIn, placeList, tailOf, visitIn}
+use Rattle.saturate.specs.Rounds.{Cleared, InRound, Offered, StageJob, Staged, earlierLog, lastBegins, lookedAt, ruleCandidates, ruleOffers, stageCandidates}
+use Rattle.search.specs.Jobs.{Searchable, Searched, Standing, bitsOf, ringsAt, finishedAt, finishedEnd, glances, isFinished, jobLoc, jobWord, letterOf, marksOf, offers, placeIn, placeList, tailOf, visitIn}
 use Rattle.search.specs.Visits.{Visit, fromMark, offer, offerAll}
 use Rattle.table.specs.Reading.{Holds, ruleIn, systemIn}
 use Rattle.automaton.proofs.StateSets.{member-zeros}
-use Rattle.chains.proofs.Buckets.{chained-log, chained-scratch}
+use Rattle.rings.proofs.Rings.{freshened-log, freshened-scratch, ringed-log, ringed-scratch}
 use Rattle.logs.proofs.Logs.{log-fits, step-over-at}
 use Rattle.logs.proofs.Rules.{each-by-elem, elem-place, rule-drop, rule-over}
 use Rattle.saturate.proofs.Matching.{JobOf, glances-keys, glances-steps, job-offers, offers-steps, reads-at}
-use Rattle.search.proofs.Frames.{chained-kept, place-same}
+use Rattle.search.proofs.Frames.{ringed-kept, place-same}
 use Rattle.search.proofs.Searching.{before-same, letter-same}
 use Rattle.search.proofs.Visits.{all-kept, offers-append}
 use Rattle.table.proofs.Layouts.{rules-count, written-few}
@@ -132,7 +133,7 @@ module _ (table : List ℕ) (t : Table) (stage : Stage) (k : ℕ) (job : Job) (h
     nothing-finished : (level m : ℕ) → isFinished s₁ level m ≡ false
     nothing-finished level m = ap (λ (l : List ℕ). member l (level * stateCount + m)) empty ∙ member-zeros 4096 (level * stateCount + m)
       where
-        room : chainsAt ≤ length s₁
+        room : ringsAt ≤ length s₁
         room = omega (arith, cleared .size, in-round .room .room)
 
         empty : take (finishedEnd - finishedAt) (drop finishedAt s₁) ≡ replicate 4096 0
@@ -157,7 +158,7 @@ module _ (table : List ℕ) (t : Table) (stage : Stage) (k : ℕ) (job : Job) (h
     rule-searchable = record {
       few = omega (arith, j .count, short);
       room = record { fits = omega (arith, j .base, j .n, in-round .room .fits); short = omega (arith, j .n, in-round .room .short); records = omega (arith, j .base, in-round .room .records); room = omega (arith, j .n, cleared .size, in-round .room .room) };
-      chained = rw (j .base, j .n) (chained-kept log log s s₁ (stage .base) refl outside (stage .n) (in-round .room .fits) (in-round .chained));
+      ringed = rw (j .base, j .n) (ringed-kept log log s s₁ (stage .base) refl outside (stage .n) (in-round .room .fits) (in-round .ringed));
       locs = λ m h.
           let in-word : m < length word = omega (arith, j .count) in
           let is : letterOf job m ≡ getD word m 0 = j .letters m (omega (arith, short)) in
@@ -218,6 +219,17 @@ no-places (suc (suc (suc zero))) h = refl
 no-places (suc (suc (suc (suc i)))) h = refl
 
 -- ---- one search after the other
+-- the last round begins within the log
+last-short : (table : List ℕ) (round : ℕ) → lastBegins table round ≤ length (earlierLog table round)
+unfolding lastBegins
+last-short table zero = omega arith
+last-short table (suc zero) = omega arith
+last-short table (suc (suc k)) =
+    let last : suc (suc k) - 1 ≡ suc k = omega arith in
+    let at : lastBegins table (suc (suc k)) ≡ length (logAt (systemIn table) k) = refl in
+    let whole : length (earlierLog table (suc (suc k))) ≡ length (logAt (systemIn table) (suc k)) = ap (λ (m : ℕ). length (logAt (systemIn table) m)) last in
+    omega (arith, ap length (logAt-suc (systemIn table) k), length-append (logAt (systemIn table) k) (map (addedRecord (suc k) (logAt (systemIn table) k)) (additions (systemIn table) (logAt (systemIn table) k))))
+
 module _ (table : List ℕ) (t : Table) (stage : Stage) where
   pub offered-none : (log s : List ℕ) → Offered table stage [] log s log s
   offered-none log s = record { visit = refl; front = refl; log-length = refl; scratch-length = refl; outside = λ i h. refl }
@@ -243,10 +255,15 @@ module _ (table : List ℕ) (t : Table) (stage : Stage) where
     size = r .size;
     bytes = front ∙ r .bytes;
     room = record { fits = r .room .fits; short = r .room .short; records = omega (arith, r .room .records); room = omega (arith, r .room .room) };
-    chained = chained-log log log′ (stage .base) (stage .n) chainsAt s′ (letter-same log log′ (stage .base) front) (before-same log log′ (stage .base) front)
-        (chained-scratch log (stage .base) (stage .n) chainsAt s s′ (r .room .fits) (λ i a b. same i (omega arith)) (r .chained));
+    ringed = ringed-log log log′ (stage .base) (stage .n) ringsAt s′ (letter-same log log′ (stage .base) front) (before-same log log′ (stage .base) front) (r .room .fits)
+        (ringed-scratch log (stage .base) (stage .n) ringsAt s s′ (r .room .fits) (λ i a b. same i (omega arith)) (r .ringed));
+    fresh = freshened-log log log′ (stage .base) (stage .n) ringsAt s′ (letter-same log log′ (stage .base) front) (before-same log log′ (stage .base) front) (lastBegins table (stage .round)) last-within
+        (freshened-scratch log (lastBegins table (stage .round)) (stage .base) (stage .n) ringsAt s s′ (λ i a b. same i (omega arith)) (r .fresh));
     active = λ k h. ap (λ (x : ℕ). eqb x 1) (same (activeAt + k) (omega arith)) ∙ r .active k h;
   }
+    where
+      last-within : lastBegins table (stage .round) ≤ stage .base
+      last-within = omega (arith, last-short table (stage .round), r .size)
 
   pub staged-kept : (cs : List Candidate) (log s log′ s′ : List ℕ) → Staged table t stage log s → Offered table stage cs log s log′ s′ → Staged table t stage log′ s′
   staged-kept cs log s log′ s′ g o = record {

@@ -10,7 +10,9 @@ use Rattle.model.proofs.RoundGroups.{filter, ruleHead, upTo}
 use Rattle.table.specs.declared.Table.{Table}
 use Rattle.table.specs.Reading.{Holds, systemIn}
 use Rattle.heads.specs.Heads.{digitsOf}
-use Rattle.saturate.specs.Rounds.{InRound, earlierLog}
+use Rattle.rings.specs.Rings.{Freshened, Ringed}
+use Rattle.search.specs.Jobs.{ringsAt}
+use Rattle.saturate.specs.Rounds.{InRound, earlierLog, lastBegins}
 use Rattle.saturate.specs.declared.groups.Added.{Added}
 use Rattle.saturate.specs.declared.groups.Added.the-variants.{Records, Full}
 use Rattle.heads.specs.declared.Head.{Head}
@@ -23,7 +25,7 @@ pub record Logged (records : List Record) (count : ℕ) (log : List ℕ) : Type 
   pub size : count ≡ length records
   pub bytes : take (count * recordLength) log ≡ logBytes records
 
--- a round may begin: the log of the rounds before it stands, and there is room for n records and their chains
+-- a round may begin: the log of the rounds before it stands and is in its rings, and there is room for n records and their rings
 pub record RoundBegins (table : List ℕ) (t : Table) (base n round : ℕ) (log s : List ℕ) : Type 0 where
   pub holds : Holds table t
   pub begun : 1 ≤ round
@@ -32,7 +34,9 @@ pub record RoundBegins (table : List ℕ) (t : Table) (base n round : ℕ) (log 
   pub fits : base ≤ n
   pub short : n ≤ 65535
   pub room : n * recordLength ≤ length log
-  pub scratch : 34000 + 4 * n ≤ length s
+  pub scratch : ringsAt + 6 * n ≤ length s
+  pub ringed : Ringed log base n ringsAt s
+  pub fresh : Freshened log (lastBegins table round) base n ringsAt s
 
 -- the log of the rounds before, and what the round adds for the heads up to the last one
 abbrev pub logUpTo : List ℕ → ℕ → Head → List Record
@@ -44,9 +48,10 @@ pub record AtHead (table : List ℕ) (t : Table) (base n round : ℕ) (last : He
   pub fits : count ≤ n
   pub room : n * recordLength ≤ length log
 
--- the log is that of the round, or there is no room for it
-pub record RoundAdded (table : List ℕ) (n round : ℕ) (log s : List ℕ) (count : ℕ) (log′ s′ : List ℕ) : Type 0 where
+-- the log is that of the round, with the records before it in their rings, or there is no room for it
+pub record RoundAdded (table : List ℕ) (base n round : ℕ) (log s : List ℕ) (count : ℕ) (log′ s′ : List ℕ) : Type 0 where
   pub logged : Logged (logAt (systemIn table) round) count log′
+  pub ringed : Ringed log′ base n ringsAt s′
   pub fits : count ≤ n
   pub log-length : length log′ ≡ length log
   pub scratch-length : length s′ ≡ length s
@@ -56,9 +61,9 @@ pub record RoundFull (table : List ℕ) (n round : ℕ) (log s log′ s′ : Lis
   pub log-length : length log′ ≡ length log
   pub scratch-length : length s′ ≡ length s
 
-abbrev pub RoundDone : List ℕ → ℕ → ℕ → List ℕ → List ℕ → Added → List ℕ → List ℕ → Type 0
-RoundDone table n round log s (Records count) log′ s′ = RoundAdded table n round log s count log′ s′
-RoundDone table n round log s Full log′ s′ = RoundFull table n round log s log′ s′
+abbrev pub RoundDone : List ℕ → ℕ → ℕ → ℕ → List ℕ → List ℕ → Added → List ℕ → List ℕ → Type 0
+RoundDone table base n round log s (Records count) log′ s′ = RoundAdded table base n round log s count log′ s′
+RoundDone table base n round log s Full log′ s′ = RoundFull table n round log s log′ s′
 
 -- how many rules have a head after the last one
 abbrev pub rulesAfter : List ℕ → Head → ℕ
@@ -69,16 +74,18 @@ unfoldable pub countOrOver : Added → ℕ → ℕ
 countOrOver (Records count) n = count
 countOrOver Full n = n + 1
 
-pub record RoundCounted (table : List ℕ) (n round : ℕ) (log s : List ℕ) (count : ℕ) (log′ s′ : List ℕ) : Type 0 where
+pub record RoundCounted (table : List ℕ) (base n round : ℕ) (log s : List ℕ) (count : ℕ) (log′ s′ : List ℕ) : Type 0 where
   pub within : count ≤ n → Logged (logAt (systemIn table) round) count log′
+  pub ringed : count ≤ n → Ringed log′ base n ringsAt s′
   pub over : n < count → n < length (logAt (systemIn table) round)
   pub small : count ≤ n + 1
   pub log-length : length log′ ≡ length log
   pub scratch-length : length s′ ≡ length s
 
--- the log begins with the records of the limit
+-- the log begins with the records of the limit, which are in their rings
 pub record SaturatedLimit (table : List ℕ) (n : ℕ) (log s : List ℕ) (count last : ℕ) (log′ s′ : List ℕ) : Type 0 where
   pub logged : Logged (limit (systemIn table)) count log′
+  pub ringed : Ringed log′ count n ringsAt s′
   pub last-round : last ≡ rounds (limit (systemIn table))
   pub fits : count ≤ n
   pub log-length : length log′ ≡ length log

@@ -3,7 +3,7 @@
 use mathlib.Core.Path.{_≡_}
 use mathlib.Core.Bool.{Bool, true, cond, not, _&&_}
 use mathlib.Core.List.{List, [], _∷_, _++_, map}
-use Prim.Native.Nat.{ℕ, _+_, _-_, _*_, _<_, _≤_}
+use Prim.Native.Nat.{ℕ, zero, suc, _+_, _-_, _*_, _<_, _≤_}
 use lib.Dec.{eqb}
 use lib.ListN.{length, getD, take}
 use Rattle.model.specs.declared.Group.{Group}
@@ -14,12 +14,12 @@ use Rattle.model.specs.Records.{recordLength, logBytes}
 use Rattle.model.proofs.RoundGroups.{candidatesOf, isHead}
 use Rattle.automaton.specs.StateNumbers.{stateCount}
 use Rattle.records.specs.Entries.{HasRecord}
-use Rattle.chains.specs.Buckets.{ChainRoom, Chained}
+use Rattle.rings.specs.Rings.{Freshened, RingRoom, Ringed}
 use Rattle.table.specs.declared.Table.{Table}
 use Rattle.table.specs.Reading.{Holds, ruleIn, systemIn}
 use Rattle.search.specs.declared.Job.{Job}
 use Rattle.search.specs.Visits.{offerAll}
-use Rattle.search.specs.Jobs.{chainsAt, finishedEnd, letterOf, bitsOf, marksOf, placeIn, tailOf, visitIn}
+use Rattle.search.specs.Jobs.{ringsAt, finishedEnd, letterOf, bitsOf, marksOf, placeIn, tailOf, visitIn}
 use Rattle.ends.specs.Ends.{heldEnd, hit, newBelow}
 use Rattle.heads.specs.Heads.{activeIn, isActive}
 use Rattle.saturate.specs.declared.groups.Added.{Added}
@@ -30,7 +30,13 @@ use Rattle.saturate.specs.declared.groups.Stage.{Stage}
 abbrev pub earlierLog : List ℕ → ℕ → List Record
 earlierLog table round = logAt (systemIn table) (round - 1)
 
--- that log stands in front and is chained, and the rules that the round looks at are marked
+-- the first record of the last round before it
+unfoldable pub lastBegins : List ℕ → ℕ → ℕ
+lastBegins table zero = 0
+lastBegins table (suc zero) = 0
+lastBegins table (suc (suc k)) = length (logAt (systemIn table) k)
+
+-- that log stands in front and is in its rings, which know each bucket's first record of the last round, and the rules that the round looks at are marked
 pub record InRound (table : List ℕ) (t : Table) (round base n : ℕ) (log s : List ℕ) : Type 0 where
   pub holds : Holds table t
   pub begun : 1 ≤ round
@@ -38,8 +44,9 @@ pub record InRound (table : List ℕ) (t : Table) (round base n : ℕ) (log s : 
   pub late : round ≤ base + 1
   pub size : base ≡ length (earlierLog table round)
   pub bytes : take (base * recordLength) log ≡ logBytes (earlierLog table round)
-  pub room : ChainRoom log base n chainsAt s
-  pub chained : Chained log base n chainsAt s
+  pub room : RingRoom log base n ringsAt s
+  pub ringed : Ringed log base n ringsAt s
+  pub fresh : Freshened log (lastBegins table round) base n ringsAt s
   pub active : (k : ℕ) → k < t .rules → activeIn s k ≡ isActive (earlierLog table round) round (ruleIn table k)
 
 -- ---- the rules of a head

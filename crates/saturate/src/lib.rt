@@ -2,6 +2,9 @@
 use crate::groups::Added;
 use crate::rounds::add_round;
 use initial::write_initial;
+use rings::append;
+use rings::clear;
+use search::RINGS;
 use table::Table;
 ghost use mathlib.Core.Path.{_≡_};
 ghost use mathlib.Core.Bool.{_&&_};
@@ -10,6 +13,7 @@ ghost use lib.Dec.{leb, ltb};
 ghost use lib.ListN.{length};
 ghost use Rattle.model.specs.Records.{recordLength};
 ghost use Rattle.table.specs.Reading.{Holds};
+ghost use Rattle.search.specs.Jobs.{ringsAt};
 ghost use Rattle.saturate.specs.Limits.{RoundBegins, RoundCounted, SaturatedDone, countOrOver};
 
 pub mod groups;
@@ -42,7 +46,7 @@ fn round_count(
     round: usize,
 ) -> usize
     requires { ⌜ RoundBegins (now table) t base n round (now log) (now scratch) ⌝ }
-    ensures { λ r. ⌜ RoundCounted (now (table .entry)) n round (now (log .entry)) (now (scratch .entry)) r (now (log .exit)) (now (scratch .exit)) ⌝ }
+    ensures { λ r. ⌜ RoundCounted (now (table .entry)) base n round (now (log .entry)) (now (scratch .entry)) r (now (log .exit)) (now (scratch .exit)) ⌝ }
 {
     count_or_over(add_round(table, t, log, scratch, base, n, round), n)
 }
@@ -56,7 +60,7 @@ fn goes_on(base: usize, count: usize, n: usize) -> bool
     base < count
 }
 
-// Adds rounds to round 0 until one adds nothing or the log is full.
+// Adds rounds to round 0 until one adds nothing or the log is full. The records of each go to the rings before the next.
 fn add_rounds(table: &[u8], t: Table, log: &mut [u8], scratch: &mut [u8], n: usize) -> Saturated
     requires { ⌜ RoundBegins (now table) t (t .transitions) n 1 (now log) (now scratch) ⌝ }
     ensures { λ r. ⌜ SaturatedDone (now (table .entry)) n (now (log .entry)) (now (scratch .entry)) r (now (log .exit)) (now (scratch .exit)) ⌝ }
@@ -65,6 +69,7 @@ fn add_rounds(table: &[u8], t: Table, log: &mut [u8], scratch: &mut [u8], n: usi
     let mut round = 0;
     let mut count = round_count(table, t, log, scratch, base, n, 1);
     while goes_on(base, count, n) {
+        append(log, scratch, RINGS, n, base, count);
         base = count;
         round += 1;
         count = round_count(table, t, log, scratch, base, n, round + 1);
@@ -80,11 +85,13 @@ fn add_rounds(table: &[u8], t: Table, log: &mut [u8], scratch: &mut [u8], n: usi
 
 // Fills the log with the records of the limit.
 pub fn saturate(table: &[u8], t: Table, log: &mut [u8], scratch: &mut [u8], n: usize) -> Saturated
-    requires { ⌜ Holds (now table) t × (n ≤ 65535) × (n * recordLength ≤ length (now log)) × (34000 + 4 * n ≤ length (now scratch)) ⌝ }
+    requires { ⌜ Holds (now table) t × (n ≤ 65535) × (n * recordLength ≤ length (now log)) × (ringsAt + 6 * n ≤ length (now scratch)) ⌝ }
     ensures { λ r. ⌜ SaturatedDone (now (table .entry)) n (now (log .entry)) (now (scratch .entry)) r (now (log .exit)) (now (scratch .exit)) ⌝ }
 {
     if !write_initial(table, t, log, n) {
         return Saturated::Full;
     }
+    clear(log, scratch, RINGS, n);
+    append(log, scratch, RINGS, n, 0, t.transitions);
     add_rounds(table, t, log, scratch, n)
 }

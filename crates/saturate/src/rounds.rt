@@ -2,11 +2,9 @@
 use crate::groups::Added;
 use crate::groups::Stage;
 use crate::groups::add_group;
-use chains::build;
 use heads::Head;
 use heads::activity::mark_active;
 use heads::next_head;
-use search::CHAINS;
 use table::Table;
 ghost use Rattle.saturate.specs.Limits.{AtHead, RoundBegins, RoundDone, rulesAfter};
 
@@ -23,7 +21,7 @@ fn add_heads(
     count: usize,
 ) -> Added
     requires { ⌜ AtHead (now table) t base n round last count (now log) (now scratch) ⌝ }
-    ensures { λ r. ⌜ RoundDone (now (table .entry)) n round (now (log .entry)) (now (scratch .entry)) r (now (log .exit)) (now (scratch .exit)) ⌝ }
+    ensures { λ r. ⌜ RoundDone (now (table .entry)) base n round (now (log .entry)) (now (scratch .entry)) r (now (log .exit)) (now (scratch .exit)) ⌝ }
 {
     match next_head(table, t, scratch, last) {
         Head::Outside => Added::Records(count),
@@ -58,9 +56,8 @@ pub fn add_round(
     round: usize,
 ) -> Added
     requires { ⌜ RoundBegins (now table) t base n round (now log) (now scratch) ⌝ }
-    ensures { λ r. ⌜ RoundDone (now (table .entry)) n round (now (log .entry)) (now (scratch .entry)) r (now (log .exit)) (now (scratch .exit)) ⌝ }
+    ensures { λ r. ⌜ RoundDone (now (table .entry)) base n round (now (log .entry)) (now (scratch .entry)) r (now (log .exit)) (now (scratch .exit)) ⌝ }
 {
-    build(log, scratch, CHAINS, n, base);
     mark_active(table, t, log, scratch, base, round);
     add_heads(table, t, log, scratch, base, n, round, Head::Outside, base)
 }

@@ -1,4 +1,4 @@
--- What a search leaves alone: the earlier records, the chains and the places of ends.
+-- What a search leaves alone: the earlier records, the rings and the places of ends.
 use mathlib.Core.Path.{_∙_, _≡_, ap, ap₂, refl, sym}
 use mathlib.Core.Bool.{Bool, cond, true}
 use mathlib.Core.Logic.{_≢_}
@@ -15,11 +15,11 @@ use Rattle.model.proofs.Tests.{by-test}
 use Rattle.search.specs.declared.Job.{Job}
 use Rattle.automaton.specs.StateNumbers.{stateCount}
 use Rattle.automaton.specs.StateSets.{firstFrom}
-use Rattle.chains.specs.Buckets.{Chained}
+use Rattle.rings.specs.Rings.{Ringed}
 use Rattle.numbers.specs.WordBytes.{wordAt}
-use Rattle.search.specs.Jobs.{FinishedRight, Searchable, chainsAt, finishedEnd, glances, marksOf, placeIn, placesAt, tailOf}
+use Rattle.search.specs.Jobs.{FinishedRight, Searchable, ringsAt, finishedEnd, glances, marksOf, placeIn, placesAt, tailOf}
 use Rattle.search.specs.Visits.{fromMark}
-use Rattle.chains.proofs.Buckets.{chained-log, chained-scratch}
+use Rattle.rings.proofs.Rings.{ringed-log, ringed-scratch}
 use Rattle.search.proofs.Searching.{after-same, before-same, glances-same, letter-same}
 
 pub first-cong : (f g : ℕ → Bool) (n k : ℕ) → ((i : ℕ) → n ≤ i → i < n + k → f i ≡ g i) → firstFrom f n k ≡ firstFrom g n k
@@ -35,9 +35,9 @@ module _ (log log′ s s′ : List ℕ) (base : ℕ) (earlier : take (base * rec
   pub place-same : placeIn s′ ≡ placeIn s
   place-same = λ i x. word-same (placesAt + 2 * x) (omega arith) i
 
-  pub chained-kept : (n : ℕ) → base ≤ n → Chained log base n chainsAt s → Chained log′ base n chainsAt s′
-  chained-kept n h c = chained-log log log′ base n chainsAt s′ (letter-same log log′ base earlier) (before-same log log′ base earlier)
-      (chained-scratch log base n chainsAt s s′ h (λ i a b. outside i (omega arith)) c)
+  pub ringed-kept : (n : ℕ) → base ≤ n → Ringed log base n ringsAt s → Ringed log′ base n ringsAt s′
+  ringed-kept n h c = ringed-log log log′ base n ringsAt s′ (letter-same log log′ base earlier) (before-same log log′ base earlier) h
+      (ringed-scratch log base n ringsAt s s′ h (λ i a b. outside i (omega arith)) c)
 
 -- the whole search may go on where a part of it left the buffers: visited ends stay so
 pub searchable-kept : (job : Job) (log s log′ s′ : List ℕ) → Searchable job log s
@@ -48,7 +48,7 @@ pub searchable-kept : (job : Job) (log s log′ s′ : List ℕ) → Searchable 
 searchable-kept job log s log′ s′ r kept earlier ll ls outside f = record {
   few = r .few;
   room = record { fits = r .room .fits; short = r .room .short; records = omega (arith, r .room .records); room = omega (arith, r .room .room) };
-  chained = chained-kept log log′ s s′ (job .base) earlier outside (job .n) (r .room .fits) (r .chained);
+  ringed = ringed-kept log log′ s s′ (job .base) earlier outside (job .n) (r .room .fits) (r .ringed);
   locs = r .locs;
   shapes = λ i j a b e g o. rw (after-same log log′ (job .base) earlier i a) (r .shapes i j a b (sym (letter-same log log′ (job .base) earlier i a) ∙ e) g o);
   places = λ y x h e.

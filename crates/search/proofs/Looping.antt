@@ -14,36 +14,40 @@ use Rattle.search.specs.declared.Job.{Job}
 use Rattle.search.specs.declared.Places.{Places}
 use Rattle.automaton.specs.StateNumbers.{stateCount, stateNumber}
 use Rattle.automaton.specs.StateSets.{firstFrom}
-use Rattle.chains.specs.Buckets.{ChainRoom, Chained, recordReads}
+use Rattle.packs.specs.Packs.{packed, Bytes}
+use Rattle.rings.specs.Rings.{FirstReading, RingRoom, Ringed, packedReads, recordReads}
+use Rattle.rings.proofs.Reading.{reads-packed}
 use Rattle.model.specs.Records.{afterAt, beforeAt, letterAt}
 use Rattle.records.specs.Entries.{HasRecord}
-use Rattle.search.specs.Jobs.{Searchable, Searched, Standing, bitsOf, chainsAt, finishedEnd, glances, letterOf, offers, placeIn, placeNumbers, visitIn, withFinished, withPlace}
+use Rattle.search.specs.Jobs.{Searchable, Searched, Standing, bitsOf, ringsAt, finishedEnd, glances, letterOf, offers, placeIn, placeNumbers, visitIn, withFinished, withPlace}
 use Rattle.search.specs.Visits.{Visit, fromMark}
 use Rattle.automaton.proofs.StateNumbers.{stateNumber-below}
+use Rattle.automaton.proofs.StateSets.{first-at}
 use Rattle.search.proofs.Finishing.{searched-after}
 use Rattle.search.proofs.Frames.{searchable-kept}
 use Rattle.search.proofs.Searching.{before-same, letter-same}
 use Rattle.search.proofs.Turns.{Going, going-end, going-reads, going-ready, going-stands, going-start, going-turn, led}
 use Rattle.search.proofs.Visits.{all-kept}
 
-pub record Looping (log₀ s₀ : List ℕ) (job : Job) (level : ℕ) (state : Group) (p : Places) (id letter bits : ℕ) (g : Group) (n base : ℕ) (log s : List ℕ) (r : ℕ) : Type 0 where
+pub record Looping (log₀ s₀ : List ℕ) (job : Job) (level : ℕ) (state : Group) (p : Places) (id letter bits x n base : ℕ) (log s : List ℕ) (r : ℕ) : Type 0 where
   pub ready : Searchable job log₀ s₀
   pub stands : Standing job level state p
   pub more : level < job .count
   pub is-id : id ≡ level * stateCount + stateNumber state
   pub is-letter : letter ≡ letterOf job level
   pub is-bits : bits ≡ bitsOf job level
-  pub is-before : g ≡ restrict (processesOf (bitsOf job level)) state
+  pub is-before : x ≡ packed (restrict (processesOf (bitsOf job level)) state)
+  pub bytes : Bytes (restrict (processesOf (bitsOf job level)) state)
   pub is-n : n ≡ job .n
   pub is-base : base ≡ job .base
   pub going : Going job level state p log₀ s₀ ready stands more log s r
 
-pub looping-start : (log₀ s₀ : List ℕ) (job : Job) (level : ℕ) (state : Group) (p : Places) (id letter bits : ℕ) (g : Group) (r : ℕ) → Searchable job log₀ s₀ → Standing job level state p → (level ≡ job .count → ⊥)
-    → id ≡ level * stateCount + stateNumber state → letter ≡ letterOf job level → bits ≡ bitsOf job level → g ≡ restrict (processesOf bits) state
-    → r ≡ firstFrom (recordReads log₀ letter g) 0 (job .base) → Looping log₀ s₀ job level state p id letter bits g (job .n) (job .base) log₀ s₀ r
-looping-start log₀ s₀ job level state p id letter bits g r ready stands ne i l b e q =
+pub looping-start : (log₀ s₀ : List ℕ) (job : Job) (level : ℕ) (state : Group) (p : Places) (id letter bits x : ℕ) (g : Group) (r : ℕ) → Searchable job log₀ s₀ → Standing job level state p → (level ≡ job .count → ⊥)
+    → id ≡ level * stateCount + stateNumber state → letter ≡ letterOf job level → bits ≡ bitsOf job level → g ≡ restrict (processesOf bits) state → x ≡ packed g → Bytes g
+    → FirstReading r log₀ letter x 0 (job .base) → Looping log₀ s₀ job level state p id letter bits x (job .n) (job .base) log₀ s₀ r
+looping-start log₀ s₀ job level state p id letter bits x g r ready stands ne i l b e is bytes q =
     let more : level < job .count = omega (arith, stands .within, ne) in
-    let before : g ≡ restrict (processesOf (bitsOf job level)) state = e ∙ ap (λ (x : ℕ). restrict (processesOf x) state) b in
+    let before : g ≡ restrict (processesOf (bitsOf job level)) state = e ∙ ap (λ (y : ℕ). restrict (processesOf y) state) b in
     record {
       ready = ready;
       stands = stands;
@@ -51,19 +55,26 @@ looping-start log₀ s₀ job level state p id letter bits g r ready stands ne i
       is-id = i;
       is-letter = l;
       is-bits = b;
-      is-before = before;
+      is-before = is ∙ ap packed before;
+      bytes = subst Bytes before bytes;
       is-n = refl;
       is-base = refl;
-      going = going-start job level state p log₀ s₀ ready stands more r (q ∙ ap₂ (λ (a : ℕ) (h : Group). firstFrom (recordReads log₀ a h) 0 (job .base)) l before);
+      going = going-start job level state p log₀ s₀ ready stands more r (q g bytes is ∙ ap₂ (λ (a : ℕ) (h : Group). firstFrom (recordReads log₀ a h) 0 (job .base)) l before);
     }
 
-module _ (log₀ s₀ : List ℕ) (job : Job) (level : ℕ) (state : Group) (p : Places) (id letter bits : ℕ) (g : Group) (n base : ℕ) (log s : List ℕ) (r : ℕ)
-    (o : Looping log₀ s₀ job level state p id letter bits g n base log s r) where
+module _ (log₀ s₀ : List ℕ) (job : Job) (level : ℕ) (state : Group) (p : Places) (id letter bits x n base : ℕ) (log s : List ℕ) (r : ℕ)
+    (o : Looping log₀ s₀ job level state p id letter bits x n base log s r) where
   pub looping-ready : Searchable job log s
   looping-ready = going-ready job level state p log₀ s₀ (o .ready) (o .stands) (o .more) log s r (o .going)
 
   pub looping-record : r < base → HasRecord log r
   looping-record h = omega (arith, o .is-base, looping-ready .room .records)
+
+  -- the next record comes later
+  pub looping-later : (log′ : List ℕ) (r′ : ℕ) → FirstReading r′ log′ letter x (r + 1) (base - (r + 1)) → r < r′
+  looping-later log′ r′ y =
+      let before = restrict (processesOf (bitsOf job level)) state in
+      omega (arith, first-at (recordReads log′ letter before) (r + 1) (base - (r + 1)) r′ (y before (o .bytes) (o .is-before)) .low)
 
   below-base : r < base → r < job .base
   below-base h = omega (arith, o .is-base)
@@ -90,21 +101,24 @@ module _ (log₀ s₀ : List ℕ) (job : Job) (level : ℕ) (state : Group) (p :
         (all-kept (job .fill) (job .round) (glances log (job .base)) (placeIn s) (offers job (glances log (job .base)) (suc level) (led job level state p log₀ s₀ (o .ready) (o .stands) (o .more) log r) (placeNumbers (withPlace p level r) (suc level))) (visitIn s log (job .base)) x v))
         (searched .earlier) (searched .log-length) (searched .scratch-length) (searched .outside) (searched .finished)
 
-    pub next-room : ChainRoom log′ base n chainsAt s′
+    pub next-room : RingRoom log′ base n ringsAt s′
     next-room = rw (o .is-base, o .is-n) (after-ready .room)
 
-    pub next-chained : Chained log′ base n chainsAt s′
-    next-chained = rw (o .is-base, o .is-n) (after-ready .chained)
+    pub next-ringed : Ringed log′ base n ringsAt s′
+    next-ringed = rw (o .is-base, o .is-n) (after-ready .ringed)
 
-    pub next-reads : recordReads log′ letter g r ≡ true
+    still-reads : recordReads log′ letter (restrict (processesOf (bitsOf job level)) state) r ≡ true
     unfolding recordReads
-    next-reads =
-        ap₂ (λ (a : ℕ) (b : Group). eqb a letter && sameGroup g b) (letter-same log log′ (job .base) (searched .earlier) r (below-base h)) (before-same log log′ (job .base) (searched .earlier) r (below-base h))
-        ∙ ap₂ (λ (a : ℕ) (b : Group). eqb (letterAt log r) a && sameGroup b (beforeAt log r)) (o .is-letter) (o .is-before)
+    still-reads =
+        ap₂ (λ (a : ℕ) (b : Group). eqb a letter && sameGroup (restrict (processesOf (bitsOf job level)) state) b) (letter-same log log′ (job .base) (searched .earlier) r (below-base h)) (before-same log log′ (job .base) (searched .earlier) r (below-base h))
+        ∙ ap (λ (a : ℕ). eqb (letterAt log r) a && sameGroup (restrict (processesOf (bitsOf job level)) state) (beforeAt log r)) (o .is-letter)
         ∙ going-reads job level state p log₀ s₀ (o .ready) (o .stands) (o .more) log s r (o .going) (below-base h)
 
-    pub looping-again : (r′ : ℕ) → r′ ≡ firstFrom (recordReads log′ letter g) (r + 1) (base - (r + 1)) → Looping log₀ s₀ job level state p id letter bits g n base log′ s′ r′
-    looping-again r′ y = record {
+    pub next-reads : packedReads log′ letter x r ≡ true
+    next-reads = reads-packed log′ letter (restrict (processesOf (bitsOf job level)) state) x r (o .is-before) still-reads
+
+    pub looping-again : (r′ : ℕ) → FirstReading r′ log′ letter x (r + 1) (base - (r + 1)) → Looping log₀ s₀ job level state p id letter bits x n base log′ s′ r′
+    looping-again r′ y = let before = restrict (processesOf (bitsOf job level)) state in record {
       ready = o .ready;
       stands = o .stands;
       more = o .more;
@@ -112,12 +126,12 @@ module _ (log₀ s₀ : List ℕ) (job : Job) (level : ℕ) (state : Group) (p :
       is-letter = o .is-letter;
       is-bits = o .is-bits;
       is-before = o .is-before;
+      bytes = o .bytes;
       is-n = o .is-n;
       is-base = o .is-base;
       going = going-turn job level state p log₀ s₀ (o .ready) (o .stands) (o .more) log s log′ s′ r r′ (o .going) (below-base h) searched
-          (y ∙ ap (λ (k : ℕ). firstFrom (recordReads log′ letter g) k (base - k)) (add-one r)
-          ∙ ap (λ (k : ℕ). firstFrom (recordReads log′ letter g) (suc r) (k - suc r)) (o .is-base)
-          ∙ ap₂ (λ (a : ℕ) (x : Group). firstFrom (recordReads log′ a x) (suc r) (job .base - suc r)) (o .is-letter) (o .is-before));
+          (y before (o .bytes) (o .is-before) ∙ ap (λ (k : ℕ). firstFrom (recordReads log′ letter before) k (base - k)) (add-one r)
+          ∙ ap₂ (λ (a k : ℕ). firstFrom (recordReads log′ a before) (suc r) (k - suc r)) (o .is-letter) (o .is-base));
     }
 
   pub looping-end : base ≤ r → (s′ : List ℕ) → s′ ≡ withFinished s id → Searched job level state p log₀ s₀ log s′

@@ -20,7 +20,7 @@ use Rattle.model.proofs.Lists.{each-map}
 use Rattle.model.proofs.Tests.{by-test}
 use Rattle.search.specs.declared.Job.{Job}
 use Rattle.automaton.specs.StateNumbers.{Over, stateCount, stateNumber}
-use Rattle.chains.specs.Buckets.{recordReads}
+use Rattle.rings.specs.Rings.{recordReads}
 use Rattle.search.specs.Jobs.{FinishedRight, glance, glances, glancesFrom, isFinished, jobLoc, jobWord, letterOf, made, marksOf, offers, writtenLetters}
 use Rattle.search.specs.Visits.{endNumber, fromMark}
 use Rattle.automaton.proofs.StateNumbers.{number-injective, stateNumber-below}
@@ -85,7 +85,7 @@ module _ (log log′ : List ℕ) (base : ℕ) (same : take (base * recordLength)
   pub glances-same : glances log′ base ≡ glances log base
   glances-same = glance-same 0 base (omega arith)
 
--- a record read at a glance is one that the chains find
+-- a record read at a glance is one that the rings find
 pub glance-reads : (loc : ℕ → Processes) (a : ℕ) (g : Group) (log : List ℕ) (i : ℕ) → readsAt loc a g (glance log i) ≡ recordReads log a (restrict (loc a) g) i
 unfolding readsAt recordReads
 glance-reads loc a g log i = refl

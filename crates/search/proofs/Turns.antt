@@ -21,7 +21,7 @@ use Rattle.model.proofs.Tests.{and-left}
 use Rattle.search.specs.declared.Job.{Job}
 use Rattle.search.specs.declared.Places.{Places}
 use Rattle.automaton.specs.StateSets.{firstFrom}
-use Rattle.chains.specs.Buckets.{recordReads}
+use Rattle.rings.specs.Rings.{recordReads}
 use Rattle.search.specs.Jobs.{FinishedRight, Searchable, Searched, Standing, bitsOf, finishedEnd, glances, jobLoc, jobWord, letterOf, marksOf, offers, placeIn, placeList, placeNumbers, visitIn, withPlace}
 use Rattle.search.specs.Visits.{Visit, fromMark, offerAll}
 use Rattle.automaton.proofs.StateSets.{first-at}
@@ -73,7 +73,7 @@ module _ (job : Job) (level : ℕ) (g : Group) (p : Places) (log₀ s₀ : List 
     pub below : r ≤ job .base
     pub reads : r < job .base → recordReads log₀ (letterOf job level) readBefore r ≡ true
 
-  -- what the chains find is what the paths go by
+  -- what the rings find is what the paths go by
   reads-same : (i : ℕ) → i < job .base → readsAt (jobLoc job) (letterOf job level) g (recordAt seen i) ≡ recordReads log₀ (letterOf job level) readBefore i
   reads-same i h =
       ap (readsAt (jobLoc job) (letterOf job level) g) (glances-at log₀ (job .base) i h)

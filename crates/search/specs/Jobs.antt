@@ -17,7 +17,7 @@ use Rattle.automaton.specs.StateSets.{member, inserted}
 use Rattle.records.specs.declared.Entry.{Entry}
 use Rattle.records.specs.Entries.{HasRecord, withEntry}
 use Rattle.numbers.specs.WordBytes.{wordAt}
-use Rattle.chains.specs.Buckets.{ChainRoom, Chained}
+use Rattle.rings.specs.Rings.{RingRoom, Ringed}
 use Rattle.search.specs.declared.Job.{Job}
 use Rattle.search.specs.declared.Places.{Places}
 use Rattle.search.specs.Visits.{Visit, endNumber, fromMark, offer, offerAll}
@@ -82,8 +82,8 @@ finishedEnd = 8192
 abbrev pub placesAt : ℕ
 placesAt = 8192
 
-abbrev pub chainsAt : ℕ
-chainsAt = 34000
+abbrev pub ringsAt : ℕ
+ringsAt = 34000
 
 abbrev pub marksOf : List ℕ → List ℕ
 marksOf s = take stateCount s
@@ -114,8 +114,8 @@ FinishedRight job log s = (level m : ℕ) → level ≤ job .count → m < state
 -- what does not change during a search
 pub record Searchable (job : Job) (log s : List ℕ) : Type 0 where
   pub few : job .count ≤ writtenPlaces
-  pub room : ChainRoom log (job .base) (job .n) chainsAt s
-  pub chained : Chained log (job .base) (job .n) chainsAt s
+  pub room : RingRoom log (job .base) (job .n) ringsAt s
+  pub ringed : Ringed log (job .base) (job .n) ringsAt s
   -- a written letter has the processes of its place, and its transitions lead from states of the table to such states
   pub locs : (j : ℕ) → j < job .count → processesOf (bitsOf job j) ≡ jobLoc job (letterOf job j)
   pub shapes : (i j : ℕ) → i < job .base → j < job .count → letterAt log i ≡ letterOf job j → (g : Group) → Over (processesOf (job .bits)) g

@@ -2,12 +2,13 @@
 use automaton::groups;
 use automaton::sets;
 use automaton::states;
-use chains::first_match;
-use chains::next_match;
 use model::Group;
 use numbers::wide;
 use numbers::word_at;
+use packs::pack;
 use records::Entry;
+use rings::first_match;
+use rings::next_match;
 ghost use mathlib.Core.Path.{_≡_};
 ghost use mathlib.Core.Bool.{true};
 ghost use Prim.Native.Nat.{_+_, _*_, _<_, _≤_, min};
@@ -20,14 +21,14 @@ ghost use Rattle.records.specs.Entries.{HasRecord};
 ghost use Rattle.search.specs.Jobs.{letterOf, bitsOf, withPlace, placeNumbers, Searchable, Standing, Searched, StepsKnown, PlacesKnown, stepsOf, placeSteps, marked, Writable, written, Arrived, finishedEnd, finishedPart, withFinished};
 ghost use Rattle.automaton.specs.StateSets.{member};
 
-// Where each part of the scratch begins: marks of ends, finished states of each depth, places of ends, chains.
+// Where each part of the scratch begins: marks of ends, finished states of each depth, places of ends, rings.
 pub const FINISHED: usize = 4096;
 
 pub const FINISHED_END: usize = 8192;
 
 pub const PLACES: usize = 8192;
 
-pub const CHAINS: usize = 34000;
+pub const RINGS: usize = 34000;
 
 const STEPS_CAP: u32 = 1000001;
 
@@ -243,15 +244,15 @@ pub fn explore(log: &mut [u8], scratch: &mut [u8], job: Job, level: usize, state
     }
     let letter = written_letter(job, level);
     let bits = written_bits(job, level);
-    let g = groups::restricted(bits, state);
+    let g = pack(groups::restricted(bits, state));
     let n = job.n;
     let base = job.base;
-    let mut r = first_match(log, scratch, CHAINS, n, base, letter, g);
+    let mut r = first_match(log, scratch, RINGS, n, base, letter, g);
     while r < base {
         let after = records::after_at(log, r);
         let next = groups::merged(bits, after, state);
         explore(log, scratch, job, level + 1, next, with_place(p, level, r));
-        r = next_match(log, scratch, CHAINS, n, base, r, letter, g);
+        r = next_match(log, scratch, RINGS, n, base, r, letter, g);
     }
     finish(scratch, id);
 }

@@ -86,7 +86,7 @@ filling-skip test k n m s t h fails f = record {
   ];
 }
 
--- the next set stays, and so do the chains
+-- the next set stays, and so do the rings
 pub filling-next : {test : ℕ → Bool} {k n : ℕ} {s t : List ℕ} → k < 64 → chainsPlace ≤ length s → Filling test k n s t → setAt t (k + 1) ≡ setAt s (k + 1)
 filling-next {k = k} l room f = set-same (k + 1) (omega arith) (inr (omega arith)) (f .same)
 

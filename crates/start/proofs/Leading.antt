@@ -12,7 +12,7 @@ use Rattle.automaton.specs.StateNumbers.{stateNumber, groupNumbered}
 use Rattle.automaton.specs.StateSets.{member, firstFrom}
 use Rattle.automaton.proofs.StateSets.{Fails, fails-join, fails-one, first-is, first-at}
 use Rattle.model.specs.Records.{afterAt}
-use Rattle.chains.specs.Buckets.{recordReads}
+use Rattle.rings.specs.Rings.{recordReads}
 use Rattle.start.specs.declared.Letter.{Letter}
 use Rattle.start.specs.RestSets.{leads, firstLead, continues}
 

@@ -26,8 +26,8 @@ use Rattle.automaton.specs.StateSets.{member, firstFrom}
 use Rattle.automaton.proofs.StateNumbers.{stateNumber-below, numbered-number, number-injective}
 use Rattle.automaton.proofs.StateSets.{first-of}
 use Rattle.model.specs.Records.{afterAt}
-use Rattle.chains.specs.Buckets.{recordReads}
-use Rattle.chains.proofs.Buckets.{reads-model}
+use Rattle.rings.specs.Rings.{recordReads}
+use Rattle.rings.proofs.Reading.{reads-model}
 use Rattle.table.specs.declared.Table.{Table}
 use Rattle.table.specs.Reading.{systemIn, pileIn}
 use Rattle.table.proofs.Layouts.{pile-count}

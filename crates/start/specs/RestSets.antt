@@ -13,7 +13,7 @@ use Rattle.model.specs.Systems.{accepts}
 use Rattle.automaton.specs.StateNumbers.{stateCount, stateNumber, groupNumbered, Over}
 use Rattle.automaton.specs.StateSets.{member, firstFrom}
 use Rattle.model.specs.Records.{afterAt}
-use Rattle.chains.specs.Buckets.{recordReads}
+use Rattle.rings.specs.Rings.{recordReads}
 use Rattle.table.specs.declared.Table.{Table}
 use Rattle.table.specs.Reading.{systemIn, pileIn, BitsOf}
 use Rattle.start.specs.declared.Letter.{Letter}

@@ -6,10 +6,11 @@ use automaton::groups::merged;
 use automaton::groups::restricted;
 use automaton::sets::contains;
 use automaton::states::number;
-use chains::first_match;
-use chains::next_match;
 use model::Group;
+use packs::pack;
 use records::after_at;
+use rings::first_match;
+use rings::next_match;
 use table::Table;
 use table::letter_bits;
 use table::pile_letter;
@@ -80,7 +81,7 @@ pub fn first_lead(
     requires { ⌜ Linked (now log) count n (now scratch) × (k ≤ 64) ⌝ }
     ensures { λ r. ⌜ r ≡ firstLead (now (log .entry)) count (setAt (now (scratch .entry)) k) a g ⌝ }
 {
-    let before = restricted(a.bits, g);
+    let before = pack(restricted(a.bits, g));
     let mut r = first_match(log, scratch, CHAINS, n, count, a.number, before);
     while r < count {
         if enters(log, scratch, k, a.bits, g, r) {

@@ -9,7 +9,6 @@ use crate::sets::fill_accepting;
 use crate::sets::fill_sets;
 use automaton::sets::contains;
 use automaton::states::number;
-use chains::build;
 use model::Group;
 use table::Table;
 use table::start_group;
@@ -17,7 +16,7 @@ ghost use mathlib.Core.Path.{_≡_};
 ghost use Prim.Native.Nat.{ℕ, _≤_};
 ghost use lib.ListN.{length};
 ghost use Rattle.table.specs.Reading.{Holds, systemIn};
-ghost use Rattle.stack.specs.LimitLog.{LimitLog, scratchFor};
+ghost use Rattle.stack.specs.LimitLog.{LimitLog};
 ghost use Rattle.start.specs.Regions.{chainsPlace, Linked};
 ghost use Rattle.start.specs.RestSets.{acceptsFrom, SetRight};
 ghost use Rattle.start.specs.Search.{Sought};
@@ -44,12 +43,11 @@ pub struct Trace {
     pub steps: u32,
 }
 
-// Chains the records, and fills the sets.
+// Fills the sets.
 fn prepare(table: &[u8], t: Table, log: &[u8], scratch: &mut [u8], n: usize, count: usize)
-    requires { ⌜ LimitLog (now table) t (now log) count × (count ≤ n) × (n ≤ 65535) × (scratchFor n ≤ length (now scratch)) ⌝ }
+    requires { ⌜ LimitLog (now table) t (now log) count × Linked (now log) count n (now scratch) ⌝ }
     ensures { λ _. ⌜ Linked (now (log .entry)) count n (now (scratch .exit)) × ((k : ℕ) → k ≤ t .pile → SetRight (now (table .entry)) t (now (scratch .exit)) k) ⌝ }
 {
-    build(log, scratch, CHAINS, n, count);
     fill_accepting(table, t, scratch);
     fill_sets(table, t, log, scratch, n, count);
 }
@@ -63,7 +61,8 @@ fn is_accepted(table: &[u8], t: Table, scratch: &[u8]) -> bool
     contains(&scratch[0..SET_LENGTH], number(g))
 }
 
-// Finds the start's path and leaves it on the stack. n is the number of records that the scratch has room for, count that of the log's records.
+// Finds the start's path and leaves it on the stack. n is the number of records that the scratch has room for, count that of the log's records, which
+// are in their rings.
 pub fn find(
     table: &[u8],
     t: Table,
@@ -72,7 +71,7 @@ pub fn find(
     n: usize,
     count: usize,
 ) -> StartPath
-    requires { ⌜ LimitLog (now table) t (now log) count × (count ≤ n) × (n ≤ 65535) × (scratchFor n ≤ length (now scratch)) ⌝ }
+    requires { ⌜ LimitLog (now table) t (now log) count × Linked (now log) count n (now scratch) ⌝ }
     ensures { λ r. ⌜ Sought (now (table .entry)) t r (now (scratch .exit)) ⌝ }
 {
     prepare(table, t, log, scratch, n, count);

@@ -1,13 +1,13 @@
+-- The search goes through the paths by rising record numbers, and finishes each state once.
 use Rattle.model.specs.declared.Group.{Group}
 use Rattle.model.specs.Groups.{merge, processesOf}
-use Rattle.automaton.proofs.StateSets.{first-at}
 use mathlib.Core.Path.{_≡_, refl, sym, ap, subst, _∙_}
 use native.Mathlib.Numerals.{add-one}
 use Rattle.automaton.specs.StateNumbers.{stateCount, stateNumber}
 use Rattle.automaton.specs.StateSets.{member}
 use Rattle.search.specs.Jobs.{Searchable, Standing, Searched, finishedPart, withFinished}
 use Rattle.search.proofs.Finishing.{searched-before, searched-leaf, finish-length}
-use Rattle.search.proofs.Looping.{Looping, looping-start, looping-ready, looping-record, looping-stands, looping-again, looping-end, looping-finish, next-room, next-chained, next-reads}
+use Rattle.search.proofs.Looping.{Looping, looping-start, looping-ready, looping-record, looping-stands, looping-again, looping-later, looping-end, looping-finish, next-room, next-ringed, next-reads}
 use native.Mathlib.Omega.{arith}
 use lib.ListN.{length, length-set}
 use borrow.Author.Needs.{needs}
@@ -20,8 +20,9 @@ use Rattle.search.proofs.+explore.Lts-explore as explore-lts
 use Rattle.automaton.proofs.groups.merged.Reads as merged-reads
 use Rattle.automaton.proofs.groups.restricted.Reads as restricted-reads
 use Rattle.automaton.proofs.states.number.Reads as number-reads
-use Rattle.chains.proofs.first_match.Reads as first-match-reads
-use Rattle.chains.proofs.next_match.Reads as next-match-reads
+use Rattle.rings.proofs.first_match.Reads as first-match-reads
+use Rattle.rings.proofs.next_match.Reads as next-match-reads
+use Rattle.packs.proofs.pack.Reads as pack-reads
 use Rattle.records.proofs.after_at.Reads as after-at-reads
 use Rattle.search.proofs.arrive.Reads as arrive-reads
 use Rattle.search.proofs.finish.Reads as finish-reads
@@ -42,10 +43,10 @@ abbrev explore-below : ℕ → In 2 explore-kinds.ps
 explore-below t = and 2 explore-kinds.ps (falls 2 explore-kinds.ps _<_ μ-explore t) explore.Pre
 
 abbrev explore-Inv-loop : explore-lts.InvT-loop
-explore-Inv-loop log₀ scratch₀ job level state p id count letter bits g n base r₀ log scratch r = Looping log₀ scratch₀ job level state p id letter bits g n base log scratch r
+explore-Inv-loop log₀ scratch₀ job level state p id count letter bits x n base r₀ log scratch r = Looping log₀ scratch₀ job level state p id letter bits x n base log scratch r
 
 abbrev explore-μ-loop : explore-lts.MeasureT-loop
-explore-μ-loop log₀ scratch₀ job level state p id count letter bits g n base r₀ log scratch r = base - r
+explore-μ-loop log₀ scratch₀ job level state p id count letter bits x n base r₀ log scratch r = base - r
 
 -- src/lib.rt:217:14
 explore-mul-id : (t : ℕ) → explore-lts.Need-mul-id (
@@ -63,6 +64,8 @@ explore-mul-id : (t : ℕ) → explore-lts.Need-mul-id (
   written-bits-reads.Learnt,
   restricted-reads.Asked,
   restricted-reads.Learnt,
+  pack-reads.Asked,
+  pack-reads.Learnt,
   first-match-reads.Asked,
   first-match-reads.Learnt,
   after-at-reads.Asked,
@@ -94,6 +97,8 @@ explore-number-requires : (t : ℕ) → explore-lts.Need-number-requires (
   written-bits-reads.Learnt,
   restricted-reads.Asked,
   restricted-reads.Learnt,
+  pack-reads.Asked,
+  pack-reads.Learnt,
   first-match-reads.Asked,
   first-match-reads.Learnt,
   after-at-reads.Asked,
@@ -125,6 +130,8 @@ explore-add-id : (t : ℕ) → explore-lts.Need-add-id (
   written-bits-reads.Learnt,
   restricted-reads.Asked,
   restricted-reads.Learnt,
+  pack-reads.Asked,
+  pack-reads.Learnt,
   first-match-reads.Asked,
   first-match-reads.Learnt,
   after-at-reads.Asked,
@@ -156,6 +163,8 @@ explore-is-finished-requires : (t : ℕ) → explore-lts.Need-is-finished-requir
   written-bits-reads.Learnt,
   restricted-reads.Asked,
   restricted-reads.Learnt,
+  pack-reads.Asked,
+  pack-reads.Learnt,
   first-match-reads.Asked,
   first-match-reads.Learnt,
   after-at-reads.Asked,
@@ -187,6 +196,8 @@ explore-same-length : (t : ℕ) → explore-lts.Need-same-length (
   written-bits-reads.Learnt,
   restricted-reads.Asked,
   restricted-reads.Learnt,
+  pack-reads.Asked,
+  pack-reads.Learnt,
   first-match-reads.Asked,
   first-match-reads.Learnt,
   after-at-reads.Asked,
@@ -218,6 +229,8 @@ explore-returns : (t : ℕ) → explore-lts.Need-returns (
   written-bits-reads.Learnt,
   restricted-reads.Asked,
   restricted-reads.Learnt,
+  pack-reads.Asked,
+  pack-reads.Learnt,
   first-match-reads.Asked,
   first-match-reads.Learnt,
   after-at-reads.Asked,
@@ -252,6 +265,8 @@ explore-arrive-requires : (t : ℕ) → explore-lts.Need-arrive-requires (
   written-bits-reads.Learnt,
   restricted-reads.Asked,
   restricted-reads.Learnt,
+  pack-reads.Asked,
+  pack-reads.Learnt,
   first-match-reads.Asked,
   first-match-reads.Learnt,
   after-at-reads.Asked,
@@ -283,6 +298,8 @@ explore-finish-requires : (t : ℕ) → explore-lts.Need-finish-requires (
   written-bits-reads.Learnt,
   restricted-reads.Asked,
   restricted-reads.Learnt,
+  pack-reads.Asked,
+  pack-reads.Learnt,
   first-match-reads.Asked,
   first-match-reads.Learnt,
   after-at-reads.Asked,
@@ -314,6 +331,8 @@ explore-same-length-2 : (t : ℕ) → explore-lts.Need-same-length-2 (
   written-bits-reads.Learnt,
   restricted-reads.Asked,
   restricted-reads.Learnt,
+  pack-reads.Asked,
+  pack-reads.Learnt,
   first-match-reads.Asked,
   first-match-reads.Learnt,
   after-at-reads.Asked,
@@ -345,6 +364,8 @@ explore-same-length-3 : (t : ℕ) → explore-lts.Need-same-length-3 (
   written-bits-reads.Learnt,
   restricted-reads.Asked,
   restricted-reads.Learnt,
+  pack-reads.Asked,
+  pack-reads.Learnt,
   first-match-reads.Asked,
   first-match-reads.Learnt,
   after-at-reads.Asked,
@@ -376,6 +397,8 @@ explore-returns-2 : (t : ℕ) → explore-lts.Need-returns-2 (
   written-bits-reads.Learnt,
   restricted-reads.Asked,
   restricted-reads.Learnt,
+  pack-reads.Asked,
+  pack-reads.Learnt,
   first-match-reads.Asked,
   first-match-reads.Learnt,
   after-at-reads.Asked,
@@ -410,6 +433,8 @@ explore-written-letter-requires : (t : ℕ) → explore-lts.Need-written-letter-
   written-bits-reads.Learnt,
   restricted-reads.Asked,
   restricted-reads.Learnt,
+  pack-reads.Asked,
+  pack-reads.Learnt,
   first-match-reads.Asked,
   first-match-reads.Learnt,
   after-at-reads.Asked,
@@ -441,6 +466,8 @@ explore-written-bits-requires : (t : ℕ) → explore-lts.Need-written-bits-requ
   written-bits-reads.Learnt,
   restricted-reads.Asked,
   restricted-reads.Learnt,
+  pack-reads.Asked,
+  pack-reads.Learnt,
   first-match-reads.Asked,
   first-match-reads.Learnt,
   after-at-reads.Asked,
@@ -472,6 +499,8 @@ explore-restricted-requires : (t : ℕ) → explore-lts.Need-restricted-requires
   written-bits-reads.Learnt,
   restricted-reads.Asked,
   restricted-reads.Learnt,
+  pack-reads.Asked,
+  pack-reads.Learnt,
   first-match-reads.Asked,
   first-match-reads.Learnt,
   after-at-reads.Asked,
@@ -486,6 +515,39 @@ explore-restricted-requires : (t : ℕ) → explore-lts.Need-restricted-requires
   next-match-reads.Learnt,
 ) (explore-at t) explore.Post explore-Inv-loop explore-μ-loop
 explore-restricted-requires t c κs = search needs
+
+-- src/lib.rt:229:9
+explore-pack-requires : (t : ℕ) → explore-lts.Need-pack-requires (
+  number-reads.Asked,
+  number-reads.Learnt,
+  is-finished-reads.Asked,
+  is-finished-reads.Learnt,
+  arrive-reads.Asked,
+  arrive-reads.Learnt,
+  finish-reads.Asked,
+  finish-reads.Learnt,
+  written-letter-reads.Asked,
+  written-letter-reads.Learnt,
+  written-bits-reads.Asked,
+  written-bits-reads.Learnt,
+  restricted-reads.Asked,
+  restricted-reads.Learnt,
+  pack-reads.Asked,
+  pack-reads.Learnt,
+  first-match-reads.Asked,
+  first-match-reads.Learnt,
+  after-at-reads.Asked,
+  after-at-reads.Learnt,
+  merged-reads.Asked,
+  merged-reads.Learnt,
+  with-place-reads.Asked,
+  with-place-reads.Learnt,
+  explore-below t,
+  explore.Post,
+  next-match-reads.Asked,
+  next-match-reads.Learnt,
+) (explore-at t) explore.Post explore-Inv-loop explore-μ-loop
+explore-pack-requires t c κs = search needs
 
 -- src/lib.rt:232:9
 explore-first-match-requires : (t : ℕ) → explore-lts.Need-first-match-requires (
@@ -503,6 +565,8 @@ explore-first-match-requires : (t : ℕ) → explore-lts.Need-first-match-requir
   written-bits-reads.Learnt,
   restricted-reads.Asked,
   restricted-reads.Learnt,
+  pack-reads.Asked,
+  pack-reads.Learnt,
   first-match-reads.Asked,
   first-match-reads.Learnt,
   after-at-reads.Asked,
@@ -516,7 +580,7 @@ explore-first-match-requires : (t : ℕ) → explore-lts.Need-first-match-requir
   next-match-reads.Asked,
   next-match-reads.Learnt,
 ) (explore-at t) explore.Post explore-Inv-loop explore-μ-loop
-explore-first-match-requires t c κs = (c .before .before .before .before .before .before .before .before .before .before .before .before .pre .1 .0 .room, c .before .before .before .before .before .before .before .before .before .before .before .before .pre .1 .0 .chained)
+explore-first-match-requires t c κs = (c .before .before .before .before .before .before .before .before .before .before .before .before .before .pre .1 .0 .room, c .before .before .before .before .before .before .before .before .before .before .before .before .before .pre .1 .0 .ringed)
 
 -- src/lib.rt:233:5
 explore-loop-holds : (t : ℕ) → explore-lts.Need-loop-holds (
@@ -534,6 +598,8 @@ explore-loop-holds : (t : ℕ) → explore-lts.Need-loop-holds (
   written-bits-reads.Learnt,
   restricted-reads.Asked,
   restricted-reads.Learnt,
+  pack-reads.Asked,
+  pack-reads.Learnt,
   first-match-reads.Asked,
   first-match-reads.Learnt,
   after-at-reads.Asked,
@@ -548,9 +614,9 @@ explore-loop-holds : (t : ℕ) → explore-lts.Need-loop-holds (
   next-match-reads.Learnt,
 ) (explore-at t) explore.Post explore-Inv-loop explore-μ-loop
 explore-loop-holds t c =
-    let a = c .before .before .before .before .before .before .before .before .before .before .before .before .before .args in
-    looping-start (a .log .now) (a .scratch .now) (a .job) (a .level) (a .state) (a .p) _ _ _ _ _ (c .before .before .before .before .before .before .before .before .before .before .before .before .before .pre .1 .0) (c .before .before .before .before .before .before .before .before .before .before .before .before .before .pre .1 .1) (c .before .before .before .before .before .before .if2 .left)
-    (ap (λ (x : ℕ). a .level * stateCount + x) (c .before .before .before .before .before .before .before .before .before .before .number .ensures .0)) (c .before .before .before .before .before .written-letter .ensures) (c .before .before .before .before .written-bits .ensures) (c .before .before .before .restricted .ensures) (c .first-match .ensures)
+    let a = c .before .before .before .before .before .before .before .before .before .before .before .before .before .before .args in
+    looping-start (a .log .now) (a .scratch .now) (a .job) (a .level) (a .state) (a .p) _ _ _ _ _ _ (c .before .before .before .before .before .before .before .before .before .before .before .before .before .before .pre .1 .0) (c .before .before .before .before .before .before .before .before .before .before .before .before .before .before .pre .1 .1) (c .before .before .before .before .before .before .before .if2 .left)
+    (ap (λ (x : ℕ). a .level * stateCount + x) (c .before .before .before .before .before .before .before .before .before .before .before .number .ensures .0)) (c .before .before .before .before .before .before .written-letter .ensures) (c .before .before .before .before .before .written-bits .ensures) (c .before .before .before .before .restricted .ensures) (c .before .before .before .pack .ensures .0) (c .before .before .before .pack .ensures .1) (c .first-match .ensures)
 
 -- src/lib.rt:234:13
 explore-after-at-requires : (t : ℕ) → explore-lts.Need-after-at-requires (
@@ -568,6 +634,8 @@ explore-after-at-requires : (t : ℕ) → explore-lts.Need-after-at-requires (
   written-bits-reads.Learnt,
   restricted-reads.Asked,
   restricted-reads.Learnt,
+  pack-reads.Asked,
+  pack-reads.Learnt,
   first-match-reads.Asked,
   first-match-reads.Learnt,
   after-at-reads.Asked,
@@ -599,6 +667,8 @@ explore-merged-requires : (t : ℕ) → explore-lts.Need-merged-requires (
   written-bits-reads.Learnt,
   restricted-reads.Asked,
   restricted-reads.Learnt,
+  pack-reads.Asked,
+  pack-reads.Learnt,
   first-match-reads.Asked,
   first-match-reads.Learnt,
   after-at-reads.Asked,
@@ -630,6 +700,8 @@ explore-add-explore : (t : ℕ) → explore-lts.Need-add-explore (
   written-bits-reads.Learnt,
   restricted-reads.Asked,
   restricted-reads.Learnt,
+  pack-reads.Asked,
+  pack-reads.Learnt,
   first-match-reads.Asked,
   first-match-reads.Learnt,
   after-at-reads.Asked,
@@ -661,6 +733,8 @@ explore-with-place-requires : (t : ℕ) → explore-lts.Need-with-place-requires
   written-bits-reads.Learnt,
   restricted-reads.Asked,
   restricted-reads.Learnt,
+  pack-reads.Asked,
+  pack-reads.Learnt,
   first-match-reads.Asked,
   first-match-reads.Learnt,
   after-at-reads.Asked,
@@ -695,6 +769,8 @@ explore-explore-requires : (t : ℕ) → explore-lts.Need-explore-requires (
   written-bits-reads.Learnt,
   restricted-reads.Asked,
   restricted-reads.Learnt,
+  pack-reads.Asked,
+  pack-reads.Learnt,
   first-match-reads.Asked,
   first-match-reads.Learnt,
   after-at-reads.Asked,
@@ -710,8 +786,8 @@ explore-explore-requires : (t : ℕ) → explore-lts.Need-explore-requires (
 ) (explore-at t) explore.Post explore-Inv-loop explore-μ-loop
 explore-explore-requires t c κs =
     let o = c .before .before .before .before .before .before .before .loop .inv in
-    let e = c .before .before .before .merged .ensures ∙ ap (λ (x : Group). merge (processesOf (c .before .before .before .before .before .before .before .before .before .before .before .before .written-bits .result)) x (c .before .before .before .before .before .before .before .before .before .before .before .before .before .before .before .before .before .before .before .before .before .args .state)) (c .before .before .before .before .after-at .ensures) in (
-      omega (arith, c .before .before .before .before .before .before .before .before .before .before .before .before .before .before .before .before .before .before .before .before .before .pre .0, o .more),
+    let e = c .before .before .before .merged .ensures ∙ ap (λ (x : Group). merge (processesOf (c .before .before .before .before .before .before .before .before .before .before .before .before .before .written-bits .result)) x (c .before .before .before .before .before .before .before .before .before .before .before .before .before .before .before .before .before .before .before .before .before .before .args .state)) (c .before .before .before .before .after-at .ensures) in (
+      omega (arith, c .before .before .before .before .before .before .before .before .before .before .before .before .before .before .before .before .before .before .before .before .before .before .pre .0, o .more),
       (looping-ready _ _ _ _ _ _ _ _ _ _ _ _ _ _ _ o, looping-stands _ _ _ _ _ _ _ _ _ _ _ _ _ _ _ o (c .before .before .before .before .before .before .loop-test .taken) _ _ e (c .with-place .ensures)),
     )
 
@@ -731,6 +807,8 @@ explore-next-match-requires : (t : ℕ) → explore-lts.Need-next-match-requires
   written-bits-reads.Learnt,
   restricted-reads.Asked,
   restricted-reads.Learnt,
+  pack-reads.Asked,
+  pack-reads.Learnt,
   first-match-reads.Asked,
   first-match-reads.Learnt,
   after-at-reads.Asked,
@@ -746,9 +824,9 @@ explore-next-match-requires : (t : ℕ) → explore-lts.Need-next-match-requires
 ) (explore-at t) explore.Post explore-Inv-loop explore-μ-loop
 explore-next-match-requires t c κs =
     let o = c .before .before .before .before .before .before .before .before .before .before .before .before .before .before .loop .inv in
-    let e = c .before .before .before .before .before .before .before .before .before .before .merged .ensures ∙ ap (λ (x : Group). merge (processesOf (c .before .before .before .before .before .before .before .before .before .before .before .before .before .before .before .before .before .before .before .written-bits .result)) x (c .before .before .before .before .before .before .before .before .before .before .before .before .before .before .before .before .before .before .before .before .before .before .before .before .before .before .before .before .args .state)) (c .before .before .before .before .before .before .before .before .before .before .before .after-at .ensures) in (
+    let e = c .before .before .before .before .before .before .before .before .before .before .merged .ensures ∙ ap (λ (x : Group). merge (processesOf (c .before .before .before .before .before .before .before .before .before .before .before .before .before .before .before .before .before .before .before .before .written-bits .result)) x (c .before .before .before .before .before .before .before .before .before .before .before .before .before .before .before .before .before .before .before .before .before .before .before .before .before .before .before .before .before .args .state)) (c .before .before .before .before .before .before .before .before .before .before .before .after-at .ensures) in (
       next-room _ _ _ _ _ _ _ _ _ _ _ _ _ _ _ o (c .before .before .before .before .before .before .before .before .before .before .before .before .before .loop-test .taken) _ _ e (c .before .before .before .before .before .before .before .with-place .ensures) _ _ (c .before .before .before .before .before .before .explore .ensures),
-      next-chained _ _ _ _ _ _ _ _ _ _ _ _ _ _ _ o (c .before .before .before .before .before .before .before .before .before .before .before .before .before .loop-test .taken) _ _ e (c .before .before .before .before .before .before .before .with-place .ensures) _ _ (c .before .before .before .before .before .before .explore .ensures),
+      next-ringed _ _ _ _ _ _ _ _ _ _ _ _ _ _ _ o (c .before .before .before .before .before .before .before .before .before .before .before .before .before .loop-test .taken) _ _ e (c .before .before .before .before .before .before .before .with-place .ensures) _ _ (c .before .before .before .before .before .before .explore .ensures),
       c .before .before .before .before .before .before .before .before .before .before .before .before .before .loop-test .taken,
       next-reads _ _ _ _ _ _ _ _ _ _ _ _ _ _ _ o (c .before .before .before .before .before .before .before .before .before .before .before .before .before .loop-test .taken) _ _ e (c .before .before .before .before .before .before .before .with-place .ensures) _ _ (c .before .before .before .before .before .before .explore .ensures),
     )
@@ -769,6 +847,8 @@ explore-loop-less : (t : ℕ) → explore-lts.Need-loop-less (
   written-bits-reads.Learnt,
   restricted-reads.Asked,
   restricted-reads.Learnt,
+  pack-reads.Asked,
+  pack-reads.Learnt,
   first-match-reads.Asked,
   first-match-reads.Learnt,
   after-at-reads.Asked,
@@ -782,7 +862,7 @@ explore-loop-less : (t : ℕ) → explore-lts.Need-loop-less (
   next-match-reads.Asked,
   next-match-reads.Learnt,
 ) (explore-at t) explore.Post explore-Inv-loop explore-μ-loop
-explore-loop-less t c = omega (arith, first-at _ _ _ _ (c .next-match .ensures) .low, c .before .before .before .before .before .before .before .before .before .before .before .before .before .before .loop-test .taken)
+explore-loop-less t c = omega (arith, looping-later _ _ _ _ _ _ _ _ _ _ _ _ _ _ _ (c .before .before .before .before .before .before .before .before .before .before .before .before .before .before .before .loop .inv) _ _ (c .next-match .ensures), c .before .before .before .before .before .before .before .before .before .before .before .before .before .before .loop-test .taken)
 
 -- src/lib.rt:233:5
 explore-loop-again : (t : ℕ) → explore-lts.Need-loop-again (
@@ -800,6 +880,8 @@ explore-loop-again : (t : ℕ) → explore-lts.Need-loop-again (
   written-bits-reads.Learnt,
   restricted-reads.Asked,
   restricted-reads.Learnt,
+  pack-reads.Asked,
+  pack-reads.Learnt,
   first-match-reads.Asked,
   first-match-reads.Learnt,
   after-at-reads.Asked,
@@ -815,7 +897,7 @@ explore-loop-again : (t : ℕ) → explore-lts.Need-loop-again (
 ) (explore-at t) explore.Post explore-Inv-loop explore-μ-loop
 explore-loop-again t c =
     let o = c .before .before .before .before .before .before .before .before .before .before .before .before .before .before .before .loop .inv in
-    let e = c .before .before .before .before .before .before .before .before .before .before .before .merged .ensures ∙ ap (λ (x : Group). merge (processesOf (c .before .before .before .before .before .before .before .before .before .before .before .before .before .before .before .before .before .before .before .before .written-bits .result)) x (c .before .before .before .before .before .before .before .before .before .before .before .before .before .before .before .before .before .before .before .before .before .before .before .before .before .before .before .before .before .args .state)) (c .before .before .before .before .before .before .before .before .before .before .before .before .after-at .ensures) in
+    let e = c .before .before .before .before .before .before .before .before .before .before .before .merged .ensures ∙ ap (λ (x : Group). merge (processesOf (c .before .before .before .before .before .before .before .before .before .before .before .before .before .before .before .before .before .before .before .before .before .written-bits .result)) x (c .before .before .before .before .before .before .before .before .before .before .before .before .before .before .before .before .before .before .before .before .before .before .before .before .before .before .before .before .before .before .args .state)) (c .before .before .before .before .before .before .before .before .before .before .before .before .after-at .ensures) in
     looping-again _ _ _ _ _ _ _ _ _ _ _ _ _ _ _ o (c .before .before .before .before .before .before .before .before .before .before .before .before .before .before .loop-test .taken) _ _ e (c .before .before .before .before .before .before .before .before .with-place .ensures) _ _ (c .before .before .before .before .before .before .before .explore .ensures) _ (c .next-match .ensures)
 
 -- src/lib.rt:239:5
@@ -834,6 +916,8 @@ explore-finish-requires-2 : (t : ℕ) → explore-lts.Need-finish-requires-2 (
   written-bits-reads.Learnt,
   restricted-reads.Asked,
   restricted-reads.Learnt,
+  pack-reads.Asked,
+  pack-reads.Learnt,
   first-match-reads.Asked,
   first-match-reads.Learnt,
   after-at-reads.Asked,
@@ -865,6 +949,8 @@ explore-same-length-4 : (t : ℕ) → explore-lts.Need-same-length-4 (
   written-bits-reads.Learnt,
   restricted-reads.Asked,
   restricted-reads.Learnt,
+  pack-reads.Asked,
+  pack-reads.Learnt,
   first-match-reads.Asked,
   first-match-reads.Learnt,
   after-at-reads.Asked,
@@ -896,6 +982,8 @@ explore-same-length-5 : (t : ℕ) → explore-lts.Need-same-length-5 (
   written-bits-reads.Learnt,
   restricted-reads.Asked,
   restricted-reads.Learnt,
+  pack-reads.Asked,
+  pack-reads.Learnt,
   first-match-reads.Asked,
   first-match-reads.Learnt,
   after-at-reads.Asked,
@@ -909,7 +997,7 @@ explore-same-length-5 : (t : ℕ) → explore-lts.Need-same-length-5 (
   next-match-reads.Asked,
   next-match-reads.Learnt,
 ) (explore-at t) explore.Post explore-Inv-loop explore-μ-loop
-explore-same-length-5 t c = finish-length _ _ (c .before .before .before .before .before .before .before .before .before .before .before .before .before .before .before .before .before .before .before .args .scratch .now) _ (c .before .before .finish2 .ensures) (c .before .before .before .before .before .loop .inv .going .scratch-length) (omega (arith, c .before .before .before .before .before .loop .inv .ready .room .room))
+explore-same-length-5 t c = finish-length _ _ (c .before .before .before .before .before .before .before .before .before .before .before .before .before .before .before .before .before .before .before .before .args .scratch .now) _ (c .before .before .finish2 .ensures) (c .before .before .before .before .before .loop .inv .going .scratch-length) (omega (arith, c .before .before .before .before .before .loop .inv .ready .room .room))
 
 -- src/lib.rt:213:1
 explore-returns-3 : (t : ℕ) → explore-lts.Need-returns-3 (
@@ -927,6 +1015,8 @@ explore-returns-3 : (t : ℕ) → explore-lts.Need-returns-3 (
   written-bits-reads.Learnt,
   restricted-reads.Asked,
   restricted-reads.Learnt,
+  pack-reads.Asked,
+  pack-reads.Learnt,
   first-match-reads.Asked,
   first-match-reads.Learnt,
   after-at-reads.Asked,
@@ -958,6 +1048,8 @@ pub +explore-spec : {M : Type 1} → statement M
   written-bits-reads.Learnt,
   restricted-reads.Asked,
   restricted-reads.Learnt,
+  pack-reads.Asked,
+  pack-reads.Learnt,
   first-match-reads.Asked,
   first-match-reads.Learnt,
   after-at-reads.Asked,
@@ -989,6 +1081,7 @@ pub +explore-spec : {M : Type 1} → statement M
     (explore-written-letter-requires t)
     (explore-written-bits-requires t)
     (explore-restricted-requires t)
+    (explore-pack-requires t)
     (explore-first-match-requires t)
     (explore-loop-holds t)
     (explore-after-at-requires t)

@@ -21,7 +21,7 @@ mark-held-requires c κs =
     let a = c .before .before .before .before .before .before .before .before .before .before .args in
     let p = c .before .before .before .before .before .before .before .before .before .before .pre in
     let r = round₁ (a .table .now) (a .t) (a .stage) (p .1) (a .log .now) (a .scratch .now) _ (p .0) (c .before .before .before .before .clear .ensures) in
-    (r .room, r .chained)
+    (r .room, r .ringed)
 
 -- src/groups.rt:157:5
 search-rules-requires : tie.Need-search-rules-requires
