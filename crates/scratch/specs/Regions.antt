@@ -30,8 +30,24 @@ countsAt = 1024
 abbrev pub countsEnd : ℕ
 countsEnd = 1152
 
+-- the rule numbers in the order of their heads
+abbrev pub orderAt : ℕ
+orderAt = 1168
+
+-- the set of the positions that a round looks at
+abbrev pub activeAt : ℕ
+activeAt = 1368
+
+-- for each letter the set of the positions whose rules write it
+abbrev pub writersAt : ℕ
+writersAt = 1400
+
+-- the states passed; before the first round the codes of the rules
 abbrev pub passedAt : ℕ
 passedAt = 2424
+
+abbrev pub codesAt : ℕ
+codesAt = 2424
 
 -- the bit of the state m at a depth, come by with a record of the last round or without one
 abbrev pub passedBit : ℕ → Bool → ℕ → ℕ
