@@ -1,3 +1,4 @@
 pub mod ProcessBits
 pub mod StateNumbers
 pub mod StateSets
+pub mod Clearing

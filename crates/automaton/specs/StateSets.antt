@@ -5,7 +5,7 @@ use mathlib.Core.List.{List}
 use Prim.Native.Nat.{ℕ, zero, suc, _+_, _-_, _/_, _%_, _^_, _<_, _≤_}
 use lib.Bits.{bitOr}
 use lib.Dec.{eqb}
-use lib.ListN.{getD, set}
+use lib.ListN.{getD, length, set}
 use Rattle.automaton.specs.StateNumbers.{stateCount}
 
 -- how many bytes a set of all state numbers takes
@@ -45,3 +45,10 @@ firstFrom test n (suc k) = cond (test n) n (firstFrom test (suc n) k)
 -- the least member at or after a number, or the number of state numbers
 unfoldable pub nextMember : List ℕ → ℕ → ℕ
 nextMember l from = firstFrom (member l) from (stateCount - from)
+
+-- bytes from lo on and below hi are zero, the others as they were
+pub record Cleared (lo hi : ℕ) (s s′ : List ℕ) : Type 0 where
+  pub size : length s′ ≡ length s
+  pub zero : (i : ℕ) → lo ≤ i → i < hi → getD s′ i 0 ≡ 0
+  pub before : (i : ℕ) → i < lo → getD s′ i 0 ≡ getD s i 0
+  pub behind : (i : ℕ) → hi ≤ i → getD s′ i 0 ≡ getD s i 0

@@ -4,7 +4,7 @@ ghost use Prim.Native.Nat.{_+_, _*_, _-_, _%_, _<_, _≤_};
 ghost use lib.ListN.{length};
 ghost use Rattle.model.specs.Calls.{zeros};
 ghost use Rattle.automaton.specs.StateNumbers.{stateCount};
-ghost use Rattle.automaton.specs.StateSets.{setLength, member, inserted, oneIfEqual, countEqual, firstFrom, nextMember, NoneFrom};
+ghost use Rattle.automaton.specs.StateSets.{setLength, member, inserted, oneIfEqual, countEqual, firstFrom, nextMember, NoneFrom, Cleared};
 
 // The bytes of a set that are looked at at a time.
 const BLOCK: usize = 64;
@@ -32,6 +32,18 @@ pub fn clear(buffer: &mut [u8])
 {
     let mut i = 0;
     while i < buffer.len() {
+        buffer[i] = 0;
+        i += 1;
+    }
+}
+
+// Clears the bytes from `from` on and below `to`.
+pub fn clear_part(buffer: &mut [u8], from: usize, to: usize)
+    requires { ⌜ (from ≤ to) × (to ≤ length (now buffer)) ⌝ }
+    ensures { λ _. ⌜ Cleared from to (now (buffer .entry)) (now (buffer .exit)) ⌝ }
+{
+    let mut i = from;
+    while i < to {
         buffer[i] = 0;
         i += 1;
     }

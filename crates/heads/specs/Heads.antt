@@ -1,45 +1,91 @@
--- Heads of rules, letter and before states, in the order of the log; the rules that a round has to look at.
+-- What the search of a head leaves, and what is added for it.
 use mathlib.Core.Path.{_≡_}
-use mathlib.Core.Bool.{Bool, true, cond, _&&_, _||_}
-use mathlib.Core.List.{List, [], _∷_}
-use Prim.Native.Nat.{ℕ, _+_, _-_, _<_}
-use lib.Dec.{eqb}
-use lib.ListN.{getD}
+use mathlib.Core.Bool.{Bool, true, false, _||_}
+use mathlib.Core.List.{List, _++_, map}
+use Prim.Native.Nat.{ℕ, _+_, _*_, _<_, _≤_, min}
+use lib.ListN.{length, getD, take}
 use Rattle.model.specs.declared.Group.{Group}
-use Rattle.model.specs.Lists.{anyOf}
-use Rattle.model.specs.Systems.{Rule}
-use Rattle.model.specs.Log.{Record, lexLess}
-use Rattle.model.proofs.RoundGroups.{headOf, ruleHead}
-use Rattle.model.proofs.Skipping.{freshIn}
-use Rattle.heads.specs.declared.Head.{Head}
-use Rattle.heads.specs.declared.Head.the-variants.{At, Outside}
+use Rattle.model.specs.Groups.{Processes}
+use Rattle.model.specs.Log.{Candidate, addedRecord}
+use Rattle.model.specs.Records.{logBytes, recordLength}
+use Rattle.model.proofs.RoundGroups.{filter}
+use Rattle.automaton.specs.StateNumbers.{Over, stateCount, stateNumber}
+use Rattle.automaton.specs.StateSets.{member}
+use Rattle.table.specs.declared.Table.{Table}
+use Rattle.table.specs.Reading.{ruleIn}
+use Rattle.scratch.specs.Regions.{activeAt, countsEnd, passedAt, passedBit, ringsAt, seenAt, setBytes}
+use Rattle.ranks.specs.Ranks.{RanksOnly, Sorted}
+use Rattle.rules.specs.Regions.{inSet, positionCeiling}
+use Rattle.rules.specs.Rules.{orderedRule}
+use Rattle.paths.specs.Arrivals.{hit, stored, taken}
+use Rattle.paths.specs.Jobs.{seenIn}
+use Rattle.heads.specs.declared.Reached.{Reached}
+use Rattle.heads.specs.declared.Round.{Round}
+use Rattle.heads.specs.Rounds.{earlierLog, headAdditions, headAt, headCandidates, isOffered}
 
--- A round looks at a rule if one of its written letters got a record in the round before; the first round looks at all.
-unfoldable pub isActive : List Record → ℕ → Rule → Bool
-isActive log round r = eqb round 1 || anyOf (freshIn log (round - 1)) (r .written)
+-- ---- sets cleared
+-- every group of the processes has its number from this byte of a set on
+abbrev pub FirstByte : Processes → ℕ → Type 0
+FirstByte L from = (from ≤ setBytes) × ((g : Group) → Over L g → 8 * from ≤ stateNumber g)
 
--- where in the scratch stands whether a rule is looked at
-abbrev pub activeAt : ℕ
-activeAt = 16384
+-- the sets of a depth are cleared from a byte on
+pub record DepthCleared (from depth : ℕ) (s s′ : List ℕ) : Type 0 where
+  pub size : length s′ ≡ length s
+  pub clear : (found : Bool) (m : ℕ) → 8 * from ≤ m → m < stateCount → member s′ (passedBit depth found m) ≡ false
+  pub others : (d : ℕ) (found : Bool) (m : ℕ) → (d ≡ depth → ⊥) → m < stateCount → member s′ (passedBit d found m) ≡ member s (passedBit d found m)
+  pub before : (i : ℕ) → i < passedAt + 2 * setBytes → getD s′ i 0 ≡ getD s i 0
+  pub behind : (i : ℕ) → passedAt + 12 * setBytes ≤ i → getD s′ i 0 ≡ getD s i 0
 
-abbrev pub activeIn : List ℕ → ℕ → Bool
-activeIn s k = eqb (getD s (activeAt + k) 0) 1
+-- no state from a number on is passed at the depths behind the first and below `depth`
+pub record PassedCleared (from depth : ℕ) (s s′ : List ℕ) : Type 0 where
+  pub size : length s′ ≡ length s
+  pub clear : (d : ℕ) (found : Bool) (m : ℕ) → 1 ≤ d → d < depth → 8 * from ≤ m → m < stateCount → member s′ (passedBit d found m) ≡ false
+  pub before : (i : ℕ) → i < passedAt + 2 * setBytes → getD s′ i 0 ≡ getD s i 0
+  pub behind : (i : ℕ) → passedAt + 12 * setBytes ≤ i → getD s′ i 0 ≡ getD s i 0
 
--- no head comes before all others
-abbrev pub digitsOf : Head → List ℕ
-digitsOf Outside = []
-digitsOf (At a g) = headOf a g
+-- ---- searches
+-- candidates have arrived one after the other: the first for each end that was not seen before is written, as long as the log has room
+pub record Arrived (table : List ℕ) (round : Round) (cs : List Candidate) (count : ℕ) (log s : List ℕ) (count′ : ℕ) (log′ s′ : List ℕ) : Type 0 where
+  pub counted : count′ ≡ min (count + length (taken (seenIn s) cs)) (round .n + 1)
+  pub written : log′ ≡ stored (round .n) log count (map (addedRecord (round .number) (earlierLog table (round .number))) (taken (seenIn s) cs))
+  pub seen : (x : ℕ) → x < stateCount → seenIn s′ x ≡ (seenIn s x || hit cs x)
+  pub scratch-length : length s′ ≡ length s
+  pub kept : (i : ℕ) → seenAt + setBytes ≤ i → i < passedAt + 2 * setBytes → getD s′ i 0 ≡ getD s i 0
+  pub outside : (i : ℕ) → passedAt + 12 * setBytes ≤ i → getD s′ i 0 ≡ getD s i 0
 
--- the head comes before the best so far, if there is one
-abbrev pub betterThan : Head → List ℕ → Bool
-betterThan Outside h = true
-betterThan (At a g) h = lexLess h (headOf a g)
+-- q is the position of the first active rule behind p that has another head than the rule at p, or there is none
+pub record NextHead (table : List ℕ) (t : Table) (s : List ℕ) (p q : ℕ) : Type 0 where
+  pub later : p < q
+  pub active : q < t .rules → inSet s activeAt q ≡ true
+  pub same : (r : ℕ) → p ≤ r → r < q → r < t .rules → inSet s activeAt r ≡ true → headAt table s r ≡ headAt table s p
+  pub other : q < t .rules → headAt table s q ≡ headAt table s p → ⊥
 
--- the better of the best so far and a rule's head, if the rule is looked at and its head comes after the last one
-unfoldable pub improvedBy : Bool → Head → Head → Rule → Head
-improvedBy active last best r = cond (active && lexLess (digitsOf last) (ruleHead r) && betterThan best (ruleHead r)) (At (r .letter) (r .before)) best
+-- the letter and the states before of the rule at p
+abbrev pub letterOf : List ℕ → List ℕ → ℕ → ℕ
+letterOf table s p = ruleIn table (orderedRule s p) .letter
 
--- the least head after the last one among rules, numbered from k on, that are looked at
-abbrev pub nextHead : (ℕ → Bool) → Head → List Rule → ℕ → Head → Head
-nextHead active last [] k best = best
-nextHead active last (r ∷ rs) k best = nextHead active last rs (k + 1) (improvedBy (active k) last best r)
+abbrev pub beforeOf : List ℕ → List ℕ → ℕ → Group
+beforeOf table s p = ruleIn table (orderedRule s p) .before
+
+-- all active rules with the head of the rule at p have been searched
+pub record HeadSearched (table : List ℕ) (t : Table) (round : Round) (p count : ℕ) (log s : List ℕ) (r : Reached) (log′ s′ : List ℕ) : Type 0 where
+  pub next : NextHead table t s p (r .position)
+  pub arrived : Arrived table round (filter (isOffered round) (headCandidates table round (letterOf table s p) (beforeOf table s p))) count log s (r .count) log′ s′
+
+-- the records from `from` on and below `to` are sorted, where the log can hold them
+pub record SortedNew (from to n : ℕ) (log s log′ s′ : List ℕ) : Type 0 where
+  pub within : to ≤ n → Sorted from to log log′
+  pub over : n < to → log′ ≡ log
+  pub ranks : RanksOnly s s′
+
+-- the records of the head have been added behind `count` records, or there is no room for them
+pub record HeadAdded (table : List ℕ) (t : Table) (round : Round) (p count : ℕ) (log s : List ℕ) (r : Reached) (log′ s′ : List ℕ) : Type 0 where
+  pub next : NextHead table t s p (r .position)
+  pub counted : r .count ≡ min (count + length (headAdditions table round (letterOf table s p) (beforeOf table s p))) (round .n + 1)
+  pub bytes : r .count ≤ round .n → take (r .count * recordLength) log′
+      ≡ take (count * recordLength) log ++ logBytes (map (addedRecord (round .number) (earlierLog table (round .number))) (headAdditions table round (letterOf table s p) (beforeOf table s p)))
+  pub front : take (round .base * recordLength) log′ ≡ take (round .base * recordLength) log
+  pub log-length : length log′ ≡ length log
+  pub scratch-length : length s′ ≡ length s
+  pub kept : (i : ℕ) → countsEnd ≤ i → i < passedAt + 2 * setBytes → getD s′ i 0 ≡ getD s i 0
+  pub rings : (i : ℕ) → ringsAt ≤ i → getD s′ i 0 ≡ getD s i 0

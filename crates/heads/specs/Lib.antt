@@ -1,2 +1,3 @@
+pub mod Rounds
+pub mod Jobs
 pub mod Heads
-pub mod Marking

@@ -1,66 +1,95 @@
 // Rounds: each adds what its rules add to the records of the rounds before it.
-use crate::groups::Added;
-use crate::groups::Stage;
-use crate::groups::add_group;
-use chains::build;
-use heads::Head;
-use heads::activity::mark_active;
-use heads::next_head;
-use search::CHAINS;
+use automaton::sets::clear_part;
+use heads::Reached;
+use heads::Round;
+use heads::add_head;
+use numbers::wide;
+use records::letter_at;
+use rings::append;
+use rules::activate;
+use rules::activate_all;
+use rules::mark_writers;
+use rules::next_active;
+use rules::order_rules;
+use scratch::PASSED;
+use scratch::RINGS;
 use table::Table;
-ghost use Rattle.saturate.specs.Limits.{AtHead, RoundBegins, RoundDone, rulesAfter};
 
-// Adds the records of the heads after `last` behind `count` records.
-fn add_heads(
-    table: &[u8],
-    t: Table,
-    log: &mut [u8],
-    scratch: &mut [u8],
-    base: usize,
-    n: usize,
-    round: usize,
-    last: Head,
-    count: usize,
-) -> Added
-    requires { ⌜ AtHead (now table) t base n round last count (now log) (now scratch) ⌝ }
-    ensures { λ r. ⌜ RoundDone (now (table .entry)) n round (now (log .entry)) (now (scratch .entry)) r (now (log .exit)) (now (scratch .exit)) ⌝ }
-{
-    match next_head(table, t, scratch, last) {
-        Head::Outside => Added::Records(count),
-        Head::At(letter, before) => {
-            let stage = Stage {
-                letter,
-                before,
-                round,
-                base,
-                n,
-                fill: false,
-            };
-            match add_group(table, t, log, scratch, stage, count) {
-                Added::Full => Added::Full,
-                Added::Records(more) => {
-                    let head = Head::At(letter, before);
-                    add_heads(table, t, log, scratch, base, n, round, head, more)
-                }
-            }
-        }
-    }
+// Makes the scratch ready for the rounds: the rules in order, no state passed, and no record in a ring.
+pub fn prepare(table: &[u8], t: Table, log: &[u8], scratch: &mut [u8], n: usize) {
+    order_rules(table, t, scratch);
+    mark_writers(table, t, scratch);
+    clear_part(scratch, PASSED, PASSED + 1024);
+    rings::clear(log, scratch, RINGS, n);
 }
 
-// Adds the records of a round behind those of the rounds before it. What it leaves in the scratch, and in the log behind them, is not decided.
+// The letters with that of record r.
+fn with_letter(log: &[u8], letters: u32, r: usize) -> u32 {
+    letters | (1 << (letter_at(log, r) % 32))
+}
+
+// The letters of the records from lo on and below base, one bit each.
+fn fresh_letters(log: &[u8], lo: usize, base: usize) -> u32 {
+    let mut letters = 0;
+    let mut r = lo;
+    while r < base {
+        letters = with_letter(log, letters, r);
+        r += 1;
+    }
+    letters
+}
+
+// Makes the positions active that the round looks at: in round 1 all, later those whose rules write a fresh letter.
+fn set_active(t: Table, scratch: &mut [u8], number: usize, fresh: u32) {
+    if number == 1 {
+        activate_all(scratch, t.rules);
+        return;
+    }
+    activate(scratch, t.letters, fresh);
+}
+
+// Whether there is a head left, and the log has room.
+fn goes_on(t: Table, at: Reached, n: usize) -> bool {
+    if n < at.count {
+        return false;
+    }
+    at.position < t.rules
+}
+
+// Adds the records of the active heads, one after the other.
+fn add_heads(table: &[u8], t: Table, log: &mut [u8], scratch: &mut [u8], round: Round) -> usize {
+    let mut at = Reached {
+        position: next_active(scratch, 0),
+        count: round.base,
+    };
+    while goes_on(t, at, round.n) {
+        at = add_head(table, t, log, scratch, round, at.position, at.count);
+    }
+    at.count
+}
+
+// Adds the records of a round behind those of the rounds before it. The rings have the records below lo, and get those of the last round, which are from
+// lo on. Gives the number of records then, more than n where the log has no room for them. What it leaves in the rest of the scratch, and in the log
+// behind the records, is not decided.
 pub fn add_round(
     table: &[u8],
     t: Table,
     log: &mut [u8],
     scratch: &mut [u8],
+    lo: usize,
     base: usize,
     n: usize,
-    round: usize,
-) -> Added
-    requires { ⌜ RoundBegins (now table) t base n round (now log) (now scratch) ⌝ }
-    ensures { λ r. ⌜ RoundDone (now (table .entry)) n round (now (log .entry)) (now (scratch .entry)) r (now (log .exit)) (now (scratch .exit)) ⌝ }
-{
-    build(log, scratch, CHAINS, n, base);
-    mark_active(table, t, log, scratch, base, round);
-    add_heads(table, t, log, scratch, base, n, round, Head::Outside, base)
+    number: usize,
+) -> usize {
+    append(log, scratch, RINGS, n, lo, base);
+    let fresh = fresh_letters(log, lo, base);
+    set_active(t, scratch, number, fresh);
+    let round = Round {
+        number,
+        lo,
+        base,
+        fresh,
+        n,
+    };
+    add_heads(table, t, log, scratch, round)
 }

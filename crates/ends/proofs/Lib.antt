@@ -1,3 +1,0 @@
-pub mod Chunks
-pub mod Ranks
-pub mod EndLoops

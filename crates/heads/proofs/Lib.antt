@@ -1,3 +1,0 @@
-pub mod HeadOrder
-pub mod NextHead
-pub mod Marking
