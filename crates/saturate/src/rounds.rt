@@ -3,7 +3,6 @@ use automaton::sets::clear_part;
 use heads::Reached;
 use heads::Round;
 use heads::add_head;
-use numbers::wide;
 use records::letter_at;
 use rings::append;
 use rules::activate;

@@ -1,0 +1,10 @@
+pub mod Taken
+pub mod StoredRecords
+pub mod CandidateOrder
+pub mod InOrder
+pub mod HeadOrder
+pub mod Matching
+pub mod RuleSearch
+pub mod InRounds
+pub mod HeadSearch
+pub mod HeadEnds
