@@ -8,3 +8,5 @@ pub mod RuleSearch
 pub mod InRounds
 pub mod HeadSearch
 pub mod HeadEnds
+pub mod Clearing
+pub mod Words
