@@ -2,15 +2,18 @@
 use mathlib.Core.Path.{_∙_, _≡_, ap, ap₂, sym}
 use mathlib.Core.Bool.{Bool, _&&_, false}
 use mathlib.Core.List.{List}
-use Prim.Native.Nat.{_*_, _+_, _/_, _<_, _≤_, ℕ}
+use Prim.Native.Nat.{_*_, _+_, _-_, _/_, _<_, _≤_, ℕ}
 use native.Mathlib.Omega.{arith}
 use lib.Dec.{ltb}
 use lib.ListN.{getD, length, take}
 use borrow.Author.Tests.{ltb-true}
-use Rattle.model.specs.Records.{recordLength}
+use Rattle.model.specs.Lists.{Each}
+use Rattle.model.specs.Records.{logBytes, recordLength}
 use Rattle.model.specs.Systems.{Rule}
 use Rattle.model.proofs.Tests.{by-test}
+use Rattle.logs.proofs.Logs.{log-fits}
 use Rattle.paths.proofs.Glances.{before-same, letter-same}
+use Rattle.records.specs.Entries.{Fits}
 use Rattle.rings.proofs.Rings.{freshened-log, freshened-scratch, ringed-log, ringed-scratch}
 use Rattle.rules.specs.Regions.{inSet, positionCeiling}
 use Rattle.rules.specs.Rules.{hasLetter, orderedRule, writersOf, writesLetter}
@@ -21,7 +24,7 @@ use Rattle.table.specs.declared.Table.{Table}
 use Rattle.table.specs.Reading.{Holds, ruleIn}
 use Rattle.table.proofs.Layouts.{table-modest}
 use Rattle.heads.specs.declared.Round.{Round}
-use Rattle.heads.specs.Rounds.{InRound, Prepared, isActive}
+use Rattle.heads.specs.Rounds.{InRound, Prepared, earlierLog, isActive}
 
 -- the bytes that a round keeps while it adds records
 abbrev pub Keeps : List ℕ → List ℕ → Type 0
@@ -75,3 +78,11 @@ module _ (table : List ℕ) (t : Table) (holds : Holds table t) (s s′ : List �
         prepared = prepared-kept (w .prepared);
         active = λ p l. active-kept p l ∙ w .active p l ∙ rule-kept (isActive round) p;
       }
+
+-- ---- the records that it starts from
+module _ (table : List ℕ) (t : Table) (round : Round) (log s : List ℕ) (here : InRound table t round log s) where
+  pub round-fits : Each Fits (earlierLog table (round .number))
+  round-fits = log-fits table t (here .holds) (round .number - 1) (omega (arith, here .late, here .room .fits, here .room .short)) (omega (arith, here .size, here .room .fits, here .room .short))
+
+  pub round-bytes : take (length (earlierLog table (round .number)) * recordLength) log ≡ logBytes (earlierLog table (round .number))
+  round-bytes = ap (λ (n : ℕ). take (n * recordLength) log) (sym (here .size)) ∙ here .bytes
