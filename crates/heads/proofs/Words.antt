@@ -53,11 +53,11 @@ module _ (table : List ℕ) (fresh k j : ℕ) (letters masks : List ℕ) (last a
         | no n ↦ w .stale i (omega (arith, n)) (omega arith)
       ])
 
-  pub word-more : WordTo table fresh k (j + 1) (set letters j a) (set masks j mask) last′
-  word-more = record {
-    letters-size = length-set letters j a ∙ w .letters-size;
-    masks-size = length-set masks j mask ∙ w .masks-size;
-    letter = one-more letters a letterAt (omega (arith, w .letters-size)) same (w .letter);
-    mask = one-more masks mask (λ i. maskOf (systemIn table .loc (letterAt i))) (omega (arith, w .masks-size)) masked (w .mask);
+  pub word-more : (letters′ masks′ : List ℕ) → letters′ ≡ set letters j a → masks′ ≡ set masks j mask → WordTo table fresh k (j + 1) letters′ masks′ last′
+  word-more letters′ masks′ e f = record {
+    letters-size = ap length e ∙ length-set letters j a ∙ w .letters-size;
+    masks-size = ap length f ∙ length-set masks j mask ∙ w .masks-size;
+    letter = λ i q. ap (λ (l : List ℕ). getD l i 0) e ∙ one-more letters a letterAt (omega (arith, w .letters-size)) same (w .letter) i q;
+    mask = λ i q. ap (λ (l : List ℕ). getD l i 0) f ∙ one-more masks mask (λ i. maskOf (systemIn table .loc (letterAt i))) (omega (arith, w .masks-size)) masked (w .mask) i q;
     stale = stale;
   }
