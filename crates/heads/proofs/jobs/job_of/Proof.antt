@@ -9,37 +9,13 @@ use Rattle.heads.specs.Jobs.{WordOf}
 use borrow.Author.Needs.{needs}
 use Rattle.heads.proofs.jobs.job_of.Statement.{statement}
 use Rattle.heads.proofs.jobs.job_of.Tie as tie
-use Rattle.heads.proofs.jobs.job_of.Reads as reads
-use Rattle.heads.proofs.jobs.job_of.Lts as lts
-use Rattle.heads.proofs.jobs.label.Reads as label-reads
-use Rattle.heads.proofs.jobs.word_of.Reads as word-of-reads
-use Rattle.packs.proofs.mask_of.Reads as mask-of-reads
-use Rattle.table.proofs.written_count.Reads as written-count-reads
 
--- src/jobs.rt:96:9
-written-count-requires : tie.Need-written-count-requires
-written-count-requires c κs = search needs
-
--- src/jobs.rt:97:9
-word-of-requires : tie.Need-word-of-requires
-word-of-requires c κs = search needs
-
--- src/jobs.rt:102:15
-mask-of-requires : tie.Need-mask-of-requires
-mask-of-requires c κs = search needs
-
--- src/jobs.rt:104:15
 cast-t11 : tie.Need-cast-t11
 cast-t11 c =
     let entry = c .before .before .before .before .before .before in
     let a = entry .args in
     omega (arith, entry .pre .1, table-modest (a .table .now) (a .t) (entry .pre .0) .rules)
 
--- src/jobs.rt:105:16
-label-requires : tie.Need-label-requires
-label-requires c κs = search needs
-
--- src/jobs.rt:92:1
 returns : tie.Need-returns
 returns c =
     let at-mask = c .before in
@@ -65,9 +41,9 @@ pub job-of-spec : {M : Type 1} → statement M
 job-of-spec =
     tie.close
     (tie.spec
-    written-count-requires
-    word-of-requires
-    mask-of-requires
+    (λ c κs. search needs)
+    (λ c κs. search needs)
+    (λ c κs. search needs)
     cast-t11
-    label-requires
+    (λ c κs. search needs)
     returns)

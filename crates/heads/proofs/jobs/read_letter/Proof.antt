@@ -1,53 +1,25 @@
 -- One letter more stands in the word (Words).
-use mathlib.Core.Path.{_≡_, ap, subst, _∙_}
+use mathlib.Core.Path.{_≡_, ap, _∙_}
 use mathlib.Core.Bool.{cond}
-use mathlib.Core.List.{List}
-use Prim.Native.Nat.{ℕ, _+_, _<_, _≤_}
+use Prim.Native.Nat.{ℕ}
 use native.Mathlib.Omega.{arith}
-use lib.ListN.{getD, length, set}
-use Rattle.model.specs.Groups.{Processes, processesOf}
+use lib.ListN.{getD}
+use Rattle.model.specs.Groups.{Processes}
 use Rattle.packs.specs.Packs.{maskOf}
 use Rattle.table.specs.Reading.{ruleIn, systemIn}
 use Rattle.table.proofs.Layouts.{table-modest, written-few, written-letter-in}
 use Rattle.rules.specs.Rules.{hasLetter}
-use Rattle.heads.specs.Jobs.{WordTo}
 use Rattle.heads.proofs.Words.{word-more}
 use borrow.Author.Needs.{needs}
 use Rattle.heads.proofs.jobs.read_letter.Statement.{statement}
 use Rattle.heads.proofs.jobs.read_letter.Tie as tie
-use Rattle.heads.proofs.jobs.read_letter.Reads as reads
-use Rattle.heads.proofs.jobs.read_letter.Lts as lts
-use Rattle.heads.proofs.jobs.last_fresh.Reads as last-fresh-reads
-use Rattle.heads.proofs.jobs.with_letter.Reads as with-letter-reads
-use Rattle.numbers.proofs.wide.Reads as wide-reads
-use Rattle.packs.proofs.mask_of.Reads as mask-of-reads
-use Rattle.table.proofs.letter_bits.Reads as letter-bits-reads
-use Rattle.table.proofs.written_letter.Reads as written-letter-reads
 
--- src/jobs.rt:67:9
-written-letter-requires : tie.Need-written-letter-requires
-written-letter-requires c κs = search needs
-
--- src/jobs.rt:68:53
-wide-requires : tie.Need-wide-requires
-wide-requires c κs = search needs
-
--- src/jobs.rt:68:24
 letter-bits-requires : tie.Need-letter-bits-requires
 letter-bits-requires c κs =
     let entry = c .before .before .before in
     let a = entry .args in
     (entry .pre .0, omega (arith, c .wide .ensures .0, c .before .written-letter .ensures, written-letter-in (a .table .now) (a .t) (entry .pre .0) (a .k) (a .j) (entry .pre .1) (entry .pre .2)))
 
--- src/jobs.rt:68:9
-mask-of-requires : tie.Need-mask-of-requires
-mask-of-requires c κs = search needs
-
--- src/jobs.rt:69:34
-wide-requires-2 : tie.Need-wide-requires-2
-wide-requires-2 c κs = search needs
-
--- src/jobs.rt:69:9
 last-fresh-requires : tie.Need-last-fresh-requires
 last-fresh-requires c κs =
     let at-letter = c .before .before .before .before in
@@ -61,14 +33,12 @@ last-fresh-requires c κs =
       table-modest (a .table .now) (a .t) (entry .pre .0) .letters,
     )
 
--- src/jobs.rt:70:5
 with-letter-requires : tie.Need-with-letter-requires
 with-letter-requires c κs =
     let entry = c .before .before .before .before .before .before .before in
     let a = entry .args in
     omega (arith, entry .pre .2, written-few (a .table .now) (a .t) (entry .pre .0) (a .k) (entry .pre .1))
 
--- src/jobs.rt:63:1
 returns : tie.Need-returns
 returns c =
     let at-last = c .before in
@@ -96,11 +66,11 @@ pub read-letter-spec : {M : Type 1} → statement M
 read-letter-spec =
     tie.close
     (tie.spec
-    written-letter-requires
-    wide-requires
+    (λ c κs. search needs)
+    (λ c κs. search needs)
     letter-bits-requires
-    mask-of-requires
-    wide-requires-2
+    (λ c κs. search needs)
+    (λ c κs. search needs)
     last-fresh-requires
     with-letter-requires
     returns)

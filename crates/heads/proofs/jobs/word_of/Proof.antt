@@ -4,12 +4,8 @@ use Prim.Native.Nat.{ℕ, _-_, _≤_}
 use native.Mathlib.Omega.{arith}
 use Rattle.heads.specs.Jobs.{WordOf}
 use Rattle.heads.proofs.Words.{word-none}
-use borrow.Author.Needs.{needs}
 use Rattle.heads.proofs.jobs.word_of.Statement.{statement}
 use Rattle.heads.proofs.jobs.word_of.Tie as tie
-use Rattle.heads.proofs.jobs.word_of.Reads as reads
-use Rattle.heads.proofs.jobs.word_of.Lts as lts
-use Rattle.heads.proofs.jobs.read_letter.Reads as read-letter-reads
 
 abbrev Inv-loop : tie.InvT-loop
 Inv-loop table t fresh k count word₀ j₀ word j = (j ≤ count) × WordOf table fresh k j word
@@ -17,32 +13,20 @@ Inv-loop table t fresh k count word₀ j₀ word j = (j ≤ count) × WordOf tab
 abbrev μ-loop : tie.MeasureT-loop
 μ-loop table t fresh k count word₀ j₀ word j = count - j
 
--- src/jobs.rt:84:5
 loop-holds : tie.Need-loop-holds Inv-loop μ-loop
 loop-holds c =
     let a = c .before .args in
     (omega arith, word-none (a .table .now) (a .fresh) (a .k))
 
--- src/jobs.rt:85:9
 read-letter-requires : tie.Need-read-letter-requires Inv-loop μ-loop
 read-letter-requires c κs =
     let at-loop = c .before in
     let entry = at-loop .before .before in
     (entry .pre .0, entry .pre .1, omega (arith, c .loop-test .taken, entry .pre .2), at-loop .loop .inv .1)
 
--- src/jobs.rt:86:9
-add-j : tie.Need-add-j Inv-loop μ-loop
-add-j c = omega arith
-
--- src/jobs.rt:84:5
-loop-less : tie.Need-loop-less Inv-loop μ-loop
-loop-less c = omega arith
-
--- src/jobs.rt:84:5
 loop-again : tie.Need-loop-again Inv-loop μ-loop
 loop-again c = (omega (arith, c .before .loop-test .taken), c .read-letter .ensures)
 
--- src/jobs.rt:74:1
 returns : tie.Need-returns Inv-loop μ-loop
 returns c =
     let at-loop = c .before in
@@ -53,4 +37,4 @@ returns c =
 pub word-of-spec : {M : Type 1} → statement M
 word-of-spec =
     tie.close
-    (tie.spec Inv-loop μ-loop loop-holds read-letter-requires add-j loop-less loop-again returns)
+    (tie.spec Inv-loop μ-loop loop-holds read-letter-requires (λ c. omega arith) (λ c. omega arith) loop-again returns)
