@@ -2,11 +2,11 @@
 use mathlib.Core.Path.{refl, ap, subst, _∙_}
 use Prim.Native.Nat.{ℕ}
 use native.Mathlib.Omega.{arith}
+use borrow.Author.Needs.{needs}
 use Rattle.model.specs.Groups.{Processes}
 use Rattle.packs.specs.Packs.{maskOf}
 use Rattle.table.proofs.Layouts.{table-modest}
 use Rattle.heads.specs.Jobs.{WordOf}
-use borrow.Author.Needs.{needs}
 use Rattle.heads.proofs.jobs.job_of.Statement.{statement}
 use Rattle.heads.proofs.jobs.job_of.Tie as tie
 
