@@ -10,31 +10,12 @@ ghost use Rattle.model.specs.Groups.{every, at, has, processesOf};
 ghost use Rattle.model.specs.Tables.{writtenPlaces, bodyLength, byteOf, groupOf, absent, present, locOf, ruleOf, transitionOf, groupFits, transitionFits, writtenFit, valueFits, cooperates, leavesControl};
 ghost use Rattle.table.specs.Places.{processesIn, lettersIn, boundIn, Heads, Whole};
 use crate::Table;
+use crate::fields::bits_of;
+use crate::fields::bound_of;
 use crate::fields::group_at;
-use crate::fields::letters_at;
 use model::Group;
 use model::WRITTEN_PLACES;
 use numbers::wide;
-
-// ---- processes and letters of the table
-// The bound of a process's states, of the control states (field 0) or of all (field 1); 256 where the table lacks the process.
-pub fn bound_of(bytes: &[u8], t: Table, field: usize, i: usize) -> usize
-    requires { ⌜ Heads (now bytes) t × (field < 2) ⌝ }
-    ensures { λ r. ⌜ r ≡ byteOf (getD (processesIn (now (bytes .entry)) t) i absent) field ⌝ }
-{
-    if i < t.processes {
-        return wide(bytes[3 * i + 1 + field]);
-    }
-    256
-}
-
-// The bits of the processes of letter a.
-pub fn bits_of(bytes: &[u8], t: Table, a: usize) -> u8
-    requires { ⌜ Heads (now bytes) t × (a < t .letters) ⌝ }
-    ensures { λ r. ⌜ r ≡ byteOf (getD (lettersIn (now (bytes .entry)) t) a (15 ∷ [])) 0 ⌝ }
-{
-    bytes[letters_at(t) + 2 * a + 1]
-}
 
 // 2 to the power of a number of processes.
 pub fn power_of(processes: usize) -> u8

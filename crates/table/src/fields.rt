@@ -1,13 +1,12 @@
 // The parts of an accepted table, read from the caller's bytes at computed places.
 ghost use mathlib.Core.Path.{_≡_};
+ghost use mathlib.Core.List.{[], _∷_};
 ghost use Prim.Native.Nat.{_+_, _≤_, _<_};
 ghost use lib.ListN.{length, getD};
-ghost use Rattle.model.specs.Tables.{groupOf};
-ghost use Rattle.table.specs.Places.{bodyAt, offset, bodyOf, counts, Modest};
+ghost use Rattle.model.specs.Tables.{absent, byteOf, groupOf};
+ghost use Rattle.table.specs.Places.{bodyAt, offset, bodyOf, counts, processesIn, lettersIn, Heads, Modest};
 ghost use Rattle.table.specs.Reading.{Holds, systemIn, ruleIn, transitionIn, acceptingIn, pileIn, statesIn, processAt, BitsOf};
 use crate::Table;
-use crate::checks::bits_of;
-use crate::checks::bound_of;
 use model::Group;
 use model::WRITTEN_PLACES;
 use numbers::wide;
@@ -82,6 +81,25 @@ pub fn pile_at(t: Table) -> usize
     ensures { λ r. ⌜ r ≡ offset (counts t 1) 7 ⌝ }
 {
     start_at(t) + 5
+}
+
+// The bound of a process's states, of the control states (field 0) or of all (field 1); 256 where the table lacks the process.
+pub fn bound_of(bytes: &[u8], t: Table, field: usize, i: usize) -> usize
+    requires { ⌜ Heads (now bytes) t × (field < 2) ⌝ }
+    ensures { λ r. ⌜ r ≡ byteOf (getD (processesIn (now (bytes .entry)) t) i absent) field ⌝ }
+{
+    if i < t.processes {
+        return wide(bytes[3 * i + 1 + field]);
+    }
+    256
+}
+
+// The bits of the processes of letter a.
+pub fn bits_of(bytes: &[u8], t: Table, a: usize) -> u8
+    requires { ⌜ Heads (now bytes) t × (a < t .letters) ⌝ }
+    ensures { λ r. ⌜ r ≡ byteOf (getD (lettersIn (now (bytes .entry)) t) a (15 ∷ [])) 0 ⌝ }
+{
+    bytes[letters_at(t) + 2 * a + 1]
 }
 
 // ---- processes and letters

@@ -5,8 +5,8 @@ use lib.ListN.{getD}
 use borrow.Author.Needs.{needs}
 use Rattle.model.specs.Tables.{absent, byteOf}
 use Rattle.table.proofs.Bodies.{bodies-byte, bodies-past, absent-bound}
-use Rattle.table.proofs.checks.bound_of.Statement.{statement}
-use Rattle.table.proofs.checks.bound_of.Tie as tie
+use Rattle.table.proofs.fields.bound_of.Statement.{statement}
+use Rattle.table.proofs.fields.bound_of.Tie as tie
 
 returns : tie.Need-returns
 returns c = c .wide .ensures .0 ∙ ap (λ (i : ℕ). getD (c .before .before .before .before .before .args .bytes .now) i 0) (let e : 3 * c .before .before .before .before .before .args .i + 1 + c .before .before .before .before .before .args .field ≡ 0 + c .before .before .before .before .before .args .i * 3 + 1 + c .before .before .before .before .before .args .field = omega arith in e) ∙ sym (bodies-byte (c .before .before .before .before .before .args .bytes .now) 2 0 (c .before .before .before .before .before .args .t .processes) (c .before .before .before .before .before .args .i) (c .before .before .before .before .before .args .field) absent (c .before .before .if1 .taken) (c .before .before .before .before .before .pre .1))

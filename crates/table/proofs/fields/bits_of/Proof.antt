@@ -6,8 +6,8 @@ use lib.ListN.{getD}
 use borrow.Author.Needs.{needs}
 use Rattle.table.proofs.Bodies.{bodies-byte}
 use Rattle.table.proofs.Places.{second-item}
-use Rattle.table.proofs.checks.bits_of.Statement.{statement}
-use Rattle.table.proofs.checks.bits_of.Tie as tie
+use Rattle.table.proofs.fields.bits_of.Statement.{statement}
+use Rattle.table.proofs.fields.bits_of.Tie as tie
 
 add-result : tie.Need-add-result
 add-result c = omega (arith, c .letters-at .ensures, second-item (c .before .before .args .t), c .before .before .pre .0 .inside, c .before .before .pre .1)
