@@ -1,0 +1,1 @@
+-- A round, one head after the other.

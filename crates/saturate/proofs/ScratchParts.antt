@@ -1,0 +1,110 @@
+-- The scratch of a round: made ready, its letters gathered, and kept by what a head changes.
+use mathlib.Core.Path.{_≡_, refl, ap, ap₂, subst, sym, _∙_}
+use mathlib.Core.Bool.{Bool, true, false, _&&_, _||_}
+use mathlib.Core.Logic.{inl, inr, ⊎-elim}
+use mathlib.Core.List.{List, _++_}
+use Prim.Native.Nat.{ℕ, suc, _+_, _-_, _*_, _/_, _%_, _^_, _<_, _≤_}
+use native.Mathlib.Decide.{ℕ-discrete, decLt}
+use native.Mathlib.Omega.{arith}
+use lib.Bits.{bitOr}
+use lib.Dec.{eqb, ltb}
+use lib.ListN.{drop, getD, length, take, take-append-drop}
+use borrow.Author.Tests.{eq-eqb, eqb-true, le-ltb, lt-ltb, ltb-true, ne-eqb}
+use Rattle.model.specs.Lists.{Each, anyOf}
+use Rattle.model.specs.Log.{Record, logAt, noRecord, recordAt}
+use Rattle.model.specs.Records.{letterAt, logBytes, recordLength}
+use Rattle.model.specs.Systems.{Rule}
+use Rattle.model.proofs.Lists.{each-get, getD-mem}
+use Rattle.model.proofs.RecordBytes.{from-letter, record-from}
+use Rattle.model.proofs.Tests.{by-test}
+use Rattle.automaton.specs.StateSets.{Cleared}
+use Rattle.automaton.specs.StateNumbers.{Over}
+use Rattle.table.specs.declared.Table.{Table}
+use Rattle.table.specs.Reading.{Holds, ruleIn, systemIn}
+use Rattle.table.proofs.Layouts.{table-modest}
+use Rattle.logs.proofs.Logs.{log-over}
+use Rattle.scratch.specs.Regions.{activeAt, countsEnd, orderAt, passedAt, ringsAt, writersAt}
+use Rattle.rings.specs.Rings.{Freshened, OutsideSame, RingRoom, Ringed}
+use Rattle.rings.proofs.Rings.{freshened-log, freshened-scratch, ringed-log, ringed-scratch}
+use Rattle.paths.proofs.Glances.{before-same, letter-same}
+use Rattle.rules.specs.Regions.{KeptOutside, Outside, inSet, positionCeiling, setBytes}
+use Rattle.rules.specs.Rules.{AllActive, Gathered, Ordered, RulesOrdered, Writers, WritersMarked, codesLength, hasLetter, letterCeiling, orderedRule, ruleCeiling, writersOf, writesLetter}
+use Rattle.rules.proofs.ActivePositions.{gathered-active}
+use Rattle.rules.proofs.RegionLaws.{bit-or, in-same}
+use Rattle.rules.proofs.RuleOrder.{ordered-same}
+use Rattle.heads.specs.declared.Round.{Round}
+use Rattle.heads.specs.Rounds.{InRound, Prepared, earlierLog, headAt, isActive}
+use Rattle.saturate.specs.Rounds.{Activated, FreshLetters, LetterIn, Logged, RoundBegins, ScratchReady}
+
+-- the bytes from one offset on and below another are the same
+abbrev pub SameIn : ℕ → ℕ → List ℕ → List ℕ → Type 0
+SameIn from to s s′ = (i : ℕ) → from ≤ i → i < to → getD s′ i 0 ≡ getD s i 0
+
+-- where the set of passed states at the first depth ends
+abbrev pub preparedEnd : ℕ
+preparedEnd = 3448
+
+-- ---- the rules in order
+module _ (table : List ℕ) (t : Table) (holds : Holds table t) (s s′ : List ℕ) where
+  order-kept : SameIn orderAt activeAt s s′ → (p : ℕ) → p < t .rules → orderedRule s′ p ≡ orderedRule s p
+  order-kept same p l = same (orderAt + p) (omega arith) (omega (arith, table-modest table t holds .rules))
+
+  writers-kept : SameIn orderAt activeAt s s′ → SameIn writersAt passedAt s s′ → Writers table (t .letters) (t .rules) s → Writers table (t .letters) (t .rules) s′
+  writers-kept order sets w = record {
+    positions = λ a p la lp. in-same s s′ (writersOf a) p (sets (writersOf a + p / 8) (omega arith) (omega (arith, table-modest table t holds .letters)))
+        ∙ w .positions a p la lp ∙ by-test (ltb p (t .rules))
+        (λ y. rw y (ap (λ (k : ℕ). writesLetter a (ruleIn table k)) (sym (order-kept order p (ltb-true p (t .rules) y)))))
+        (λ f. rw f);
+  }
+
+  pub prepared-kept : SameIn orderAt activeAt s s′ → SameIn writersAt preparedEnd s s′ → Prepared table t s → Prepared table t s′
+  prepared-kept order rest p = record {
+    ordered = ordered-same table (t .rules) s s′ (order-kept order) (p .ordered);
+    writers = writers-kept order (λ i a b. rest i a (omega arith)) (p .writers);
+    first-depth = λ i a b. rest i (omega arith) (omega arith) ∙ p .first-depth i a b;
+  }
+
+-- ---- the scratch made ready
+pub scratch-ready : (table : List ℕ) (t : Table) → Holds table t → (n : ℕ) (log s s₁ s₂ s₃ s₄ : List ℕ) → RulesOrdered table (t .rules) s s₁ → WritersMarked table (t .letters) (t .rules) s₁ s₂
+    → Cleared passedAt (passedAt + 1024) s₂ s₃ → OutsideSame n ringsAt s₃ s₄ → Ringed log 0 n ringsAt s₄ → ScratchReady table t n log s s₄
+scratch-ready table t holds n log s s₁ s₂ s₃ s₄ o w c k r = record {
+  size = k .size ∙ c .size ∙ w .kept .size ∙ o .size;
+  prepared = record {
+    ordered = ordered-same table (t .rules) s₁ s₄ (λ p l. early p (omega (arith, few)) ∙ w .kept .outside (orderAt + p) (inl (omega (arith, few)))) (o .ordered);
+    writers = writers-kept table t holds s₂ s₄ (λ i a b. same i (omega arith)) (λ i a b. same i b) (w .writers);
+    first-depth = λ i a b. k .before i (omega arith) ∙ c .zero i a (omega arith);
+  };
+  ringed = r;
+}
+  where
+    few : t .rules ≤ 200
+    few = table-modest table t holds .rules
+
+    same : (i : ℕ) → i < passedAt → getD s₄ i 0 ≡ getD s₂ i 0
+    same i l = k .before i (omega arith) ∙ c .before i l
+
+    early : (p : ℕ) → p < ruleCeiling → orderedRule s₄ p ≡ orderedRule s₂ p
+    early p l = same (orderAt + p) (omega arith)
+
+-- ---- letters
+power-bit : (k : ℕ) → hasLetter (2 ^ k) k ≡ true
+power-bit k = ?
+
+pub letter-in : (letters a x : ℕ) → x ≡ bitOr letters (2 ^ (a % letterCeiling)) → LetterIn letters a x
+letter-in letters a x e = record {
+  has = ap (λ (y : ℕ). hasLetter y (a % letterCeiling)) e ∙ bit-or letters (2 ^ (a % letterCeiling)) (a % letterCeiling)
+      ∙ by-test (hasLetter letters (a % letterCeiling)) (λ y. rw y) (λ f. rw f (power-bit (a % letterCeiling)));
+  kept = λ b h. ap (λ (y : ℕ). hasLetter y b) e ∙ bit-or letters (2 ^ (a % letterCeiling)) b ∙ rw h;
+}
+
+pub letters-none : (log : List ℕ) (lo x : ℕ) → FreshLetters log lo lo x
+letters-none log lo x i a b = absurd (omega arith)
+
+pub letters-more : (log : List ℕ) (lo r x y : ℕ) → FreshLetters log lo r x → LetterIn x (letterAt log r) y → FreshLetters log lo (r + 1) y
+letters-more log lo r x y f d i a b = elim (decLt i r) [
+  | yes l ↦ d .kept (letterAt log i % letterCeiling) (f i a l)
+  | no l ↦ let e : i ≡ r = omega arith in subst (λ (j : ℕ). hasLetter y (letterAt log j % letterCeiling) ≡ true) (sym e) (d .has)
+]
+
+pub letters-all : (log : List ℕ) (lo r base x : ℕ) → base ≤ r → FreshLetters log lo r x → FreshLetters log lo base x
+letters-all log lo r base x l f i a b = f i a (omega arith)
