@@ -5,7 +5,9 @@ use mathlib.Core.Logic.{inl, inr, ⊎-elim}
 use mathlib.Core.List.{List, _++_}
 use Prim.Native.Nat.{ℕ, suc, _+_, _-_, _*_, _/_, _%_, _^_, _<_, _≤_}
 use native.Mathlib.Decide.{ℕ-discrete, decLt}
+use native.Mathlib.Nat.{div-self}
 use native.Mathlib.Omega.{arith}
+use lib.Pow.{pow-pos}
 use lib.Bits.{bitOr}
 use lib.Dec.{eqb, ltb}
 use lib.ListN.{drop, getD, length, take, take-append-drop}
@@ -26,6 +28,7 @@ use Rattle.logs.proofs.Logs.{log-over}
 use Rattle.scratch.specs.Regions.{activeAt, countsEnd, orderAt, passedAt, ringsAt, writersAt}
 use Rattle.rings.specs.Rings.{Freshened, OutsideSame, RingRoom, Ringed}
 use Rattle.rings.proofs.Rings.{freshened-log, freshened-scratch, ringed-log, ringed-scratch}
+use Rattle.packs.specs.Packs.{packedBefore}
 use Rattle.paths.proofs.Glances.{before-same, letter-same}
 use Rattle.rules.specs.Regions.{KeptOutside, Outside, inSet, positionCeiling, setBytes}
 use Rattle.rules.specs.Rules.{AllActive, Gathered, Ordered, RulesOrdered, Writers, WritersMarked, codesLength, hasLetter, letterCeiling, orderedRule, ruleCeiling, writersOf, writesLetter}
@@ -88,7 +91,7 @@ scratch-ready table t holds n log s s₁ s₂ s₃ s₄ o w c k r = record {
 
 -- ---- letters
 power-bit : (k : ℕ) → hasLetter (2 ^ k) k ≡ true
-power-bit k = ?
+power-bit k = rw (div-self (pow-pos k))
 
 pub letter-in : (letters a x : ℕ) → x ≡ bitOr letters (2 ^ (a % letterCeiling)) → LetterIn letters a x
 letter-in letters a x e = record {
@@ -108,3 +111,96 @@ letters-more log lo r x y f d i a b = elim (decLt i r) [
 
 pub letters-all : (log : List ℕ) (lo r base x : ℕ) → base ≤ r → FreshLetters log lo r x → FreshLetters log lo base x
 letters-all log lo r base x l f i a b = f i a (omega arith)
+
+-- ---- records and their letters
+module _ (table : List ℕ) (t : Table) (holds : Holds table t) (base number : ℕ) (log : List ℕ) (logged : Logged (earlierLog table number) base log) where
+  split : log ≡ logBytes (earlierLog table number) ++ drop (base * recordLength) log
+  split = sym (take-append-drop (base * recordLength) log) ∙ ap (λ (l : List ℕ). l ++ drop (base * recordLength) log) (logged .bytes)
+
+  pub letter-is : (i : ℕ) → i < base → letterAt log i ≡ recordAt (earlierLog table number) i .key .letter
+  letter-is i l = from-letter log i (recordAt (earlierLog table number) i) _ (record-from (earlierLog table number) (drop (base * recordLength) log) log i split (omega (arith, logged .size)))
+
+  letter-small : (i : ℕ) → i < base → letterAt log i < letterCeiling
+  letter-small i l =
+      let R = earlierLog table number in
+      let k = each-get (λ (x : Record). (x .key .letter < t .letters) × Over (systemIn table .loc (x .key .letter)) (x .key .before) × Over (systemIn table .loc (x .key .letter)) (x .key .after))
+      (recordAt R i) R (log-over table t holds (number - 1)) (getD-mem R i noRecord (omega (arith, logged .size))) in
+      omega (arith, letter-is i l, k .0, table-modest table t holds .letters)
+
+  -- each letter of the table has its own bit
+  pub letters-fresh : (lo fresh : ℕ) → FreshLetters log lo base fresh → (i : ℕ) → lo ≤ i → i < base → hasLetter fresh (letterAt log i) ≡ true
+  letters-fresh lo fresh f i a b =
+      let e : letterAt log i % letterCeiling ≡ letterAt log i = omega (arith, letter-small i b) in
+      subst (λ (x : ℕ). hasLetter fresh x ≡ true) e (f i a b)
+
+-- ---- the round stands
+-- a head leaves the records of the earlier rounds, the rules, the active positions and the rings
+pub in-round-kept : (table : List ℕ) (t : Table) (round : Round) (log s log′ s′ : List ℕ) → InRound table t round log s
+    → take (round .base * recordLength) log′ ≡ take (round .base * recordLength) log → length log′ ≡ length log → length s′ ≡ length s
+    → SameIn countsEnd preparedEnd s s′ → ((i : ℕ) → ringsAt ≤ i → getD s′ i 0 ≡ getD s i 0) → InRound table t round log′ s′
+in-round-kept table t round log s log′ s′ r front l m kept rings = record {
+  holds = r .holds;
+  begun = r .begun;
+  late = r .late;
+  size = r .size;
+  bytes = front ∙ r .bytes;
+  records = omega (arith, r .records);
+  low = r .low;
+  last = r .last;
+  fresh = λ i a b. ap (hasLetter (round .fresh)) (letters i b) ∙ r .fresh i a b;
+  room = record { fits = r .room .fits; short = r .room .short; records = omega (arith, r .room .records); room = omega (arith, r .room .room) };
+  ringed = ringed-log log log′ (round .base) (round .n) ringsAt s′ letters states (r .room .fits)
+      (ringed-scratch log (round .base) (round .n) ringsAt s s′ (r .room .fits) (λ i a b. rings i a) (r .ringed));
+  freshened = freshened-log log log′ (round .base) (round .n) ringsAt s′ letters states (round .lo) (r .low)
+      (freshened-scratch log (round .lo) (round .base) (round .n) ringsAt s s′ (λ i a b. rings i a) (r .freshened));
+  prepared = prepared-kept table t (r .holds) s s′ order (λ i a b. kept i (omega arith) b) (r .prepared);
+  active = λ p b. in-same s s′ activeAt p (kept (activeAt + p / 8) (omega arith) (omega arith)) ∙ r .active p b ∙ by-test (ltb p (t .rules))
+      (λ y. rw y (ap (λ (k : ℕ). isActive round (ruleIn table k)) (sym (order-kept table t (r .holds) s s′ order p (ltb-true p (t .rules) y)))))
+      (λ f. rw f);
+}
+  where
+    letters : (i : ℕ) → i < round .base → letterAt log′ i ≡ letterAt log i
+    letters = letter-same log log′ (round .base) front
+
+    states : (i : ℕ) → i < round .base → packedBefore log′ i ≡ packedBefore log i
+    states = before-same log log′ (round .base) front
+
+    order : SameIn orderAt activeAt s s′
+    order i a b = kept i (omega arith) (omega arith)
+
+module _ (table : List ℕ) (t : Table) (lo base n number : ℕ) (log s : List ℕ) (b : RoundBegins table t lo base n number log s) where
+  pub ring-room : RingRoom log base n ringsAt s
+  ring-room = record { fits = b .fits; short = b .short; records = omega (arith, b .fits, b .room); room = b .scratch }
+
+  -- the last round's records in rings, their letters gathered, and the positions made active
+  module _ (fresh : ℕ) (s₁ s₂ : List ℕ) (o : OutsideSame n ringsAt s s₁) (letters : FreshLetters log lo base fresh) (a : Activated t number fresh s₁ s₂) where
+    abbrev round : Round
+    round = record { number = number; lo = lo; base = base; fresh = fresh; n = n }
+
+    prepared-rings : Prepared table t s₁
+    prepared-rings = prepared-kept table t (b .holds) s s₁ (λ i p q. o .before i (omega arith)) (λ i p q. o .before i (omega arith)) (b .prepared)
+
+    looked-at : (p : ℕ) → p < positionCeiling → inSet s₂ activeAt p ≡ (ltb p (t .rules) && isActive round (ruleIn table (orderedRule s₂ p)))
+    unfolding isActive
+    looked-at p l = elim (ℕ-discrete number 1) [
+      | yes e ↦ a .first e .positions p l ∙ rw (eq-eqb number 1 e) (by-test (ltb p (t .rules)) (λ y. rw y) (λ f. rw f))
+      | no e ↦ gathered-active table t (b .holds) fresh s₁ s₂ (prepared-rings .writers) (prepared-rings .ordered) (a .later e) .positions p l ∙ rw (ne-eqb number 1 e)
+    ]
+
+    pub round-stands : Ringed log base n ringsAt s₁ → Freshened log lo base n ringsAt s₁ → InRound table t round log s₂
+    round-stands r f = record {
+      holds = b .holds;
+      begun = b .begun;
+      late = b .late;
+      size = b .logged .size;
+      bytes = b .logged .bytes;
+      records = b .room;
+      low = b .low;
+      last = b .last;
+      fresh = letters-fresh table t (b .holds) base number log (b .logged) lo fresh letters;
+      room = record { fits = b .fits; short = b .short; records = omega (arith, b .fits, b .room); room = omega (arith, b .scratch, o .size, a .kept .size) };
+      ringed = ringed-scratch log base n ringsAt s₁ s₂ (b .fits) (λ i p q. a .kept .outside i (inr (omega arith))) r;
+      freshened = freshened-scratch log lo base n ringsAt s₁ s₂ (λ i p q. a .kept .outside i (inr (omega arith))) f;
+      prepared = prepared-kept table t (b .holds) s₁ s₂ (λ i p q. a .kept .outside i (inl q)) (λ i p q. a .kept .outside i (inr (omega arith))) prepared-rings;
+      active = looked-at;
+    }
