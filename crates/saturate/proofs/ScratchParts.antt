@@ -5,9 +5,9 @@ use mathlib.Core.Logic.{inl, inr, ⊎-elim}
 use mathlib.Core.List.{List, _++_}
 use Prim.Native.Nat.{ℕ, suc, _+_, _-_, _*_, _/_, _%_, _^_, _<_, _≤_}
 use native.Mathlib.Decide.{ℕ-discrete, decLt}
-use native.Mathlib.Nat.{div-self}
+use native.Mathlib.Nat.{div-self, mod-eq-of-lt, one-mul}
 use native.Mathlib.Omega.{arith}
-use lib.Pow.{pow-pos}
+use lib.Pow.{pow-lt, pow-pos}
 use lib.Bits.{bitOr}
 use lib.Dec.{eqb, ltb}
 use lib.ListN.{drop, getD, length, take, take-append-drop}
@@ -93,12 +93,18 @@ scratch-ready table t holds n log s s₁ s₂ s₃ s₄ o w c k r = record {
 power-bit : (k : ℕ) → hasLetter (2 ^ k) k ≡ true
 power-bit k = rw (div-self (pow-pos k))
 
-pub letter-in : (letters a x : ℕ) → x ≡ bitOr letters (2 ^ (a % letterCeiling)) → LetterIn letters a x
-letter-in letters a x e = record {
-  has = ap (λ (y : ℕ). hasLetter y (a % letterCeiling)) e ∙ bit-or letters (2 ^ (a % letterCeiling)) (a % letterCeiling)
-      ∙ by-test (hasLetter letters (a % letterCeiling)) (λ y. rw y) (λ f. rw f (power-bit (a % letterCeiling)));
-  kept = λ b h. ap (λ (y : ℕ). hasLetter y b) e ∙ bit-or letters (2 ^ (a % letterCeiling)) b ∙ rw h;
+one-shifted : (k : ℕ) → k < 32 → 1 * 2 ^ k % 4294967296 ≡ 2 ^ k
+one-shifted k l = rw one-mul (mod-eq-of-lt (pow-lt {j = 32} l))
+
+letter-or : (letters a : ℕ) → LetterIn letters a (bitOr letters (2 ^ (a % letterCeiling)))
+letter-or letters a = record {
+  has = bit-or letters (2 ^ (a % letterCeiling)) (a % letterCeiling) ∙ by-test (hasLetter letters (a % letterCeiling)) (λ y. rw y) (λ f. rw f (power-bit (a % letterCeiling)));
+  kept = λ b h. bit-or letters (2 ^ (a % letterCeiling)) b ∙ rw h;
 }
+
+-- one bit of 32 is set
+pub letter-set : (letters a v : ℕ) → v ≡ a → LetterIn letters a (bitOr letters (1 * 2 ^ (v % 32) % 4294967296))
+letter-set letters a v e = subst (LetterIn letters a) (ap (bitOr letters) (sym (one-shifted (v % 32) (omega arith) ∙ ap (λ (x : ℕ). 2 ^ (x % 32)) e))) (letter-or letters a)
 
 pub letters-none : (log : List ℕ) (lo x : ℕ) → FreshLetters log lo lo x
 letters-none log lo x i a b = absurd (omega arith)

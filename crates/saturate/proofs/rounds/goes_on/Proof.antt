@@ -1,18 +1,14 @@
-use native.Mathlib.Omega.{arith}
-use lib.ListN.{length, length-set}
+-- Another head follows if the log has room and a position is left.
 use borrow.Author.Needs.{needs}
+use borrow.Author.Tests.{le-leb, lt-leb}
 use Rattle.saturate.proofs.rounds.goes_on.Statement.{statement}
 use Rattle.saturate.proofs.rounds.goes_on.Tie as tie
-use Rattle.saturate.proofs.rounds.goes_on.Reads as reads
-use Rattle.saturate.proofs.rounds.goes_on.Lts as lts
 
--- src/rounds.rt:79:9
 returns : tie.Need-returns
-returns c = ?
+returns c = let a = c .before .before .args in rw (lt-leb (a .at .count) (a .n) (c .if1 .taken))
 
--- src/rounds.rt:75:1
 returns-2 : tie.Need-returns-2
-returns-2 c = ?
+returns-2 c = let a = c .before .before .before .before .args in rw (le-leb (a .at .count) (a .n) (c .before .before .if1 .left))
 
 pub goes-on-spec : {M : Type 1} → statement M
 goes-on-spec = tie.close (tie.spec returns returns-2)

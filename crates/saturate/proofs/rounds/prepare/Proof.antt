@@ -1,51 +1,28 @@
-use native.Mathlib.Omega.{arith}
-use lib.ListN.{length, length-set}
+-- The rules are ordered, their positions noted, the passed states cleared, and the rings emptied.
 use borrow.Author.Needs.{needs}
+use Rattle.saturate.proofs.ScratchParts.{scratch-ready}
 use Rattle.saturate.proofs.rounds.prepare.Statement.{statement}
 use Rattle.saturate.proofs.rounds.prepare.Tie as tie
-use Rattle.saturate.proofs.rounds.prepare.Reads as reads
-use Rattle.saturate.proofs.rounds.prepare.Lts as lts
-use Rattle.automaton.proofs.sets.clear_part.Reads as clear-part-reads
-use Rattle.rings.proofs.clear.Reads as clear-reads
-use Rattle.rules.proofs.mark_writers.Reads as mark-writers-reads
-use Rattle.rules.proofs.order_rules.Reads as order-rules-reads
 
--- src/rounds.rt:34:5
-order-rules-requires : tie.Need-order-rules-requires
-order-rules-requires c κs = search needs
-
--- src/rounds.rt:35:5
-mark-writers-requires : tie.Need-mark-writers-requires
-mark-writers-requires c κs = search needs
-
--- src/rounds.rt:36:33
-add-clear-part : tie.Need-add-clear-part
-add-clear-part c = search needs
-
--- src/rounds.rt:36:5
-clear-part-requires : tie.Need-clear-part-requires
-clear-part-requires c κs = search needs
-
--- src/rounds.rt:37:5
-clear-requires : tie.Need-clear-requires
-clear-requires c κs = search needs
-
--- src/rounds.rt:30:1
-same-length : tie.Need-same-length
-same-length c = search needs
-
--- src/rounds.rt:30:1
 returns : tie.Need-returns
-returns c = ?
+returns c =
+    let at-clear = c .before .before in
+    let at-part = at-clear .before .before .before .before in
+    let at-writers = at-part .before .before .before .before in
+    let at-order = at-writers .before .before .before .before in
+    let entry = at-order .before .before .before .before .before in
+    let a = entry .args in
+    scratch-ready (a .table .now) (a .t) (entry .pre .0) (a .n) (a .log .now) (a .scratch .now) _ _ _ _ (at-order .order-rules .ensures) (at-writers .mark-writers .ensures)
+    (at-part .clear-part .ensures) (at-clear .clear .ensures .0) (at-clear .clear .ensures .1)
 
 pub prepare-spec : {M : Type 1} → statement M
 prepare-spec =
     tie.close
     (tie.spec
-    order-rules-requires
-    mark-writers-requires
-    add-clear-part
-    clear-part-requires
-    clear-requires
-    same-length
+    (λ c κs. search needs)
+    (λ c κs. search needs)
+    (λ c. search needs)
+    (λ c κs. search needs)
+    (λ c κs. search needs)
+    (λ c. search needs)
     returns)
