@@ -1,55 +1,64 @@
+-- Head after head of the active positions, the round has come to its end (RoundSteps).
+use mathlib.Core.Path.{sym, _∙_}
+use Prim.Native.Nat.{_-_}
 use native.Mathlib.Omega.{arith}
-use lib.ListN.{length, length-set}
 use borrow.Author.Needs.{needs}
+use Rattle.saturate.proofs.RoundSteps.{HeadsAdded, below, fits, head-active, heads-end, heads-start, heads-turn, rules-fewer}
 use Rattle.saturate.proofs.rounds.add_heads.Statement.{statement}
 use Rattle.saturate.proofs.rounds.add_heads.Tie as tie
-use Rattle.saturate.proofs.rounds.add_heads.Reads as reads
-use Rattle.saturate.proofs.rounds.add_heads.Lts as lts
-use Rattle.rules.proofs.next_active.Reads as next-active-reads
-use Rattle.saturate.proofs.rounds.goes_on.Reads as goes-on-reads
-use Rattle.heads.proofs.add_head.Reads as add-head-reads
 
 abbrev Inv-loop : tie.InvT-loop
-Inv-loop table t log₀ scratch₀ round at₀ log scratch at = ?
+Inv-loop table t log₀ scratch₀ round at₀ log scratch at = HeadsAdded table t round log₀ scratch₀ (at .position) (at .count) log scratch
 
 abbrev μ-loop : tie.MeasureT-loop
-μ-loop table t log₀ scratch₀ round at₀ log scratch at = ?
+μ-loop table t log₀ scratch₀ round at₀ log scratch at = t .rules - at .position
 
--- src/rounds.rt:90:19
 next-active-requires : tie.Need-next-active-requires Inv-loop μ-loop
-next-active-requires c κs = ?
+next-active-requires c κs = omega (arith, c .before .before .before .before .pre .room .room)
 
--- src/rounds.rt:93:5
 loop-holds : tie.Need-loop-holds Inv-loop μ-loop
-loop-holds c = omega arith
+loop-holds c =
+    let entry = c .before .before .before .before .before in
+    let a = entry .args in
+    heads-start (a .table .now) (a .t) (a .round) (a .log .now) (a .scratch .now) (entry .pre) (c .next-active .result) (c .next-active .ensures)
 
--- src/rounds.rt:93:11
-goes-on-requires : tie.Need-goes-on-requires Inv-loop μ-loop
-goes-on-requires c κs = ?
-
--- src/rounds.rt:94:9
 add-head-requires : tie.Need-add-head-requires Inv-loop μ-loop
-add-head-requires c κs = omega arith
+add-head-requires c κs =
+    let at-test = c .before .before in
+    let at-loop = at-test .before .before in
+    let a = at-loop .before .before .before .before .before .before .args in
+    let l = at-loop .loop in
+    let goes = sym (at-test .before .goes-on .ensures) ∙ at-test .if1 .taken in
+    (l .inv .standing, below (a .table .now) (a .t) (a .round) _ _ (l .at .position) (l .at .count) (l .log) (l .scratch) (l .inv) goes,
+    head-active (a .table .now) (a .t) (a .round) _ _ (l .at .position) (l .at .count) (l .log) (l .scratch) (l .inv) goes, l .inv .large,
+    fits (a .table .now) (a .t) (a .round) _ _ (l .at .position) (l .at .count) (l .log) (l .scratch) (l .inv) goes)
 
--- src/rounds.rt:93:5
 loop-less : tie.Need-loop-less Inv-loop μ-loop
-loop-less c = omega arith
+loop-less c =
+    let at-head = c .before .before .before .before in
+    let at-test = at-head .before .before .before in
+    let at-loop = at-test .before .before in
+    let a = at-loop .before .before .before .before .before .before .args in
+    let l = at-loop .loop in
+    let goes = sym (at-test .before .goes-on .ensures) ∙ at-test .if1 .taken in
+    rules-fewer (a .table .now) (a .t) (a .round) _ _ (l .at .position) (l .at .count) (l .log) (l .scratch) (l .inv) goes (at-head .add-head .result) _ _ (at-head .add-head .ensures)
 
--- src/rounds.rt:93:5
 loop-again : tie.Need-loop-again Inv-loop μ-loop
-loop-again c = ?
+loop-again c =
+    let at-head = c .before .before .before .before in
+    let at-test = at-head .before .before .before in
+    let at-loop = at-test .before .before in
+    let a = at-loop .before .before .before .before .before .before .args in
+    let l = at-loop .loop in
+    let goes = sym (at-test .before .goes-on .ensures) ∙ at-test .if1 .taken in
+    heads-turn (a .table .now) (a .t) (a .round) _ _ (l .at .position) (l .at .count) (l .log) (l .scratch) (l .inv) goes (at-head .add-head .result) _ _ (at-head .add-head .ensures)
 
--- src/rounds.rt:85:1
-same-length : tie.Need-same-length Inv-loop μ-loop
-same-length c = simp length-set
-
--- src/rounds.rt:85:1
-same-length-2 : tie.Need-same-length-2 Inv-loop μ-loop
-same-length-2 c = simp length-set
-
--- src/rounds.rt:85:1
 returns : tie.Need-returns Inv-loop μ-loop
-returns c = ?
+returns c =
+    let at-loop = c .before .before in
+    let a = at-loop .before .before .before .before .before .before .args in
+    let l = at-loop .loop in
+    heads-end (a .table .now) (a .t) (a .round) (a .log .now) (a .scratch .now) (l .at .position) (l .at .count) (l .log) (l .scratch) (l .inv) (sym (c .before .goes-on .ensures) ∙ c .if1 .left)
 
 pub add-heads-spec : {M : Type 1} → statement M
 add-heads-spec =
@@ -59,10 +68,10 @@ add-heads-spec =
     μ-loop
     next-active-requires
     loop-holds
-    goes-on-requires
+    (λ c κs. search needs)
     add-head-requires
     loop-less
     loop-again
-    same-length
-    same-length-2
+    (λ c. c .before .before .loop .inv .log-length)
+    (λ c. c .before .before .loop .inv .scratch-length)
     returns)
