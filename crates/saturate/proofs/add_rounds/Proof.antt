@@ -1,74 +1,75 @@
+-- Round after round, until one adds nothing or the log is full (Saturating).
+use mathlib.Core.Path.{sym, _∙_}
+use Prim.Native.Nat.{_-_}
 use native.Mathlib.Omega.{arith}
-use lib.ListN.{length, length-set}
 use borrow.Author.Needs.{needs}
+use Rattle.saturate.proofs.Saturating.{Saturating, measure-falls, next-begins, saturating-full, saturating-limit, saturating-start, saturating-turn}
 use Rattle.saturate.proofs.add_rounds.Statement.{statement}
 use Rattle.saturate.proofs.add_rounds.Tie as tie
-use Rattle.saturate.proofs.add_rounds.Reads as reads
-use Rattle.saturate.proofs.add_rounds.Lts as lts
-use Rattle.saturate.proofs.goes_on.Reads as goes-on-reads
-use Rattle.saturate.proofs.rounds.add_round.Reads as add-round-reads
 
 abbrev Inv-loop : tie.InvT-loop
-Inv-loop table t log₀ scratch₀ n base₀ round₀ count₀ log scratch base round count = ?
+Inv-loop table t log₀ scratch₀ n base₀ round₀ count₀ log scratch base round count = Saturating table t n log₀ scratch₀ log scratch base round count
 
 abbrev μ-loop : tie.MeasureT-loop
-μ-loop table t log₀ scratch₀ n base₀ round₀ count₀ log scratch base round count = ?
+μ-loop table t log₀ scratch₀ n base₀ round₀ count₀ log scratch base round count = n - base
 
--- src/lib.rt:42:9
-add-round-requires : tie.Need-add-round-requires Inv-loop μ-loop
-add-round-requires c κs = omega arith
-
--- src/lib.rt:43:5
 loop-holds : tie.Need-loop-holds Inv-loop μ-loop
-loop-holds c = omega arith
+loop-holds c =
+    let at-round = c .before .before .before .before in
+    let entry = at-round .before .before .before .before .before .before in
+    let a = entry .args in
+    saturating-start (a .table .now) (a .t) (a .n) (a .t .transitions) (at-round .add-round .result) (a .log .now) (a .scratch .now) _ _ (entry .pre) (at-round .add-round .ensures)
 
--- src/lib.rt:43:11
-goes-on-requires : tie.Need-goes-on-requires Inv-loop μ-loop
-goes-on-requires c κs = ?
-
--- src/lib.rt:46:9
+-- the number of the round is at most that of the records
 add-round : tie.Need-add-round Inv-loop μ-loop
-add-round c = omega arith
+add-round c = let inv = c .before .before .loop .inv in omega (arith, inv .late, inv .fits, inv .short)
 
--- src/lib.rt:47:64
 add-add-round : tie.Need-add-add-round Inv-loop μ-loop
-add-add-round c = omega arith
+add-add-round c = let inv = c .before .before .before .before .loop .inv in omega (arith, inv .late, inv .fits, inv .short)
 
--- src/lib.rt:47:9
 add-round-requires-2 : tie.Need-add-round-requires-2 Inv-loop μ-loop
-add-round-requires-2 c κs = omega arith
+add-round-requires-2 c κs =
+    let at-test = c .before .before in
+    let at-loop = at-test .before .before in
+    let a = at-loop .before .before .before .before .before .before .before .before .before .before .before .args in
+    let l = at-loop .loop in
+    next-begins (a .table .now) (a .t) (a .n) _ _ (l .log) (l .scratch) (l .base) (l .round) (l .count) (l .inv) (sym (at-test .before .goes-on .ensures) ∙ at-test .if1 .taken)
 
--- src/lib.rt:43:5
 loop-less : tie.Need-loop-less Inv-loop μ-loop
-loop-less c = omega arith
+loop-less c =
+    let at-test = c .before .before .before .before .before .before .before in
+    let at-loop = at-test .before .before in
+    let a = at-loop .before .before .before .before .before .before .before .before .before .before .before .args in
+    let l = at-loop .loop in
+    measure-falls (a .table .now) (a .t) (a .n) _ _ (l .log) (l .scratch) (l .base) (l .round) (l .count) (l .inv) (sym (at-test .before .goes-on .ensures) ∙ at-test .if1 .taken)
 
--- src/lib.rt:43:5
 loop-again : tie.Need-loop-again Inv-loop μ-loop
-loop-again c = ?
+loop-again c =
+    let at-round = c .before .before .before .before in
+    let at-test = at-round .before .before .before in
+    let at-loop = at-test .before .before in
+    let a = at-loop .before .before .before .before .before .before .before .before .before .before .before .args in
+    let l = at-loop .loop in
+    saturating-turn (a .table .now) (a .t) (a .n) _ _ (l .log) (l .scratch) (l .base) (l .round) (l .count) (l .inv) (sym (at-test .before .goes-on .ensures) ∙ at-test .if1 .taken)
+    (at-round .add-round2 .result) _ _ (at-round .add-round2 .ensures)
 
--- src/lib.rt:50:9
-same-length : tie.Need-same-length Inv-loop μ-loop
-same-length c = simp length-set
-
--- src/lib.rt:50:9
-same-length-2 : tie.Need-same-length-2 Inv-loop μ-loop
-same-length-2 c = simp length-set
-
--- src/lib.rt:50:9
 returns : tie.Need-returns Inv-loop μ-loop
-returns c = ?
+returns c =
+    let at-loop = c .before .before .before in
+    let first = at-loop .before .before .before .before .before .add-round .ensures in
+    let a = at-loop .before .before .before .before .before .before .before .before .before .before .before .args in
+    let l = at-loop .loop in
+    saturating-full (a .table .now) (a .t) (a .n) _ _ (l .log) (l .scratch) (l .base) (l .round) (l .count) (l .inv) (a .log .now) (a .scratch .now) (first .log-length) (first .scratch-length)
+    (c .if2 .taken)
 
--- src/lib.rt:36:1
-same-length-3 : tie.Need-same-length-3 Inv-loop μ-loop
-same-length-3 c = simp length-set
-
--- src/lib.rt:36:1
-same-length-4 : tie.Need-same-length-4 Inv-loop μ-loop
-same-length-4 c = simp length-set
-
--- src/lib.rt:36:1
 returns-2 : tie.Need-returns-2 Inv-loop μ-loop
-returns-2 c = ?
+returns-2 c =
+    let at-loop = c .before .before .before in
+    let first = at-loop .before .before .before .before .before .add-round .ensures in
+    let a = at-loop .before .before .before .before .before .before .before .before .before .before .before .args in
+    let l = at-loop .loop in
+    saturating-limit (a .table .now) (a .t) (a .n) _ _ (l .log) (l .scratch) (l .base) (l .round) (l .count) (l .inv) (sym (c .before .before .goes-on .ensures) ∙ c .before .if1 .left) (c .if2 .left)
+    (a .log .now) (a .scratch .now) (first .log-length) (first .scratch-length)
 
 pub add-rounds-spec : {M : Type 1} → statement M
 add-rounds-spec =
@@ -76,17 +77,17 @@ add-rounds-spec =
     (tie.spec
     Inv-loop
     μ-loop
-    add-round-requires
+    (λ c κs. c .before .before .before .before .before .pre)
     loop-holds
-    goes-on-requires
+    (λ c κs. search needs)
     add-round
     add-add-round
     add-round-requires-2
     loop-less
     loop-again
-    same-length
-    same-length-2
+    (λ c. c .before .before .before .loop .inv .log-length ∙ c .before .before .before .before .before .before .before .before .add-round .ensures .log-length)
+    (λ c. c .before .before .before .loop .inv .scratch-length ∙ c .before .before .before .before .before .before .before .before .add-round .ensures .scratch-length)
     returns
-    same-length-3
-    same-length-4
+    (λ c. c .before .before .before .loop .inv .log-length ∙ c .before .before .before .before .before .before .before .before .add-round .ensures .log-length)
+    (λ c. c .before .before .before .loop .inv .scratch-length ∙ c .before .before .before .before .before .before .before .before .add-round .ensures .scratch-length)
     returns-2)

@@ -1,51 +1,48 @@
+-- The last round's records are put into rings, the positions that write their letters made active, and the heads added.
+use mathlib.Core.Path.{_∙_}
 use native.Mathlib.Omega.{arith}
-use lib.ListN.{length, length-set}
 use borrow.Author.Needs.{needs}
+use Rattle.table.proofs.Layouts.{table-modest}
+use Rattle.saturate.proofs.RoundSteps.{added-before}
+use Rattle.saturate.proofs.ScratchParts.{round-stands}
 use Rattle.saturate.proofs.rounds.add_round.Statement.{statement}
 use Rattle.saturate.proofs.rounds.add_round.Tie as tie
-use Rattle.saturate.proofs.rounds.add_round.Reads as reads
-use Rattle.saturate.proofs.rounds.add_round.Lts as lts
-use Rattle.rings.proofs.append.Reads as append-reads
-use Rattle.saturate.proofs.rounds.add_heads.Reads as add-heads-reads
-use Rattle.saturate.proofs.rounds.fresh_letters.Reads as fresh-letters-reads
-use Rattle.saturate.proofs.rounds.set_active.Reads as set-active-reads
 
--- src/rounds.rt:115:5
-append-requires : tie.Need-append-requires
-append-requires c κs = search needs
-
--- src/rounds.rt:116:9
-fresh-letters-requires : tie.Need-fresh-letters-requires
-fresh-letters-requires c κs = search needs
-
--- src/rounds.rt:117:5
 set-active-requires : tie.Need-set-active-requires
-set-active-requires c κs = ?
+set-active-requires c κs =
+    let at-append = c .before .before .before .before .before in
+    let entry = at-append .before .before .before .before .before .before in
+    let modest = table-modest (entry .args .table .now) (entry .args .t) (entry .pre .holds) in
+    (modest .rules, modest .letters, omega (arith, entry .pre .scratch, at-append .append .ensures .0 .size))
 
--- src/rounds.rt:125:5
 add-heads-requires : tie.Need-add-heads-requires
-add-heads-requires c κs = omega arith
+add-heads-requires c κs =
+    let at-active = c .before .before .before .before in
+    let at-letters = at-active .before .before in
+    let at-append = at-letters .before .before .before .before in
+    let entry = at-append .before .before .before .before .before .before in
+    let a = entry .args in
+    let rings = at-append .append .ensures in
+    round-stands (a .table .now) (a .t) (a .lo) (a .base) (a .n) (a .number) (a .log .now) (a .scratch .now) (entry .pre) (at-letters .fresh-letters .result) _ _ (rings .0)
+    (at-letters .fresh-letters .ensures) (at-active .set-active .ensures) (rings .1) (rings .2)
 
--- src/rounds.rt:102:1
-same-length : tie.Need-same-length
-same-length c = search needs
-
--- src/rounds.rt:102:1
-same-length-2 : tie.Need-same-length-2
-same-length-2 c = search needs
-
--- src/rounds.rt:102:1
 returns : tie.Need-returns
-returns c = ?
+returns c =
+    let at-heads = c .before .before .before .before in
+    let at-active = at-heads .before .before .before .before .before in
+    let at-append = at-active .before .before .before .before .before .before in
+    let a = at-append .before .before .before .before .before .before .args in
+    added-before (a .table .now) (a .t) (a .base) (a .n) (a .number) (a .log .now) (a .scratch .now) _ (at-heads .add-heads .result) _ _
+    (at-active .set-active .ensures .kept .size ∙ at-append .append .ensures .0 .size) (at-heads .add-heads .ensures)
 
 pub add-round-spec : {M : Type 1} → statement M
 add-round-spec =
     tie.close
     (tie.spec
-    append-requires
-    fresh-letters-requires
+    (λ c κs. search needs)
+    (λ c κs. search needs)
     set-active-requires
     add-heads-requires
-    same-length
-    same-length-2
+    (λ c. search needs)
+    (λ c. search needs)
     returns)
