@@ -1,9 +1,9 @@
 -- A round, one head after the other.
 use mathlib.Core.Path.{_≡_, refl, ap, ap₂, subst, sym, _∙_}
-use mathlib.Core.Bool.{Bool, true, false, true≢false, _&&_, _||_}
-use mathlib.Core.Logic.{inl, inr, ⊎-elim}
+use mathlib.Core.Bool.{Bool, true, false, true≢false, _&&_}
+use mathlib.Core.Logic.{⊎-elim}
 use mathlib.Core.List.{List, List·Memᴰ, [], _∷_, _++_, append-assoc, append-nil, map}
-use Prim.Native.Nat.{ℕ, zero, suc, _+_, _-_, _*_, _/_, _<_, _≤_, min}
+use Prim.Native.Nat.{ℕ, suc, _+_, _-_, _*_, _/_, _<_, _≤_}
 use native.Mathlib.Decide.{ℕ-discrete, decLt}
 use native.Mathlib.Omega.{arith}
 use lib.Dec.{eqb, leb, ltb}
@@ -19,7 +19,7 @@ use Rattle.model.proofs.FreshPaths.{last-round}
 use Rattle.model.proofs.Lists.{any-of, any-true, each-any, each-map, map-append}
 use Rattle.model.proofs.Order.{lex-irrefl, lex-total, sameDigits}
 use Rattle.model.proofs.RecordBytes.{log-append}
-use Rattle.model.proofs.RoundGroups.{filter, headOf, last-head, next-head, no-head, ruleHead, upTo}
+use Rattle.model.proofs.RoundGroups.{filter, last-head, next-head, no-head, ruleHead, upTo}
 use Rattle.model.proofs.Skipping.{freshIn}
 use Rattle.model.proofs.Tests.{and-both, and-left, and-right, by-test, or-right}
 use Rattle.automaton.specs.StateSets.{firstFrom}
@@ -29,7 +29,7 @@ use Rattle.table.specs.Reading.{Holds, ruleIn, systemIn}
 use Rattle.table.proofs.Layouts.{table-modest}
 use Rattle.logs.proofs.Logs.{skip-stale}
 use Rattle.logs.proofs.Rules.{each-by-elem, rule-number}
-use Rattle.scratch.specs.Regions.{activeAt, countsEnd, orderAt, ringsAt}
+use Rattle.scratch.specs.Regions.{activeAt, countsEnd, orderAt}
 use Rattle.rules.specs.Regions.{inSet, positionCeiling}
 use Rattle.rules.specs.Rules.{Ordered, hasLetter, orderedRule}
 use Rattle.rules.proofs.RegionLaws.{in-same}
@@ -94,7 +94,7 @@ module _ (table : List ℕ) (t : Table) (round : Round) (log s : List ℕ) (stan
     passed-later : Each (Passed sys (suc m) (isActive round)) (sys .rules)
     passed-later = each-map (Passed sys (suc m) (λ r. anyOf (freshIn (logAt sys (suc m)) (suc m)) (r .written))) (Passed sys (suc m) (isActive round)) (λ r f a. f (idle-stale r a)) (sys .rules) (skip-stale sys m)
 
-  pub passed-over : Each (Passed sys (round .number - 1) (isActive round)) (sys .rules)
+  passed-over : Each (Passed sys (round .number - 1) (isActive round)) (sys .rules)
   passed-over = elim (ℕ-discrete (round .number) 1) [
     | yes e ↦ each-any (Passed sys (round .number - 1) (isActive round)) (λ r a. absurd (true≢false (sym (first-all e r) ∙ a))) (sys .rules)
     | no e ↦
@@ -110,7 +110,7 @@ pub record HeadsPassed (table : List ℕ) (t : Table) (last : List ℕ) (positio
   pub behind : (p : ℕ) → position ≤ p → p < t .rules → inSet s activeAt p ≡ true → lexLess last (headAt table s p) ≡ true
 
 -- before the first active position
-pub passed-none : (table : List ℕ) (t : Table) → Holds table t → (s : List ℕ) (position : ℕ) → position ≡ firstFrom (inSet s activeAt) 0 (positionCeiling - 0) → HeadsPassed table t [] position s
+passed-none : (table : List ℕ) (t : Table) → Holds table t → (s : List ℕ) (position : ℕ) → position ≡ firstFrom (inSet s activeAt) 0 (positionCeiling - 0) → HeadsPassed table t [] position s
 passed-none table t holds s position e =
     let f = first-at (inSet s activeAt) 0 (positionCeiling - 0) position e in
     record {
@@ -270,7 +270,7 @@ module _ (table : List ℕ) (t : Table) (round : Round) (log₀ s₀ : List ℕ)
 
     module _ (r : Reached) (log′ s′ : List ℕ) (d : HeadAdded table t round position count log s r log′ s′) where
       -- there is room for the head's records
-      pub logged-next : r .count ≤ round .n → Logged (logUpTo table (round .number) (headAt table s position)) (r .count) log′
+      logged-next : r .count ≤ round .n → Logged (logUpTo table (round .number) (headAt table s position)) (r .count) log′
       logged-next l =
           let counted : r .count ≡ count + length news = omega (arith, d .counted) in
           record {

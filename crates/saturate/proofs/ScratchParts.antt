@@ -1,21 +1,19 @@
 -- The scratch of a round: made ready, its letters gathered, and kept by what a head changes.
-use mathlib.Core.Path.{_≡_, refl, ap, ap₂, subst, sym, _∙_}
-use mathlib.Core.Bool.{Bool, true, false, _&&_, _||_}
-use mathlib.Core.Logic.{inl, inr, ⊎-elim}
+use mathlib.Core.Path.{_≡_, ap, subst, sym, _∙_}
+use mathlib.Core.Bool.{true, _&&_}
+use mathlib.Core.Logic.{inl, inr}
 use mathlib.Core.List.{List, _++_}
-use Prim.Native.Nat.{ℕ, suc, _+_, _-_, _*_, _/_, _%_, _^_, _<_, _≤_}
+use Prim.Native.Nat.{ℕ, _+_, _-_, _*_, _/_, _%_, _^_, _<_, _≤_}
 use native.Mathlib.Decide.{ℕ-discrete, decLt}
 use native.Mathlib.Nat.{div-self, mod-eq-of-lt, one-mul}
 use native.Mathlib.Omega.{arith}
 use lib.Pow.{pow-lt, pow-pos}
 use lib.Bits.{bitOr}
-use lib.Dec.{eqb, ltb}
+use lib.Dec.{ltb}
 use lib.ListN.{drop, getD, length, take, take-append-drop}
-use borrow.Author.Tests.{eq-eqb, eqb-true, le-ltb, lt-ltb, ltb-true, ne-eqb}
-use Rattle.model.specs.Lists.{Each, anyOf}
-use Rattle.model.specs.Log.{Record, logAt, noRecord, recordAt}
+use borrow.Author.Tests.{eq-eqb, ltb-true, ne-eqb}
+use Rattle.model.specs.Log.{Record, noRecord, recordAt}
 use Rattle.model.specs.Records.{letterAt, logBytes, recordLength}
-use Rattle.model.specs.Systems.{Rule}
 use Rattle.model.proofs.Lists.{each-get, getD-mem}
 use Rattle.model.proofs.RecordBytes.{from-letter, record-from}
 use Rattle.model.proofs.Tests.{by-test}
@@ -25,18 +23,18 @@ use Rattle.table.specs.declared.Table.{Table}
 use Rattle.table.specs.Reading.{Holds, ruleIn, systemIn}
 use Rattle.table.proofs.Layouts.{table-modest}
 use Rattle.logs.proofs.Logs.{log-over}
-use Rattle.scratch.specs.Regions.{activeAt, countsEnd, orderAt, passedAt, ringsAt, writersAt}
-use Rattle.rings.specs.Rings.{Freshened, OutsideSame, RingRoom, Ringed}
+use Rattle.scratch.specs.Regions.{activeAt, countsEnd, orderAt, passedAt, ringsAt, setBytes, writersAt}
+use Rattle.rings.specs.Rings.{Freshened, OutsideSame, Ringed}
 use Rattle.rings.proofs.Rings.{freshened-log, freshened-scratch, ringed-log, ringed-scratch}
 use Rattle.packs.specs.Packs.{packedBefore}
 use Rattle.paths.proofs.Glances.{before-same, letter-same}
-use Rattle.rules.specs.Regions.{KeptOutside, Outside, inSet, positionCeiling, setBytes}
-use Rattle.rules.specs.Rules.{AllActive, Gathered, Ordered, RulesOrdered, Writers, WritersMarked, codesLength, hasLetter, letterCeiling, orderedRule, ruleCeiling, writersOf, writesLetter}
+use Rattle.rules.specs.Regions.{inSet, positionCeiling}
+use Rattle.rules.specs.Rules.{RulesOrdered, Writers, WritersMarked, hasLetter, letterCeiling, orderedRule, ruleCeiling, writersOf, writesLetter}
 use Rattle.rules.proofs.ActivePositions.{gathered-active}
 use Rattle.rules.proofs.RegionLaws.{bit-or, in-same}
 use Rattle.rules.proofs.RuleOrder.{ordered-same}
 use Rattle.heads.specs.declared.Round.{Round}
-use Rattle.heads.specs.Rounds.{InRound, Prepared, earlierLog, headAt, isActive}
+use Rattle.heads.specs.Rounds.{InRound, Prepared, earlierLog, isActive}
 use Rattle.saturate.specs.Rounds.{Activated, FreshLetters, LetterIn, Logged, RoundBegins, ScratchReady}
 
 -- the bytes from one offset on and below another are the same
@@ -45,7 +43,7 @@ SameIn from to s s′ = (i : ℕ) → from ≤ i → i < to → getD s′ i 0 �
 
 -- where the set of passed states at the first depth ends
 abbrev pub preparedEnd : ℕ
-preparedEnd = 3448
+preparedEnd = passedAt + 2 * setBytes
 
 -- ---- the rules in order
 module _ (table : List ℕ) (t : Table) (holds : Holds table t) (s s′ : List ℕ) where
@@ -175,9 +173,6 @@ in-round-kept table t round log s log′ s′ r front l m kept rings = record {
     order i a b = kept i (omega arith) (omega arith)
 
 module _ (table : List ℕ) (t : Table) (lo base n number : ℕ) (log s : List ℕ) (b : RoundBegins table t lo base n number log s) where
-  pub ring-room : RingRoom log base n ringsAt s
-  ring-room = record { fits = b .fits; short = b .short; records = omega (arith, b .fits, b .room); room = b .scratch }
-
   -- the last round's records in rings, their letters gathered, and the positions made active
   module _ (fresh : ℕ) (s₁ s₂ : List ℕ) (o : OutsideSame n ringsAt s s₁) (letters : FreshLetters log lo base fresh) (a : Activated t number fresh s₁ s₂) where
     abbrev round : Round

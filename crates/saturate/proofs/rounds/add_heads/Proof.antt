@@ -28,10 +28,13 @@ add-head-requires c κs =
     let at-loop = at-test .before .before in
     let a = at-loop .before .before .before .before .before .before .args in
     let l = at-loop .loop in
-    let goes = sym (at-test .before .goes-on .ensures) ∙ at-test .if1 .taken in
-    (l .inv .standing, below (a .table .now) (a .t) (a .round) _ _ (l .at .position) (l .at .count) (l .log) (l .scratch) (l .inv) goes,
-    head-active (a .table .now) (a .t) (a .round) _ _ (l .at .position) (l .at .count) (l .log) (l .scratch) (l .inv) goes, l .inv .large,
-    fits (a .table .now) (a .t) (a .round) _ _ (l .at .position) (l .at .count) (l .log) (l .scratch) (l .inv) goes)
+    let goes = sym (at-test .before .goes-on .ensures) ∙ at-test .if1 .taken in (
+      l .inv .standing,
+      below (a .table .now) (a .t) (a .round) _ _ (l .at .position) (l .at .count) (l .log) (l .scratch) (l .inv) goes,
+      head-active (a .table .now) (a .t) (a .round) _ _ (l .at .position) (l .at .count) (l .log) (l .scratch) (l .inv) goes,
+      l .inv .large,
+      fits (a .table .now) (a .t) (a .round) _ _ (l .at .position) (l .at .count) (l .log) (l .scratch) (l .inv) goes,
+    )
 
 loop-less : tie.Need-loop-less Inv-loop μ-loop
 loop-less c =

@@ -1,7 +1,6 @@
 -- Record after record, the letters of all are gathered.
 use Prim.Native.Nat.{_-_}
 use native.Mathlib.Omega.{arith}
-use borrow.Author.Needs.{needs}
 use Rattle.saturate.specs.Rounds.{FreshLetters}
 use Rattle.saturate.proofs.ScratchParts.{letters-all, letters-more, letters-none}
 use Rattle.saturate.proofs.rounds.fresh_letters.Statement.{statement}

@@ -1,5 +1,4 @@
 -- Another head follows if the log has room and a position is left.
-use borrow.Author.Needs.{needs}
 use borrow.Author.Tests.{le-leb, lt-leb}
 use Rattle.saturate.proofs.rounds.goes_on.Statement.{statement}
 use Rattle.saturate.proofs.rounds.goes_on.Tie as tie
