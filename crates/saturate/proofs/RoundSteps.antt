@@ -58,7 +58,7 @@ any-place {A} f (x ∷ xs) d e = by-test (f x) (λ y. (0, omega arith, y)) (λ n
 abbrev Passed : System → ℕ → (Rule → Bool) → Rule → Type 0
 Passed sys k ok r = ok r ≡ false → (p : Path) → List·Memᴰ p (paths (sys .loc) (logAt sys k) (r .written) (r .after)) → inLog (added (sys .loc) r (p .end)) (logAt sys k) ≡ true
 
-module _ (table : List ℕ) (t : Table) (round : Round) (log s : List ℕ) (stands : InRound table t round log s) where
+module _ {table : List ℕ} {t : Table} {round : Round} {log s : List ℕ} (stands : InRound table t round log s) where
   abbrev sys : System
   sys = systemIn table
 
@@ -170,7 +170,7 @@ pub record HeadsAdded (table : List ℕ) (t : Table) (round : Round) (log₀ s�
   pub log-length : length log ≡ length log₀
   pub scratch-length : length s ≡ length s₀
 
-module _ (table : List ℕ) (t : Table) (round : Round) (log s : List ℕ) (stands : InRound table t round log s) where
+module _ {table : List ℕ} {t : Table} {round : Round} {log s : List ℕ} (stands : InRound table t round log s) where
   abbrev R : List Record
   R = earlierLog table (round .number)
 
@@ -191,10 +191,10 @@ module _ (table : List ℕ) (t : Table) (round : Round) (log s : List ℕ) (stan
   log-of-round = let e : round .number ≡ suc (round .number - 1) = omega (arith, stands .begun) in
       ap (logAt (systemIn table)) e ∙ logAt-suc (systemIn table) (round .number - 1) ∙ ap (λ (k : ℕ). R ++ map (addedRecord k R) all) (sym e)
 
-  pub heads-start : (position : ℕ) → position ≡ firstFrom (inSet s activeAt) 0 (positionCeiling - 0) → HeadsAdded table t round log s position (round .base) log s
-  heads-start position e =
+  pub heads-start : {position : ℕ} → position ≡ firstFrom (inSet s activeAt) 0 (positionCeiling - 0) → HeadsAdded table t round log s position (round .base) log s
+  heads-start {position} e =
       let none : logUpTo table (round .number) [] ≡ R =
-      ap (λ (cs : List Candidate). R ++ map (addedRecord (round .number) R) cs) (no-head (systemIn table) R (isActive round) (passed-over table t round log s stands)) ∙ append-nil R in
+      ap (λ (cs : List Candidate). R ++ map (addedRecord (round .number) R) cs) (no-head (systemIn table) R (isActive round) (passed-over stands)) ∙ append-nil R in
       record {
         last = [];
         standing = stands;
@@ -208,7 +208,8 @@ module _ (table : List ℕ) (t : Table) (round : Round) (log s : List ℕ) (stan
         scratch-length = refl;
       }
 
-module _ (table : List ℕ) (t : Table) (round : Round) (log₀ s₀ : List ℕ) (position count : ℕ) (log s : List ℕ) (h : HeadsAdded table t round log₀ s₀ position count log s) where
+module _ {table : List ℕ} {t : Table} {round : Round} {log₀ s₀ : List ℕ} {position count : ℕ} {log s : List ℕ} (h : HeadsAdded table t round log₀ s₀ position count log s)
+    {going : Bool} (is : going ≡ (leb count (round .n) && ltb position (t .rules))) where
   abbrev S : InRound table t round log s
   S = h .standing
 
@@ -222,7 +223,7 @@ module _ (table : List ℕ) (t : Table) (round : Round) (log₀ s₀ : List ℕ)
   toRecord = addedRecord (round .number) A
 
   -- no position is left
-  pub heads-end : (leb count (round .n) && ltb position (t .rules)) ≡ false → RoundAdded table t (round .base) (round .n) (round .number) log₀ s₀ count log s
+  pub heads-end : going ≡ false → RoundAdded table t (round .base) (round .n) (round .number) log₀ s₀ count log s
   heads-end stops = record {
     within = λ l. record { size = h .logged l .size ∙ ap length (whole l); bytes = h .logged l .bytes ∙ ap logBytes (whole l) };
     over = h .over;
@@ -234,20 +235,23 @@ module _ (table : List ℕ) (t : Table) (round : Round) (log₀ s₀ : List ℕ)
     scratch-length = h .scratch-length;
   }
     where
+      rest : count ≤ round .n → ltb position (t .rules) ≡ false
+      rest l = let e = sym is ∙ stops in rw (le-leb count (round .n) l) at e
+
       whole : count ≤ round .n → logUpTo table (round .number) (h .last) ≡ logAt (systemIn table) (round .number)
       whole l =
-          let end : t .rules ≤ position = ltb-false position (t .rules) (rw (le-leb count (round .n) l) at stops) in
-          ap (λ (ds : List Candidate). A ++ map toRecord ds) (last-head (systemIn table) A (isActive round) (passed-over table t round log s S) (h .last)
-          (rules-at table t round log s S (λ (r : Rule). lexLess (h .last) (ruleHead r) ≡ false) (λ p b y. h .passed .before p (omega arith) b y)))
-          ∙ sym (log-of-round table t round log s S)
+          let end : t .rules ≤ position = ltb-false position (t .rules) (rest l) in
+          ap (λ (ds : List Candidate). A ++ map toRecord ds) (last-head (systemIn table) A (isActive round) (passed-over S) (h .last)
+          (rules-at S (λ (r : Rule). lexLess (h .last) (ruleHead r) ≡ false) (λ p b y. h .passed .before p (omega arith) b y)))
+          ∙ sym (log-of-round S)
 
   -- the next head
-  module _ (goes : (leb count (round .n) && ltb position (t .rules)) ≡ true) where
+  module _ (goes : going ≡ true) where
     pub fits : count ≤ round .n
-    fits = leb-true count (round .n) (and-left (leb count (round .n)) (ltb position (t .rules)) goes)
+    fits = leb-true count (round .n) (and-left (leb count (round .n)) (ltb position (t .rules)) (sym is ∙ goes))
 
     pub below : position < t .rules
-    below = ltb-true position (t .rules) (and-right (leb count (round .n)) (ltb position (t .rules)) goes)
+    below = ltb-true position (t .rules) (and-right (leb count (round .n)) (ltb position (t .rules)) (sym is ∙ goes))
 
     pub head-active : inSet s activeAt position ≡ true
     head-active = h .passed .active below
@@ -257,9 +261,9 @@ module _ (table : List ℕ) (t : Table) (round : Round) (log₀ s₀ : List ℕ)
 
     head-news : filter (upTo (headAt table s position)) cs ≡ filter (upTo (h .last)) cs ++ news
     unfolding headAdditions
-    head-news = next-head (systemIn table) A (isActive round) (passed-over table t round log s S) (h .last) (letterOf table s position) (beforeOf table s position)
+    head-news = next-head (systemIn table) A (isActive round) (passed-over S) (h .last) (letterOf table s position) (beforeOf table s position)
         (h .passed .behind position (omega arith) below head-active)
-        (rules-at table t round log s S (λ (r : Rule). lexLess (h .last) (ruleHead r) ≡ true → lexLess (ruleHead r) (headAt table s position) ≡ false) (λ p b y z. elim (decLt p position) [
+        (rules-at S (λ (r : Rule). lexLess (h .last) (ruleHead r) ≡ true → lexLess (ruleHead r) (headAt table s position) ≡ false) (λ p b y z. elim (decLt p position) [
           | yes e ↦ absurd (true≢false (sym z ∙ h .passed .before p e b y))
           | no e ↦ heads-rise table (t .rules) s (S .prepared .ordered) position p (omega arith) b
         ]))
@@ -268,7 +272,7 @@ module _ (table : List ℕ) (t : Table) (round : Round) (log₀ s₀ : List ℕ)
     records-are = ap (λ (ds : List Candidate). A ++ map toRecord ds) head-news ∙ ap (λ (rs : List Record). A ++ rs) (map-append toRecord (filter (upTo (h .last)) cs) news)
         ∙ sym (append-assoc A (map toRecord (filter (upTo (h .last)) cs)) (map toRecord news))
 
-    module _ (r : Reached) (log′ s′ : List ℕ) (d : HeadAdded table t round position count log s r log′ s′) where
+    module _ {r : Reached} {log′ s′ : List ℕ} (d : HeadAdded table t round position count log s r log′ s′) where
       -- there is room for the head's records
       logged-next : r .count ≤ round .n → Logged (logUpTo table (round .number) (headAt table s position)) (r .count) log′
       logged-next l =
@@ -285,7 +289,7 @@ module _ (table : List ℕ) (t : Table) (round : Round) (log₀ s₀ : List ℕ)
         arith,
         d .counted,
         h .logged fits .size,
-        ap length (log-of-round table t round log s S),
+        ap length (log-of-round S),
         length-append A (map toRecord cs),
         length-map cs toRecord,
         length-append A (map toRecord (filter (upTo (h .last)) cs)),
@@ -313,9 +317,9 @@ module _ (table : List ℕ) (t : Table) (round : Round) (log₀ s₀ : List ℕ)
       rules-fewer = omega (arith, d .next .later, below)
 
 -- what a round leaves that goes on from other buffers of the same length
-pub added-before : (table : List ℕ) (t : Table) (base n number : ℕ) (log s s′ : List ℕ) (count : ℕ) (log″ s″ : List ℕ) → length s′ ≡ length s
+pub added-before : {table : List ℕ} {t : Table} {base n number : ℕ} {log s s′ : List ℕ} {count : ℕ} {log″ s″ : List ℕ} → length s′ ≡ length s
     → RoundAdded table t base n number log s′ count log″ s″ → RoundAdded table t base n number log s count log″ s″
-added-before table t base n number log s s′ count log″ s″ e d = record {
+added-before e d = record {
   within = d .within;
   over = d .over;
   small = d .small;

@@ -1,5 +1,5 @@
 -- Round after round, until one adds nothing or the log is full (Saturating).
-use mathlib.Core.Path.{sym, _∙_}
+use mathlib.Core.Path.{_∙_}
 use Prim.Native.Nat.{_-_}
 use native.Mathlib.Omega.{arith}
 use borrow.Author.Needs.{needs}
@@ -14,11 +14,7 @@ abbrev μ-loop : tie.MeasureT-loop
 μ-loop table t log₀ scratch₀ n base₀ round₀ count₀ log scratch base round count = n - base
 
 loop-holds : tie.Need-loop-holds Inv-loop μ-loop
-loop-holds c =
-    let at-round = c .before .before .before .before in
-    let entry = at-round .before .before .before .before .before .before in
-    let a = entry .args in
-    saturating-start (a .table .now) (a .t) (a .n) (a .t .transitions) (at-round .add-round .result) (a .log .now) (a .scratch .now) _ _ (entry .pre) (at-round .add-round .ensures)
+loop-holds c = let at-round = c .before .before .before .before in saturating-start (at-round .before .before .before .before .before .before .pre) (at-round .add-round .ensures)
 
 -- the number of the round is at most that of the records
 add-round : tie.Need-add-round Inv-loop μ-loop
@@ -30,46 +26,30 @@ add-add-round c = let inv = c .before .before .before .before .loop .inv in omeg
 add-round-requires-2 : tie.Need-add-round-requires-2 Inv-loop μ-loop
 add-round-requires-2 c κs =
     let at-test = c .before .before in
-    let at-loop = at-test .before .before in
-    let a = at-loop .before .before .before .before .before .before .before .before .before .before .before .args in
-    let l = at-loop .loop in
-    next-begins (a .table .now) (a .t) (a .n) _ _ (l .log) (l .scratch) (l .base) (l .round) (l .count) (l .inv) (sym (at-test .before .goes-on .ensures) ∙ at-test .if1 .taken)
+    next-begins (at-test .before .before .loop .inv) (at-test .before .goes-on .ensures) (at-test .if1 .taken)
 
 loop-less : tie.Need-loop-less Inv-loop μ-loop
 loop-less c =
     let at-test = c .before .before .before .before .before .before .before in
-    let at-loop = at-test .before .before in
-    let a = at-loop .before .before .before .before .before .before .before .before .before .before .before .args in
-    let l = at-loop .loop in
-    measure-falls (a .table .now) (a .t) (a .n) _ _ (l .log) (l .scratch) (l .base) (l .round) (l .count) (l .inv) (sym (at-test .before .goes-on .ensures) ∙ at-test .if1 .taken)
+    measure-falls (at-test .before .before .loop .inv) (at-test .before .goes-on .ensures) (at-test .if1 .taken)
 
 loop-again : tie.Need-loop-again Inv-loop μ-loop
 loop-again c =
     let at-round = c .before .before .before .before in
     let at-test = at-round .before .before .before in
-    let at-loop = at-test .before .before in
-    let a = at-loop .before .before .before .before .before .before .before .before .before .before .before .args in
-    let l = at-loop .loop in
-    saturating-turn (a .table .now) (a .t) (a .n) _ _ (l .log) (l .scratch) (l .base) (l .round) (l .count) (l .inv) (sym (at-test .before .goes-on .ensures) ∙ at-test .if1 .taken)
-    (at-round .add-round2 .result) _ _ (at-round .add-round2 .ensures)
+    saturating-turn (at-test .before .before .loop .inv) (at-test .before .goes-on .ensures) (at-test .if1 .taken) (at-round .add-round2 .ensures)
 
 returns : tie.Need-returns Inv-loop μ-loop
 returns c =
     let at-loop = c .before .before .before in
     let first = at-loop .before .before .before .before .before .add-round .ensures in
-    let a = at-loop .before .before .before .before .before .before .before .before .before .before .before .args in
-    let l = at-loop .loop in
-    saturating-full (a .table .now) (a .t) (a .n) _ _ (l .log) (l .scratch) (l .base) (l .round) (l .count) (l .inv) (a .log .now) (a .scratch .now) (first .log-length) (first .scratch-length)
-    (c .if2 .taken)
+    saturating-full (at-loop .loop .inv) (c .before .before .goes-on .ensures) (first .log-length) (first .scratch-length) (c .if2 .taken)
 
 returns-2 : tie.Need-returns-2 Inv-loop μ-loop
 returns-2 c =
     let at-loop = c .before .before .before in
     let first = at-loop .before .before .before .before .before .add-round .ensures in
-    let a = at-loop .before .before .before .before .before .before .before .before .before .before .before .args in
-    let l = at-loop .loop in
-    saturating-limit (a .table .now) (a .t) (a .n) _ _ (l .log) (l .scratch) (l .base) (l .round) (l .count) (l .inv) (sym (c .before .before .goes-on .ensures) ∙ c .before .if1 .left) (c .if2 .left)
-    (a .log .now) (a .scratch .now) (first .log-length) (first .scratch-length)
+    saturating-limit (at-loop .loop .inv) (c .before .before .goes-on .ensures) (c .before .if1 .left) (c .if2 .left) (first .log-length) (first .scratch-length)
 
 pub add-rounds-spec : {M : Type 1} → statement M
 add-rounds-spec =

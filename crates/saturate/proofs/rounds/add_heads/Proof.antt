@@ -1,5 +1,4 @@
 -- Head after head of the active positions, the round has come to its end (RoundSteps).
-use mathlib.Core.Path.{sym, _∙_}
 use Prim.Native.Nat.{_-_}
 use native.Mathlib.Omega.{arith}
 use borrow.Author.Needs.{needs}
@@ -17,51 +16,30 @@ next-active-requires : tie.Need-next-active-requires Inv-loop μ-loop
 next-active-requires c κs = omega (arith, c .before .before .before .before .pre .room .room)
 
 loop-holds : tie.Need-loop-holds Inv-loop μ-loop
-loop-holds c =
-    let entry = c .before .before .before .before .before in
-    let a = entry .args in
-    heads-start (a .table .now) (a .t) (a .round) (a .log .now) (a .scratch .now) (entry .pre) (c .next-active .result) (c .next-active .ensures)
+loop-holds c = heads-start (c .before .before .before .before .before .pre) (c .next-active .ensures)
 
 add-head-requires : tie.Need-add-head-requires Inv-loop μ-loop
 add-head-requires c κs =
     let at-test = c .before .before in
-    let at-loop = at-test .before .before in
-    let a = at-loop .before .before .before .before .before .before .args in
-    let l = at-loop .loop in
-    let goes = sym (at-test .before .goes-on .ensures) ∙ at-test .if1 .taken in (
-      l .inv .standing,
-      below (a .table .now) (a .t) (a .round) _ _ (l .at .position) (l .at .count) (l .log) (l .scratch) (l .inv) goes,
-      head-active (a .table .now) (a .t) (a .round) _ _ (l .at .position) (l .at .count) (l .log) (l .scratch) (l .inv) goes,
-      l .inv .large,
-      fits (a .table .now) (a .t) (a .round) _ _ (l .at .position) (l .at .count) (l .log) (l .scratch) (l .inv) goes,
-    )
+    let is = at-test .before .goes-on .ensures in
+    let goes = at-test .if1 .taken in
+    let inv = at-test .before .before .loop .inv in
+    (inv .standing, below inv is goes, head-active inv is goes, inv .large, fits inv is goes)
 
 loop-less : tie.Need-loop-less Inv-loop μ-loop
 loop-less c =
     let at-head = c .before .before .before .before in
     let at-test = at-head .before .before .before in
-    let at-loop = at-test .before .before in
-    let a = at-loop .before .before .before .before .before .before .args in
-    let l = at-loop .loop in
-    let goes = sym (at-test .before .goes-on .ensures) ∙ at-test .if1 .taken in
-    rules-fewer (a .table .now) (a .t) (a .round) _ _ (l .at .position) (l .at .count) (l .log) (l .scratch) (l .inv) goes (at-head .add-head .result) _ _ (at-head .add-head .ensures)
+    rules-fewer (at-test .before .before .loop .inv) (at-test .before .goes-on .ensures) (at-test .if1 .taken) (at-head .add-head .ensures)
 
 loop-again : tie.Need-loop-again Inv-loop μ-loop
 loop-again c =
     let at-head = c .before .before .before .before in
     let at-test = at-head .before .before .before in
-    let at-loop = at-test .before .before in
-    let a = at-loop .before .before .before .before .before .before .args in
-    let l = at-loop .loop in
-    let goes = sym (at-test .before .goes-on .ensures) ∙ at-test .if1 .taken in
-    heads-turn (a .table .now) (a .t) (a .round) _ _ (l .at .position) (l .at .count) (l .log) (l .scratch) (l .inv) goes (at-head .add-head .result) _ _ (at-head .add-head .ensures)
+    heads-turn (at-test .before .before .loop .inv) (at-test .before .goes-on .ensures) (at-test .if1 .taken) (at-head .add-head .ensures)
 
 returns : tie.Need-returns Inv-loop μ-loop
-returns c =
-    let at-loop = c .before .before in
-    let a = at-loop .before .before .before .before .before .before .args in
-    let l = at-loop .loop in
-    heads-end (a .table .now) (a .t) (a .round) (a .log .now) (a .scratch .now) (l .at .position) (l .at .count) (l .log) (l .scratch) (l .inv) (sym (c .before .goes-on .ensures) ∙ c .if1 .left)
+returns c = heads-end (c .before .before .loop .inv) (c .before .goes-on .ensures) (c .if1 .left)
 
 pub add-heads-spec : {M : Type 1} → statement M
 add-heads-spec =

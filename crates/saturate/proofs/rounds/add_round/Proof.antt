@@ -31,9 +31,7 @@ returns c =
     let at-heads = c .before .before .before .before in
     let at-active = at-heads .before .before .before .before .before in
     let at-append = at-active .before .before .before .before .before .before in
-    let a = at-append .before .before .before .before .before .before .args in
-    added-before (a .table .now) (a .t) (a .base) (a .n) (a .number) (a .log .now) (a .scratch .now) _ (at-heads .add-heads .result) _ _
-    (at-active .set-active .ensures .kept .size ∙ at-append .append .ensures .0 .size) (at-heads .add-heads .ensures)
+    added-before (at-active .set-active .ensures .kept .size ∙ at-append .append .ensures .0 .size) (at-heads .add-heads .ensures)
 
 pub add-round-spec : {M : Type 1} → statement M
 add-round-spec =
