@@ -76,13 +76,16 @@ module _ {table : List ℕ} {t : Table} {round : Round} {log s : List ℕ} (stan
     letter-fresh a f =
         let x = any-place (λ (r : Record). eqb (r .round) (suc m) && eqb (r .key .letter) a) (logAt sys (suc m)) noRecord f in
         let y = recordAt (logAt sys (suc m)) (x .0) in
+        let last = and-left (eqb (y .round) (suc m)) (eqb (y .key .letter) a) (x .2) in
+        let reads = and-right (eqb (y .round) (suc m)) (eqb (y .key .letter) a) (x .2) in
         let same : logAt sys (suc m) ≡ earlierLog table (round .number) = ap (logAt sys) (sym is) in
-        let young : length (logAt sys m) ≤ x .0 = leb-true (length (logAt sys m)) (x .0) (last-round sys m (x .0) (x .1) ∙ and-left (eqb (y .round) (suc m)) (eqb (y .key .letter) a) (x .2)) in
+        let young : length (logAt sys m) ≤ x .0 = leb-true (length (logAt sys m)) (x .0) (last-round sys m (x .0) (x .1) ∙ last) in
         let two : round .number - 2 ≡ m = omega arith in
         let lo-is : round .lo ≡ length (logAt sys m) = stands .last (omega arith) ∙ ap (λ (k : ℕ). length (logAt sys k)) two in
         let inside : x .0 < round .base = omega (arith, x .1, stands .size, ap length same) in
-        let letter : letterAt log (x .0) ≡ a = letter-is table t (stands .holds) (round .base) (round .number) log (record { size = stands .size; bytes = stands .bytes }) (x .0) inside
-        ∙ ap (λ (l : List Record). recordAt l (x .0) .key .letter) (sym same) ∙ eqb-true (y .key .letter) a (and-right (eqb (y .round) (suc m)) (eqb (y .key .letter) a) (x .2)) in
+        let logged : Logged (earlierLog table (round .number)) (round .base) log = record { size = stands .size; bytes = stands .bytes } in
+        let letter : letterAt log (x .0) ≡ a = letter-is table t (stands .holds) (round .base) (round .number) log logged (x .0) inside
+        ∙ ap (λ (l : List Record). recordAt l (x .0) .key .letter) (sym same) ∙ eqb-true (y .key .letter) a reads in
         subst (λ (b : ℕ). hasLetter (round .fresh) b ≡ true) letter (stands .fresh (x .0) (omega arith) inside)
 
     idle-stale : (r : Rule) → isActive round r ≡ false → anyOf (freshIn (logAt sys (suc m)) (suc m)) (r .written) ≡ false
@@ -92,7 +95,8 @@ module _ {table : List ℕ} {t : Table} {round : Round} {log s : List ℕ} (stan
         (λ n. n)
 
     passed-later : Each (Passed sys (suc m) (isActive round)) (sys .rules)
-    passed-later = each-map (Passed sys (suc m) (λ r. anyOf (freshIn (logAt sys (suc m)) (suc m)) (r .written))) (Passed sys (suc m) (isActive round)) (λ r f a. f (idle-stale r a)) (sys .rules) (skip-stale sys m)
+    passed-later = each-map (Passed sys (suc m) (λ r. anyOf (freshIn (logAt sys (suc m)) (suc m)) (r .written))) (Passed sys (suc m) (isActive round))
+        (λ r f a. f (idle-stale r a)) (sys .rules) (skip-stale sys m)
 
   passed-over : Each (Passed sys (round .number - 1) (isActive round)) (sys .rules)
   passed-over = elim (ℕ-discrete (round .number) 1) [
@@ -110,7 +114,8 @@ pub record HeadsPassed (table : List ℕ) (t : Table) (last : List ℕ) (positio
   pub behind : (p : ℕ) → position ≤ p → p < t .rules → inSet s activeAt p ≡ true → lexLess last (headAt table s p) ≡ true
 
 -- before the first active position
-passed-none : (table : List ℕ) (t : Table) → Holds table t → (s : List ℕ) (position : ℕ) → position ≡ firstFrom (inSet s activeAt) 0 (positionCeiling - 0) → HeadsPassed table t [] position s
+passed-none : (table : List ℕ) (t : Table) → Holds table t → (s : List ℕ) (position : ℕ) → position ≡ firstFrom (inSet s activeAt) 0 (positionCeiling - 0)
+    → HeadsPassed table t [] position s
 passed-none table t holds s position e =
     let f = first-at (inSet s activeAt) 0 (positionCeiling - 0) position e in
     record {
@@ -135,7 +140,8 @@ passed-kept table t holds last position s s′ kept h = record {
     head p l = ap (λ (k : ℕ). ruleHead (ruleIn table k)) (kept (orderAt + p) (omega arith) (omega (arith, table-modest table t holds .rules)))
 
 -- on to the next head
-passed-next : (table : List ℕ) (t : Table) (s : List ℕ) → Ordered table (t .rules) s → (p q : ℕ) → p < t .rules → NextHead table t s p q → HeadsPassed table t (headAt table s p) q s
+passed-next : (table : List ℕ) (t : Table) (s : List ℕ) → Ordered table (t .rules) s → (p q : ℕ) → p < t .rules → NextHead table t s p q
+    → HeadsPassed table t (headAt table s p) q s
 passed-next table t s o p q l h = record {
   active = h .active;
   before = λ m a b y. elim (decLt m p) [
@@ -278,7 +284,8 @@ module _ {table : List ℕ} {t : Table} {round : Round} {log₀ s₀ : List ℕ}
       logged-next l =
           let counted : r .count ≡ count + length news = omega (arith, d .counted) in
           record {
-            size = counted ∙ ap₂ _+_ (h .logged fits .size) (sym (length-map news toRecord)) ∙ sym (length-append (logUpTo table (round .number) (h .last)) (map toRecord news)) ∙ ap length (sym records-are);
+            size = counted ∙ ap₂ _+_ (h .logged fits .size) (sym (length-map news toRecord))
+                ∙ sym (length-append (logUpTo table (round .number) (h .last)) (map toRecord news)) ∙ ap length (sym records-are);
             bytes = d .bytes l ∙ ap (λ (bs : List ℕ). bs ++ logBytes (map toRecord news)) (h .logged fits .bytes)
                 ∙ sym (log-append (logUpTo table (round .number) (h .last)) (map toRecord news)) ∙ ap logBytes (sym records-are);
           }
@@ -303,7 +310,8 @@ module _ {table : List ℕ} {t : Table} {round : Round} {log₀ s₀ : List ℕ}
       heads-turn = record {
         last = headAt table s position;
         standing = in-round-kept table t round log s log′ s′ S (d .front) (d .log-length) (d .scratch-length) (d .kept) (d .rings);
-        passed = passed-kept table t (S .holds) (headAt table s position) (r .position) s s′ (d .kept) (passed-next table t s (S .prepared .ordered) position (r .position) below (d .next));
+        passed = passed-kept table t (S .holds) (headAt table s position) (r .position) s s′ (d .kept)
+            (passed-next table t s (S .prepared .ordered) position (r .position) below (d .next));
         logged = logged-next;
         over = over-next;
         large = omega (arith, d .counted, h .large, fits);

@@ -7,7 +7,7 @@ use Prim.Native.Nat.{_*_, _+_, _-_, _<_, _≤_, suc, ℕ}
 use native.Mathlib.Omega.{arith}
 use native.Mathlib.Nat.{not-suc-le-zero}
 use lib.Dec.{leb, ltb}
-use lib.ListN.{drop, length, length-append, length-drop, length-map, take}
+use lib.ListN.{drop, length, length-append, length-drop, take}
 use lib.Seq.{take-at}
 use borrow.Author.Tests.{le-leb, le-ltb, leb-true, lt-ltb, ltb-false, ltb-true}
 use Rattle.model.specs.Log.{Candidate, Record, addedRecord, additions, limit, logAt, saturatedAt}
@@ -106,7 +106,8 @@ module _ {table : List ℕ} {t : Table} {n : ℕ} {log₀ s₀ log s : List ℕ}
       prepared = here-at .prepared;
     }
 
-    pub saturating-turn : {count′ : ℕ} {log′ s′ : List ℕ} → RoundAdded table t count n (round + 1 + 1) log s count′ log′ s′ → Saturating table t n log₀ s₀ log′ s′ count (round + 1) count′
+    pub saturating-turn : {count′ : ℕ} {log′ s′ : List ℕ} → RoundAdded table t count n (round + 1 + 1) log s count′ log′ s′
+        → Saturating table t n log₀ s₀ log′ s′ count (round + 1) count′
     saturating-turn {count′} {log′} c =
         let one : round + 1 ≡ suc round = omega arith in
         let two : round + 1 + 1 ≡ suc (round + 1) = omega arith in
@@ -158,7 +159,8 @@ module _ {table : List ℕ} {t : Table} {n : ℕ} {log₀ s₀ log s : List ℕ}
         (λ m. omega (arith, ltb-false round (saturatedAt sys) n, ltb-false (saturatedAt sys) round m)))
 
     limit-is : logAt sys (suc round) ≡ limit sys
-    limit-is = logAt-suc sys round ∙ ap (λ (cs : List Candidate). logAt sys round ++ map (addedRecord (suc round) (logAt sys round)) cs) (length-zero (additions sys (logAt sys round)) nothing)
+    limit-is = logAt-suc sys round
+        ∙ ap (λ (cs : List Candidate). logAt sys round ++ map (addedRecord (suc round) (logAt sys round)) cs) (length-zero (additions sys (logAt sys round)) nothing)
         ∙ append-nil (logAt sys round) ∙ ap (logAt sys) (sym last-is)
 
     pub saturating-limit : {log₁ s₁ : List ℕ} → length log₀ ≡ length log₁ → length s₀ ≡ length s₁ → SaturatedLimit table n log₁ s₁ count round log s
@@ -197,7 +199,8 @@ module _ (table : List ℕ) (t : Table) (n : ℕ) (holds : Holds table t) where
       bytes-long = length-log (logAt (systemIn table) 0) ∙ ap (λ (k : ℕ). k * recordLength) initial-size
 
       log-kept : length log′ ≡ length log
-      log-kept = ap length written-is ∙ length-append (logBytes (logAt (systemIn table) 0)) (drop (t .transitions * recordLength) log) ∙ omega (arith, bytes-long, length-drop (t .transitions * recordLength) log)
+      log-kept = ap length written-is ∙ length-append (logBytes (logAt (systemIn table) 0)) (drop (t .transitions * recordLength) log)
+          ∙ omega (arith, bytes-long, length-drop (t .transitions * recordLength) log)
 
       -- the scratch has been made ready
       module _ (s″ : List ℕ) (ready : ScratchReady table t n log′ s′ s″) where
@@ -208,7 +211,8 @@ module _ (table : List ℕ) (t : Table) (n : ℕ) (holds : Holds table t) where
           late = omega arith;
           logged = record {
             size = sym initial-size;
-            bytes = ap (take (t .transitions * recordLength)) written-is ∙ take-at (logBytes (logAt (systemIn table) 0)) (drop (t .transitions * recordLength) log) (t .transitions * recordLength) bytes-long;
+            bytes = ap (take (t .transitions * recordLength)) written-is
+                ∙ take-at (logBytes (logAt (systemIn table) 0)) (drop (t .transitions * recordLength) log) (t .transitions * recordLength) bytes-long;
           };
           low = omega arith;
           last = λ l. absurd (omega arith);

@@ -18,11 +18,10 @@ use Rattle.model.proofs.Lists.{each-get, getD-mem}
 use Rattle.model.proofs.RecordBytes.{from-letter, record-from}
 use Rattle.model.proofs.Tests.{by-test}
 use Rattle.automaton.specs.StateSets.{Cleared}
-use Rattle.automaton.specs.StateNumbers.{Over}
 use Rattle.table.specs.declared.Table.{Table}
-use Rattle.table.specs.Reading.{Holds, ruleIn, systemIn}
+use Rattle.table.specs.Reading.{Holds, ruleIn}
 use Rattle.table.proofs.Layouts.{table-modest}
-use Rattle.logs.proofs.Logs.{log-over}
+use Rattle.logs.proofs.Logs.{Keyed, log-over}
 use Rattle.scratch.specs.Regions.{activeAt, countsEnd, orderAt, passedAt, ringsAt, setBytes, writersAt}
 use Rattle.rings.specs.Rings.{Freshened, OutsideSame, Ringed}
 use Rattle.rings.proofs.Rings.{freshened-log, freshened-scratch, ringed-log, ringed-scratch}
@@ -66,9 +65,10 @@ module _ (table : List ℕ) (t : Table) (holds : Holds table t) (s s′ : List �
   }
 
 -- ---- the scratch made ready
-pub scratch-ready : (table : List ℕ) (t : Table) → Holds table t → (n : ℕ) (log s s₁ s₂ s₃ s₄ : List ℕ) → RulesOrdered table (t .rules) s s₁ → WritersMarked table (t .letters) (t .rules) s₁ s₂
-    → Cleared passedAt (passedAt + 1024) s₂ s₃ → OutsideSame n ringsAt s₃ s₄ → Ringed log 0 n ringsAt s₄ → ScratchReady table t n log s s₄
-scratch-ready table t holds n log s s₁ s₂ s₃ s₄ o w c k r = record {
+pub scratch-ready : {table : List ℕ} {t : Table} → Holds table t → {n : ℕ} {log s s₁ s₂ s₃ s₄ : List ℕ} → RulesOrdered table (t .rules) s s₁
+    → WritersMarked table (t .letters) (t .rules) s₁ s₂ → Cleared passedAt (passedAt + 1024) s₂ s₃ → OutsideSame n ringsAt s₃ s₄ → Ringed log 0 n ringsAt s₄
+    → ScratchReady table t n log s s₄
+scratch-ready {table} {t} holds {s₁ = s₁} {s₂ = s₂} {s₄ = s₄} o w c k r = record {
   size = k .size ∙ c .size ∙ w .kept .size ∙ o .size;
   prepared = record {
     ordered = ordered-same table (t .rules) s₁ s₄ (λ p l. early p (omega (arith, few)) ∙ w .kept .outside (orderAt + p) (inl (omega (arith, few)))) (o .ordered);
@@ -122,13 +122,13 @@ module _ (table : List ℕ) (t : Table) (holds : Holds table t) (base number : �
   split = sym (take-append-drop (base * recordLength) log) ∙ ap (λ (l : List ℕ). l ++ drop (base * recordLength) log) (logged .bytes)
 
   pub letter-is : (i : ℕ) → i < base → letterAt log i ≡ recordAt (earlierLog table number) i .key .letter
-  letter-is i l = from-letter log i (recordAt (earlierLog table number) i) _ (record-from (earlierLog table number) (drop (base * recordLength) log) log i split (omega (arith, logged .size)))
+  letter-is i l = from-letter log i (recordAt (earlierLog table number) i) _
+      (record-from (earlierLog table number) (drop (base * recordLength) log) log i split (omega (arith, logged .size)))
 
   letter-small : (i : ℕ) → i < base → letterAt log i < letterCeiling
   letter-small i l =
       let R = earlierLog table number in
-      let k = each-get (λ (x : Record). (x .key .letter < t .letters) × Over (systemIn table .loc (x .key .letter)) (x .key .before) × Over (systemIn table .loc (x .key .letter)) (x .key .after))
-      (recordAt R i) R (log-over table t holds (number - 1)) (getD-mem R i noRecord (omega (arith, logged .size))) in
+      let k = each-get (λ (x : Record). Keyed table t (x .key)) (recordAt R i) R (log-over table t holds (number - 1)) (getD-mem R i noRecord (omega (arith, logged .size))) in
       omega (arith, letter-is i l, k .0, table-modest table t holds .letters)
 
   -- each letter of the table has its own bit
@@ -172,9 +172,9 @@ in-round-kept table t round log s log′ s′ r front l m kept rings = record {
     order : SameIn orderAt activeAt s s′
     order i a b = kept i (omega arith) (omega arith)
 
-module _ (table : List ℕ) (t : Table) (lo base n number : ℕ) (log s : List ℕ) (b : RoundBegins table t lo base n number log s) where
+module _ {table : List ℕ} {t : Table} {lo base n number : ℕ} {log s : List ℕ} (b : RoundBegins table t lo base n number log s) where
   -- the last round's records in rings, their letters gathered, and the positions made active
-  module _ (fresh : ℕ) (s₁ s₂ : List ℕ) (o : OutsideSame n ringsAt s s₁) (letters : FreshLetters log lo base fresh) (a : Activated t number fresh s₁ s₂) where
+  module _ {fresh : ℕ} {s₁ s₂ : List ℕ} (o : OutsideSame n ringsAt s s₁) (letters : FreshLetters log lo base fresh) (a : Activated t number fresh s₁ s₂) where
     abbrev round : Round
     round = record { number = number; lo = lo; base = base; fresh = fresh; n = n }
 

@@ -33,7 +33,8 @@ add-rounds-requires c κs =
     let p = entry .pre in
     let written = at-write .write-initial .ensures in
     let few = ltb-false (a .n) (a .t .transitions) (not-true _ (sym (written .0) ∙ not-false _ (at-test .if1 .left))) in
-    initial-begins (a .table .now) (a .t) (a .n) (p .0) (a .log .now) (a .scratch .now) _ _ (written .1 .1) (written .1 .0) few (p .1) (p .2) (p .3) _ (at-prepare .prepare .ensures)
+    initial-begins (a .table .now) (a .t) (a .n) (p .0) (a .log .now) (a .scratch .now) _ _ (written .1 .1) (written .1 .0) few (p .1) (p .2) (p .3) _
+    (at-prepare .prepare .ensures)
 
 returns-2 : tie.Need-returns-2
 returns-2 c =

@@ -21,10 +21,8 @@ add-heads-requires c κs =
     let at-letters = at-active .before .before in
     let at-append = at-letters .before .before .before .before in
     let entry = at-append .before .before .before .before .before .before in
-    let a = entry .args in
     let rings = at-append .append .ensures in
-    round-stands (a .table .now) (a .t) (a .lo) (a .base) (a .n) (a .number) (a .log .now) (a .scratch .now) (entry .pre) (at-letters .fresh-letters .result) _ _ (rings .0)
-    (at-letters .fresh-letters .ensures) (at-active .set-active .ensures) (rings .1) (rings .2)
+    round-stands (entry .pre) (rings .0) (at-letters .fresh-letters .ensures) (at-active .set-active .ensures) (rings .1) (rings .2)
 
 returns : tie.Need-returns
 returns c =

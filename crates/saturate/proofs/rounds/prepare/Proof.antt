@@ -11,9 +11,8 @@ returns c =
     let at-writers = at-part .before .before .before .before in
     let at-order = at-writers .before .before .before .before in
     let entry = at-order .before .before .before .before .before in
-    let a = entry .args in
-    scratch-ready (a .table .now) (a .t) (entry .pre .0) (a .n) (a .log .now) (a .scratch .now) _ _ _ _ (at-order .order-rules .ensures) (at-writers .mark-writers .ensures)
-    (at-part .clear-part .ensures) (at-clear .clear .ensures .0) (at-clear .clear .ensures .1)
+    scratch-ready (entry .pre .0) (at-order .order-rules .ensures) (at-writers .mark-writers .ensures) (at-part .clear-part .ensures) (at-clear .clear .ensures .0)
+    (at-clear .clear .ensures .1)
 
 pub prepare-spec : {M : Type 1} → statement M
 prepare-spec =
