@@ -53,6 +53,10 @@ pub record Arrived (table : List ℕ) (round : Round) (cs : List Candidate) (cou
   pub kept : (i : ℕ) → seenAt + setBytes ≤ i → i < passedAt + 2 * setBytes → getD s′ i 0 ≡ getD s i 0
   pub outside : (i : ℕ) → passedAt + 12 * setBytes ≤ i → getD s′ i 0 ≡ getD s i 0
 
+-- no active position before p has its head
+abbrev pub Leading : List ℕ → List ℕ → ℕ → Type 0
+Leading table s p = (q : ℕ) → q < p → inSet s activeAt q ≡ true → headAt table s q ≡ headAt table s p → ⊥
+
 -- q is the position of the first active rule behind p that has another head than the rule at p, or there is none
 pub record NextHead (table : List ℕ) (t : Table) (s : List ℕ) (p q : ℕ) : Type 0 where
   pub later : p < q

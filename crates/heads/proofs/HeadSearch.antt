@@ -1,0 +1,303 @@
+-- The search of a head: its active rules one after the other, from its first active position on.
+use mathlib.Core.Path.{_∙_, _≡_, ap, ap₂, refl, subst, sym}
+use mathlib.Core.Bool.{Bool, _&&_, _||_, cond, false, true, true≢false}
+use mathlib.Core.List.{List, [], _++_, _∷_, append-assoc, append-nil, map}
+use Prim.Native.Nat.{_*_, _+_, _-_, _<_, _≤_, min, suc, zero, ℕ}
+use native.Mathlib.Decide.{decLt, ℕ-discrete}
+use native.Mathlib.Omega.{arith}
+use lib.Dec.{eqb, ltb}
+use lib.ListN.{getD, length, length-append, length-map, take}
+use borrow.Author.Tests.{eqb-true, lt-ltb, ltb-true}
+use Rattle.model.specs.declared.Group.{Group}
+use Rattle.model.specs.Groups.{Processes, sameGroup}
+use Rattle.model.specs.Log.{Candidate, Record, addedRecord}
+use Rattle.model.specs.Records.{recordLength}
+use Rattle.model.specs.Systems.{Rule}
+use Rattle.model.specs.Tables.{ruleOf}
+use Rattle.model.proofs.FreshPaths.{filter-append}
+use Rattle.model.proofs.Groups.{sameGroup-true}
+use Rattle.model.proofs.Lists.{map-append}
+use Rattle.model.proofs.RoundGroups.{filter, isHead, isHead-of, isHead-true}
+use Rattle.model.proofs.Tests.{and-left, and-right, by-test}
+use Rattle.automaton.specs.StateNumbers.{stateCount}
+use Rattle.automaton.specs.StateSets.{firstFrom}
+use Rattle.automaton.proofs.StateSets.{First, first-at}
+use Rattle.logs.proofs.Rules.{rule-over}
+use Rattle.packs.specs.Packs.{Bytes, packed}
+use Rattle.packs.proofs.Packs.{same-bits}
+use Rattle.paths.specs.Arrivals.{hit, stored, taken}
+use Rattle.paths.specs.Jobs.{seenIn}
+use Rattle.paths.proofs.Arrivals.{hit-append, or-assoc, or-false, stored-append, stored-capped, stored-earlier, stored-length, taken-append, taken-same}
+use Rattle.rules.specs.Regions.{inSet, positionCeiling}
+use Rattle.rules.specs.Rules.{orderedRule}
+use Rattle.rules.proofs.HeadRuns.{head-candidates, offersOf, runOffers}
+use Rattle.rules.proofs.RuleOrder.{same-between}
+use Rattle.scratch.specs.Regions.{activeAt, passedAt, seenAt, setBytes}
+use Rattle.table.specs.declared.Table.{Table}
+use Rattle.table.specs.Reading.{BitsOf, Holds, ruleIn, systemIn}
+use Rattle.table.proofs.Layouts.{table-modest}
+use Rattle.heads.specs.declared.Head.{Head}
+use Rattle.heads.specs.declared.Reached.{Reached}
+use Rattle.heads.specs.declared.Round.{Round}
+use Rattle.heads.specs.Heads.{Arrived, HeadSearched, Leading, NextHead, beforeOf, letterOf}
+use Rattle.heads.specs.Jobs.{HeadOf, hasHead}
+use Rattle.heads.specs.Rounds.{InRound, earlierLog, headAt, headCandidates, isActive, isOffered, lookedAt, ruleCandidates, ruleOffers}
+use Rattle.heads.proofs.InRounds.{active-kept, order-kept, round-kept}
+use Rattle.heads.proofs.StoredRecords.{over-bytes}
+
+-- ---- candidates that arrive one after the other
+pub arrived-none : (table : List ℕ) (round : Round) (count : ℕ) (log s : List ℕ) → count ≤ round .n + 1 → Arrived table round [] count log s count log s
+arrived-none table round count log s h = record { counted = omega arith; written = refl; seen = λ x l. sym (or-false (seenIn s x)); scratch-length = refl; kept = λ i a b. refl; outside = λ i a. refl }
+
+module _ (table : List ℕ) (round : Round) (cs ds : List Candidate) (count : ℕ) (log s : List ℕ) (count₁ : ℕ) (log₁ s₁ : List ℕ) (count₂ : ℕ) (log₂ s₂ : List ℕ)
+    (a : Arrived table round cs count log s count₁ log₁ s₁) (b : Arrived table round ds count₁ log₁ s₁ count₂ log₂ s₂) where
+  abbrev rec : Candidate → Record
+  rec = addedRecord (round .number) (earlierLog table (round .number))
+
+  all-taken : taken (seenIn s) (cs ++ ds) ≡ taken (seenIn s) cs ++ taken (seenIn s₁) ds
+  all-taken = taken-append (seenIn s) cs ds ∙ ap (λ (l : List Candidate). taken (seenIn s) cs ++ l) (taken-same (λ x. seenIn s x || hit cs x) (seenIn s₁) (λ x h. sym (a .seen x h)) ds)
+
+  count-is : length (taken (seenIn s) (cs ++ ds)) ≡ length (taken (seenIn s) cs) + length (taken (seenIn s₁) ds)
+  count-is = ap length all-taken ∙ length-append (taken (seenIn s) cs) (taken (seenIn s₁) ds)
+
+  pub arrived-both : Arrived table round (cs ++ ds) count log s count₂ log₂ s₂
+  arrived-both = record {
+    counted = omega (arith, a .counted, b .counted, count-is);
+    written = b .written
+        ∙ ap₂ (λ (l : List ℕ) (n : ℕ). stored (round .n) l n (map rec (taken (seenIn s₁) ds))) (a .written) (a .counted)
+        ∙ stored-capped (round .n) (stored (round .n) log count (map rec (taken (seenIn s) cs))) (count + length (taken (seenIn s) cs)) (map rec (taken (seenIn s₁) ds))
+        ∙ ap (λ (n : ℕ). stored (round .n) (stored (round .n) log count (map rec (taken (seenIn s) cs))) (count + n) (map rec (taken (seenIn s₁) ds))) (sym (length-map (taken (seenIn s) cs) rec))
+        ∙ sym (stored-append (round .n) log count (map rec (taken (seenIn s) cs)) (map rec (taken (seenIn s₁) ds)))
+        ∙ ap (stored (round .n) log count) (sym (map-append rec (taken (seenIn s) cs) (taken (seenIn s₁) ds)) ∙ ap (map rec) (sym all-taken));
+    seen = λ x h. b .seen x h ∙ ap (λ (v : Bool). v || hit ds x) (a .seen x h) ∙ or-assoc (seenIn s x) (hit cs x) (hit ds x) ∙ ap (λ (v : Bool). seenIn s x || v) (sym (hit-append cs ds x));
+    scratch-length = b .scratch-length ∙ a .scratch-length;
+    kept = λ i p q. b .kept i p q ∙ a .kept i p q;
+    outside = λ i p. b .outside i p ∙ a .outside i p;
+  }
+
+module _ (table : List ℕ) (t : Table) (round : Round) (cs : List Candidate) (count : ℕ) (log s : List ℕ) (here : InRound table t round log s) (low : round .base ≤ count)
+    (count′ : ℕ) (log′ s′ : List ℕ) (a : Arrived table round cs count log s count′ log′ s′) where
+  pub arrived-front : take (round .base * recordLength) log′ ≡ take (round .base * recordLength) log
+  arrived-front = ap (take (round .base * recordLength)) (a .written)
+      ∙ stored-earlier (round .n) log count (map (addedRecord (round .number) (earlierLog table (round .number))) (taken (seenIn s) cs)) (round .base) low (here .records)
+
+  pub arrived-length : length log′ ≡ length log
+  arrived-length = ap length (a .written) ∙ stored-length (round .n) log count (map (addedRecord (round .number) (earlierLog table (round .number))) (taken (seenIn s) cs)) (here .records)
+
+  pub arrived-count : (round .base ≤ count′) × (count′ ≤ round .n + 1)
+  arrived-count = (omega (arith, a .counted, here .room .fits), omega (arith, a .counted))
+
+  -- the round goes on
+  pub arrived-round : InRound table t round log′ s′
+  arrived-round = round-kept table t (here .holds) s s′ (λ i p q. a .kept i (omega arith) q) round log log′ here arrived-front arrived-length (a .scratch-length) (λ i p. a .outside i (omega arith))
+
+-- ---- positions one after the other
+module _ (loc : ℕ → Processes) (log : List Record) (ok : Rule → Bool) (rs : List Rule) (d : Rule) (at : ℕ → ℕ) where
+  abbrev offers : ℕ → List Candidate
+  offers k = offersOf loc log ok rs d k
+
+  abbrev run : ℕ → ℕ → List Candidate
+  run p m = runOffers loc log ok rs d at p m
+
+  run-snoc : (m p : ℕ) → run p (suc m) ≡ run p m ++ offers (at (p + m))
+  run-snoc zero p = append-nil (offers (at p)) ∙ ap (λ (q : ℕ). offers (at q)) (omega arith)
+  run-snoc (suc m) p = ap (λ (l : List Candidate). offers (at p) ++ l) (run-snoc m (suc p)) ∙ sym (append-assoc (offers (at p)) (run (suc p) m) (offers (at (suc p + m))))
+      ∙ ap (λ (q : ℕ). run p (suc m) ++ offers (at q)) (omega arith)
+
+  -- positions without candidates
+  run-idle : (k m p : ℕ) → ((q : ℕ) → p + m ≤ q → q < p + m + k → offers (at q) ≡ []) → run p (m + k) ≡ run p m
+  run-idle zero m p f = let e : m + 0 ≡ m = omega arith in ap (run p) e
+  run-idle (suc k) m p f =
+      let e : m + suc k ≡ suc (m + k) = omega arith in
+      ap (run p) e ∙ run-snoc (m + k) p ∙ ap (λ (l : List Candidate). run p (m + k) ++ l) (f (p + (m + k)) (omega arith) (omega arith)) ∙ append-nil (run p (m + k)) ∙ run-idle k m p (λ q a b. f q a (omega arith))
+
+  -- up to a position, the last one before it that has some being at most p + m
+  pub run-on : (p m q : ℕ) → p + m ≤ q → ((r : ℕ) → p + m ≤ r → r < q → offers (at r) ≡ []) → run p (q + 1 - p) ≡ run p m ++ offers (at q)
+  run-on p m q l f =
+      let e : q + 1 - p ≡ suc (m + (q - (p + m))) = omega arith in
+      let last : p + (m + (q - (p + m))) ≡ q = omega arith in
+      ap (run p) e ∙ run-snoc (m + (q - (p + m))) p ∙ ap₂ (λ (l : List Candidate) (r : ℕ). l ++ offers (at r)) (run-idle (q - (p + m)) m p (λ r a b. f r a (omega arith))) last
+
+-- ---- the rules of the head
+pub head-parts : (a : ℕ) (b : Group) (r : Rule) → isHead a b r ≡ true → (r .letter ≡ a) × (r .before ≡ b)
+unfolding isHead
+head-parts a b r e = (eqb-true (r .letter) a (and-left (eqb (r .letter) a) (sameGroup (r .before) b) e), sameGroup-true (r .before) b (and-right (eqb (r .letter) a) (sameGroup (r .before) b) e))
+
+module _ (table : List ℕ) (t : Table) (holds : Holds table t) where
+  bytes-before : (k : ℕ) → k < t .rules → Bytes (ruleIn table k .before)
+  bytes-before k l = over-bytes (systemIn table .loc (ruleIn table k .letter)) (ruleIn table k .before) (rule-over table t holds k l .0)
+
+  pub head-test : (head : Head) (h k : ℕ) → HeadOf table h head → h < t .rules → k < t .rules → hasHead table head k ≡ isHead (ruleIn table h .letter) (ruleIn table h .before) (ruleIn table k)
+  unfolding hasHead isHead
+  head-test head h k o a b =
+      ap₂ (λ (x y : ℕ). eqb (ruleIn table k .letter) x && eqb (packed (ruleIn table k .before)) y) (o .letter) (o .before)
+      ∙ ap (λ (v : Bool). eqb (ruleIn table k .letter) (ruleIn table h .letter) && v) (same-bits (ruleIn table k .before) (ruleIn table h .before) (bytes-before k b) (bytes-before h a))
+
+  module _ (round : Round) (head : Head) (from count : ℕ) (log₀ s₀ : List ℕ) (here : InRound table t round log₀ s₀) (within : from < t .rules) (lead : inSet s₀ activeAt from ≡ true) (first : Leading table s₀ from)
+      (of : HeadOf table (orderedRule s₀ from) head) (low : round .base ≤ count) (fits : count ≤ round .n) where
+    abbrev R : List Record
+    R = earlierLog table (round .number)
+
+    abbrev ok : Rule → Bool
+    ok = lookedAt round (letterOf table s₀ from) (beforeOf table s₀ from)
+
+    abbrev found : ℕ → List Candidate
+    found m = runOffers (systemIn table .loc) R ok (systemIn table .rules) (ruleOf []) (orderedRule s₀) from m
+
+    few : t .rules ≤ 200
+    few = table-modest table t holds .rules
+
+    ruled : (p : ℕ) → p < t .rules → orderedRule s₀ p < t .rules
+    ruled p l = here .prepared .ordered .below p l
+
+    -- the rule at an active position is looked at if it has the head; at another position none is
+    active-rule : (p : ℕ) → p < t .rules → inSet s₀ activeAt p ≡ isActive round (ruleIn table (orderedRule s₀ p))
+    active-rule p l = here .active p (omega (arith, few)) ∙ rw (lt-ltb p (t .rules) l)
+
+    idle-none : (p : ℕ) → p < t .rules → inSet s₀ activeAt p ≡ false → offersOf (systemIn table .loc) R ok (systemIn table .rules) (ruleOf []) (orderedRule s₀ p) ≡ []
+    idle-none p l f = rw (sym (active-rule p l) ∙ f)
+
+    looked-offers : (p : ℕ) → p < t .rules → inSet s₀ activeAt p ≡ true → headAt table s₀ p ≡ headAt table s₀ from
+        → offersOf (systemIn table .loc) R ok (systemIn table .rules) (ruleOf []) (orderedRule s₀ p) ≡ ruleCandidates table (round .number) (orderedRule s₀ p)
+    looked-offers p l y e = rw (sym (active-rule p l) ∙ y, isHead-of (letterOf table s₀ from) (beforeOf table s₀ from) (ruleIn table (orderedRule s₀ p)) e)
+
+    -- the m positions from `from` on have been searched, and no position behind them and below `position` is active
+    pub record Searching (log s : List ℕ) (position total : ℕ) : Type 0 where
+      pub m : ℕ
+      pub behind : from + m ≤ position
+      pub begins : m ≡ 0 → position ≡ from
+      pub ruled : from + m ≤ t .rules
+      pub same : (q : ℕ) → from ≤ q → q < from + m → headAt table s₀ q ≡ headAt table s₀ from
+      pub idle : (q : ℕ) → from + m ≤ q → q < position → inSet s₀ activeAt q ≡ false
+      pub active : position < positionCeiling → inSet s₀ activeAt position ≡ true
+      pub inside : position ≤ positionCeiling
+      pub arrived : Arrived table round (filter (isOffered round) (found m)) count log₀ s₀ total log s
+
+    pub searching-start : Searching log₀ s₀ from count
+    searching-start = record {
+      m = 0;
+      behind = omega arith;
+      begins = λ e. refl;
+      ruled = omega arith;
+      same = λ q a b. absurd (omega arith);
+      idle = λ q a b. absurd (omega arith);
+      active = λ l. lead;
+      inside = omega (arith, few);
+      arrived = arrived-none table round count log₀ s₀ (omega arith);
+    }
+
+    module _ (log s : List ℕ) (position total : ℕ) (o : Searching log s position total) where
+      pub searching-round : InRound table t round log s
+      searching-round = arrived-round table t round (filter (isOffered round) (found (o .m))) count log₀ s₀ here low total log s (o .arrived)
+
+      pub searching-count : (round .base ≤ total) × (total ≤ round .n + 1)
+      searching-count = arrived-count table t round (filter (isOffered round) (found (o .m))) count log₀ s₀ here low total log s (o .arrived)
+
+      pub searching-length : length log ≡ length log₀
+      searching-length = arrived-length table t round (filter (isOffered round) (found (o .m))) count log₀ s₀ here low total log s (o .arrived)
+
+      order-same : (p : ℕ) → p < t .rules → orderedRule s p ≡ orderedRule s₀ p
+      order-same p l = order-kept table t holds s₀ s (λ i a b. o .arrived .kept i (omega arith) b) p l
+
+      active-same : (p : ℕ) → p < positionCeiling → inSet s activeAt p ≡ inSet s₀ activeAt p
+      active-same p l = active-kept table t holds s₀ s (λ i a b. o .arrived .kept i (omega arith) b) p l
+
+      -- the test of the loop
+      has-is : position < t .rules → hasHead table head (orderedRule s position) ≡ isHead (letterOf table s₀ from) (beforeOf table s₀ from) (ruleIn table (orderedRule s₀ position))
+      has-is l = ap (hasHead table head) (order-same position l) ∙ head-test head (orderedRule s₀ from) (orderedRule s₀ position) of (ruled from within) (ruled position l)
+
+      module _ (test : (ltb position (t .rules) && hasHead table head (orderedRule s position)) ≡ true) where
+        pub searching-within : position < t .rules
+        searching-within = ltb-true position (t .rules) (and-left (ltb position (t .rules)) (hasHead table head (orderedRule s position)) test)
+
+        is-head : isHead (letterOf table s₀ from) (beforeOf table s₀ from) (ruleIn table (orderedRule s₀ position)) ≡ true
+        is-head = sym (has-is searching-within) ∙ and-right (ltb position (t .rules)) (hasHead table head (orderedRule s position)) test
+
+        same-head : headAt table s₀ position ≡ headAt table s₀ from
+        same-head = isHead-true (letterOf table s₀ from) (beforeOf table s₀ from) (ruleIn table (orderedRule s₀ position)) is-head
+
+        pub searching-rule : orderedRule s position < t .rules
+        searching-rule = rw (order-same position searching-within) (ruled position searching-within)
+
+        pub searching-head : HeadOf table (orderedRule s position) head
+        searching-head = rw (order-same position searching-within) (
+            let parts = head-parts (letterOf table s₀ from) (beforeOf table s₀ from) (ruleIn table (orderedRule s₀ position)) is-head in
+            record {
+              letter = of .letter ∙ sym (parts .0);
+              bits = subst (λ (a : ℕ). BitsOf (systemIn table .loc a) (head .bits)) (sym (parts .0)) (of .bits);
+              before = of .before ∙ ap packed (sym (parts .1));
+            })
+
+        pub searching-turn : (total′ : ℕ) (log′ s′ : List ℕ) (next : ℕ) → Arrived table round (ruleOffers table round (orderedRule s position)) total log s total′ log′ s′
+            → next ≡ firstFrom (inSet s′ activeAt) (position + 1) (positionCeiling - (position + 1)) → Searching log′ s′ next total′
+        searching-turn total′ log′ s′ next d e = record {
+          m = position + 1 - from;
+          behind = omega (arith, next-at .low, o .behind);
+          begins = λ z. absurd (omega (arith, o .behind));
+          ruled = omega (arith, searching-within, o .behind);
+          same = λ q a b. same-between table (t .rules) s₀ (here .prepared .ordered) from position q a (omega (arith, o .behind)) searching-within (sym same-head);
+          idle = λ q a b. sym (active-now q (omega (arith, next-at .high))) ∙ next-at .fails q (omega (arith, o .behind)) b;
+          active = λ l. sym (active-now next l) ∙ next-at .passes (omega (arith, searching-within, few));
+          inside = omega (arith, next-at .high, searching-within, few);
+          arrived = subst (λ (cs : List Candidate). Arrived table round cs count log₀ s₀ total′ log′ s′) (sym candidates-are) all-arrived;
+        }
+          where
+            all-arrived : Arrived table round (filter (isOffered round) (found (o .m)) ++ ruleOffers table round (orderedRule s position)) count log₀ s₀ total′ log′ s′
+            all-arrived = arrived-both table round (filter (isOffered round) (found (o .m))) (ruleOffers table round (orderedRule s position)) count log₀ s₀ total log s total′ log′ s′ (o .arrived) d
+
+            active-now : (p : ℕ) → p < positionCeiling → inSet s′ activeAt p ≡ inSet s₀ activeAt p
+            active-now p l = active-kept table t holds s₀ s′ (λ i a b. all-arrived .kept i (omega arith) b) p l
+
+            next-at : First (inSet s′ activeAt) (position + 1) (positionCeiling - (position + 1)) next
+            next-at = first-at (inSet s′ activeAt) (position + 1) (positionCeiling - (position + 1)) next e
+
+            candidates-are : filter (isOffered round) (found (position + 1 - from)) ≡ filter (isOffered round) (found (o .m)) ++ ruleOffers table round (orderedRule s position)
+            candidates-are =
+                ap (filter (isOffered round)) (run-on (systemIn table .loc) R ok (systemIn table .rules) (ruleOf []) (orderedRule s₀) from (o .m) position (o .behind) (λ q a b. idle-none q (omega (arith, searching-within)) (o .idle q a b))
+                ∙ ap (λ (cs : List Candidate). found (o .m) ++ cs) (looked-offers position searching-within (o .active (omega (arith, searching-within, few))) same-head))
+                ∙ filter-append (isOffered round) (found (o .m)) (ruleCandidates table (round .number) (orderedRule s₀ position))
+                ∙ ap (λ (k : ℕ). filter (isOffered round) (found (o .m)) ++ ruleOffers table round k) (sym (order-same position searching-within))
+
+      module _ (test : (ltb position (t .rules) && hasHead table head (orderedRule s position)) ≡ false) where
+        other-head : position < t .rules → headAt table s₀ position ≡ headAt table s₀ from → ⊥
+        other-head l e = true≢false (sym (has-is l ∙ isHead-of (letterOf table s₀ from) (beforeOf table s₀ from) (ruleIn table (orderedRule s₀ position)) e) ∙ rw (lt-ltb position (t .rules) l) at test)
+
+        is-later : from < position
+        is-later = elim (ℕ-discrete (o .m) 0) [
+          | yes e ↦
+              let is : position ≡ from = o .begins e in
+              absurd (other-head (omega arith) (ap (headAt table s₀) is))
+          | no e ↦ omega (arith, o .behind, e)
+        ]
+
+        -- a rule that is looked at stands at one of the positions searched
+        looked-inside : (q : ℕ) → q < t .rules → ok (ruleIn table (orderedRule s₀ q)) ≡ true → (from ≤ q) × (q < from + o .m)
+        looked-inside q l y = (
+          elim (decLt q from) [ yes h ↦ absurd (first q h lit same) | no h ↦ omega arith ],
+          elim (decLt q (from + o .m)) [
+            | yes h ↦ h
+            | no h ↦ absurd (elim (decLt q position) [
+              | yes b ↦ true≢false (sym lit ∙ o .idle q (omega arith) b)
+              | no b ↦ other-head (omega arith) (same-between table (t .rules) s₀ (here .prepared .ordered) from q position (omega (arith, is-later)) (omega arith) l (sym same))
+            ])
+          ],
+        )
+          where
+            lit : inSet s₀ activeAt q ≡ true
+            lit = active-rule q l ∙ and-left (isActive round (ruleIn table (orderedRule s₀ q))) (isHead (letterOf table s₀ from) (beforeOf table s₀ from) (ruleIn table (orderedRule s₀ q))) y
+
+            same : headAt table s₀ q ≡ headAt table s₀ from
+            same = isHead-true (letterOf table s₀ from) (beforeOf table s₀ from) (ruleIn table (orderedRule s₀ q))
+                (and-right (isActive round (ruleIn table (orderedRule s₀ q))) (isHead (letterOf table s₀ from) (beforeOf table s₀ from) (ruleIn table (orderedRule s₀ q))) y)
+
+        pub searching-end : HeadSearched table t round from count log₀ s₀ (record { position = position; count = total }) log s
+        searching-end = record {
+          next = record {
+            later = is-later;
+            active = λ l. o .active (omega (arith, few));
+            same = λ r a b l y. elim (decLt r (from + o .m)) [ yes h ↦ o .same r a h | no h ↦ absurd (true≢false (sym y ∙ o .idle r (omega arith) b)) ];
+            other = other-head;
+          };
+          arrived = subst (λ (cs : List Candidate). Arrived table round (filter (isOffered round) cs) count log₀ s₀ total log s)
+              (sym (head-candidates table t holds s₀ (here .prepared .ordered) (systemIn table .loc) R ok from (o .m) (o .ruled) (o .same) looked-inside)) (o .arrived);
+        }

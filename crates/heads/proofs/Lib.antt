@@ -1,0 +1,12 @@
+pub mod Taken
+pub mod StoredRecords
+pub mod CandidateOrder
+pub mod InOrder
+pub mod HeadOrder
+pub mod Matching
+pub mod RuleSearch
+pub mod InRounds
+pub mod HeadSearch
+pub mod HeadEnds
+pub mod Clearing
+pub mod Words
