@@ -36,7 +36,7 @@ use Rattle.rules.proofs.RegionLaws.{in-same}
 use Rattle.rules.proofs.RuleOrder.{heads-rise, same-between}
 use Rattle.heads.specs.declared.Reached.{Reached}
 use Rattle.heads.specs.declared.Round.{Round}
-use Rattle.heads.specs.Heads.{HeadAdded, NextHead, beforeOf, letterOf}
+use Rattle.heads.specs.Heads.{HeadAdded, Leading, NextHead, beforeOf, letterOf}
 use Rattle.heads.specs.Rounds.{InRound, earlierLog, headAdditions, headAt, isActive}
 use Rattle.saturate.specs.Rounds.{Logged, RoundAdded}
 use Rattle.saturate.proofs.ScratchParts.{SameIn, in-round-kept, letter-is, preparedEnd}
@@ -261,6 +261,10 @@ module _ {table : List ℕ} {t : Table} {round : Round} {log₀ s₀ : List ℕ}
 
     pub head-active : inSet s activeAt position ≡ true
     head-active = h .passed .active below
+
+    -- it is the first position of its head
+    pub head-leading : Leading table s position
+    head-leading q l y e = true≢false (sym (h .passed .behind position (omega arith) below head-active) ∙ ap (lexLess (h .last)) (sym e) ∙ h .passed .before q l (omega (arith, below)) y)
 
     abbrev news : List Candidate
     news = headAdditions table round (letterOf table s position) (beforeOf table s position)

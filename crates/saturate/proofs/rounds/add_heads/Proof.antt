@@ -2,7 +2,7 @@
 use Prim.Native.Nat.{_-_}
 use native.Mathlib.Omega.{arith}
 use borrow.Author.Needs.{needs}
-use Rattle.saturate.proofs.RoundSteps.{HeadsAdded, below, fits, head-active, heads-end, heads-start, heads-turn, rules-fewer}
+use Rattle.saturate.proofs.RoundSteps.{HeadsAdded, below, fits, head-active, head-leading, heads-end, heads-start, heads-turn, rules-fewer}
 use Rattle.saturate.proofs.rounds.add_heads.Statement.{statement}
 use Rattle.saturate.proofs.rounds.add_heads.Tie as tie
 
@@ -24,7 +24,7 @@ add-head-requires c κs =
     let is = at-test .before .goes-on .ensures in
     let goes = at-test .if1 .taken in
     let inv = at-test .before .before .loop .inv in
-    (inv .standing, below inv is goes, head-active inv is goes, inv .large, fits inv is goes)
+    (inv .standing, below inv is goes, head-active inv is goes, head-leading inv is goes, inv .large, fits inv is goes)
 
 loop-less : tie.Need-loop-less Inv-loop μ-loop
 loop-less c =
