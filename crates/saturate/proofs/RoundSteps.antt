@@ -3,7 +3,7 @@ use mathlib.Core.Path.{_≡_, refl, ap, ap₂, subst, sym, _∙_}
 use mathlib.Core.Bool.{Bool, true, false, true≢false, _&&_}
 use mathlib.Core.Logic.{⊎-elim}
 use mathlib.Core.List.{List, List·Memᴰ, [], _∷_, _++_, append-assoc, append-nil, map}
-use Prim.Native.Nat.{ℕ, suc, _+_, _-_, _*_, _/_, _<_, _≤_}
+use Prim.Native.Nat.{ℕ, suc, _+_, _-_, _*_, _<_, _≤_}
 use native.Mathlib.Decide.{ℕ-discrete, decLt}
 use native.Mathlib.Omega.{arith}
 use lib.Dec.{eqb, leb, ltb}
@@ -29,17 +29,17 @@ use Rattle.table.specs.Reading.{Holds, ruleIn, systemIn}
 use Rattle.table.proofs.Layouts.{table-modest}
 use Rattle.logs.proofs.Logs.{skip-stale}
 use Rattle.logs.proofs.Rules.{each-by-elem, rule-number}
-use Rattle.scratch.specs.Regions.{activeAt, countsEnd, orderAt}
+use Rattle.scratch.specs.Regions.{activeAt}
 use Rattle.rules.specs.Regions.{inSet, positionCeiling}
 use Rattle.rules.specs.Rules.{Ordered, hasLetter, orderedRule}
-use Rattle.rules.proofs.RegionLaws.{in-same}
 use Rattle.rules.proofs.RuleOrder.{heads-rise, same-between}
 use Rattle.heads.specs.declared.Reached.{Reached}
 use Rattle.heads.specs.declared.Round.{Round}
 use Rattle.heads.specs.Heads.{HeadAdded, Leading, NextHead, beforeOf, letterOf}
 use Rattle.heads.specs.Rounds.{InRound, earlierLog, headAdditions, headAt, isActive}
+use Rattle.heads.proofs.InRounds.{Keeps, active-kept, order-kept, round-kept}
 use Rattle.saturate.specs.Rounds.{Logged, RoundAdded}
-use Rattle.saturate.proofs.ScratchParts.{SameIn, in-round-kept, letter-is, preparedEnd}
+use Rattle.saturate.proofs.ScratchParts.{letter-is}
 
 -- ---- lists
 filter-short : {A : Type 0} (f : A → Bool) (xs : List A) → length (filter f xs) ≤ length xs
@@ -125,19 +125,19 @@ passed-none table t holds s position e =
     }
 
 -- any scratch with the same order and active positions
-passed-kept : (table : List ℕ) (t : Table) → Holds table t → (last : List ℕ) (position : ℕ) (s s′ : List ℕ) → SameIn countsEnd preparedEnd s s′
-    → HeadsPassed table t last position s → HeadsPassed table t last position s′
-passed-kept table t holds last position s s′ kept h = record {
+passed-kept : (table : List ℕ) (t : Table) → Holds table t → (last : List ℕ) (position : ℕ) (s s′ : List ℕ) → Keeps s s′ → HeadsPassed table t last position s
+    → HeadsPassed table t last position s′
+passed-kept table t holds last position s s′ keeps h = record {
   active = λ l. same position l ∙ h .active l;
   before = λ p a b y. ap (lexLess last) (head p b) ∙ h .before p a b (sym (same p b) ∙ y);
   behind = λ p a b y. ap (lexLess last) (head p b) ∙ h .behind p a b (sym (same p b) ∙ y);
 }
   where
     same : (p : ℕ) → p < t .rules → inSet s′ activeAt p ≡ inSet s activeAt p
-    same p l = in-same s s′ activeAt p (kept (activeAt + p / 8) (omega arith) (omega (arith, table-modest table t holds .rules)))
+    same p l = active-kept table t holds s s′ keeps p (omega (arith, table-modest table t holds .rules))
 
     head : (p : ℕ) → p < t .rules → headAt table s′ p ≡ headAt table s p
-    head p l = ap (λ (k : ℕ). ruleHead (ruleIn table k)) (kept (orderAt + p) (omega arith) (omega (arith, table-modest table t holds .rules)))
+    head p l = ap (λ (k : ℕ). ruleHead (ruleIn table k)) (order-kept table t holds s s′ keeps p l)
 
 -- on to the next head
 passed-next : (table : List ℕ) (t : Table) (s : List ℕ) → Ordered table (t .rules) s → (p q : ℕ) → p < t .rules → NextHead table t s p q
@@ -313,7 +313,7 @@ module _ {table : List ℕ} {t : Table} {round : Round} {log₀ s₀ : List ℕ}
       pub heads-turn : HeadsAdded table t round log₀ s₀ (r .position) (r .count) log′ s′
       heads-turn = record {
         last = headAt table s position;
-        standing = in-round-kept table t round log s log′ s′ S (d .front) (d .log-length) (d .scratch-length) (d .kept) (d .rings);
+        standing = round-kept table t (S .holds) s s′ (d .kept) round log log′ S (d .front) (d .log-length) (d .scratch-length) (d .rings);
         passed = passed-kept table t (S .holds) (headAt table s position) (r .position) s s′ (d .kept)
             (passed-next table t s (S .prepared .ordered) position (r .position) below (d .next));
         logged = logged-next;

@@ -1,4 +1,4 @@
--- The scratch of a round: made ready, its letters gathered, and kept by what a head changes.
+-- The scratch of a round: made ready, the letters of the last round gathered, and its rules made active.
 use mathlib.Core.Path.{_≡_, ap, subst, sym, _∙_}
 use mathlib.Core.Bool.{true, _&&_}
 use mathlib.Core.Logic.{inl, inr}
@@ -10,7 +10,7 @@ use native.Mathlib.Omega.{arith}
 use lib.Pow.{pow-lt, pow-pos}
 use lib.Bits.{bitOr}
 use lib.Dec.{ltb}
-use lib.ListN.{drop, getD, length, take, take-append-drop}
+use lib.ListN.{drop, getD, take-append-drop}
 use borrow.Author.Tests.{eq-eqb, ltb-true, ne-eqb}
 use Rattle.model.specs.Log.{Record, noRecord, recordAt}
 use Rattle.model.specs.Records.{letterAt, logBytes, recordLength}
@@ -22,13 +22,11 @@ use Rattle.table.specs.declared.Table.{Table}
 use Rattle.table.specs.Reading.{Holds, ruleIn}
 use Rattle.table.proofs.Layouts.{table-modest}
 use Rattle.logs.proofs.Logs.{Keyed, log-over}
-use Rattle.scratch.specs.Regions.{activeAt, countsEnd, orderAt, passedAt, ringsAt, setBytes, writersAt}
+use Rattle.scratch.specs.Regions.{activeAt, orderAt, passedAt, ringsAt, setBytes, writersAt}
 use Rattle.rings.specs.Rings.{Freshened, OutsideSame, Ringed}
-use Rattle.rings.proofs.Rings.{freshened-log, freshened-scratch, ringed-log, ringed-scratch}
-use Rattle.packs.specs.Packs.{packedBefore}
-use Rattle.paths.proofs.Glances.{before-same, letter-same}
+use Rattle.rings.proofs.Rings.{freshened-scratch, ringed-scratch}
 use Rattle.rules.specs.Regions.{inSet, positionCeiling}
-use Rattle.rules.specs.Rules.{RulesOrdered, Writers, WritersMarked, hasLetter, letterCeiling, orderedRule, ruleCeiling, writersOf, writesLetter}
+use Rattle.rules.specs.Rules.{RulesOrdered, Writers, WritersMarked, hasLetter, letterCeiling, orderedRule, writersOf, writesLetter}
 use Rattle.rules.proofs.ActivePositions.{gathered-active}
 use Rattle.rules.proofs.RegionLaws.{bit-or, in-same}
 use Rattle.rules.proofs.RuleOrder.{ordered-same}
@@ -37,12 +35,8 @@ use Rattle.heads.specs.Rounds.{InRound, Prepared, earlierLog, isActive}
 use Rattle.saturate.specs.Rounds.{Activated, FreshLetters, LetterIn, Logged, RoundBegins, ScratchReady}
 
 -- the bytes from one offset on and below another are the same
-abbrev pub SameIn : ℕ → ℕ → List ℕ → List ℕ → Type 0
+abbrev SameIn : ℕ → ℕ → List ℕ → List ℕ → Type 0
 SameIn from to s s′ = (i : ℕ) → from ≤ i → i < to → getD s′ i 0 ≡ getD s i 0
-
--- where the set of passed states at the first depth ends
-abbrev pub preparedEnd : ℕ
-preparedEnd = passedAt + 2 * setBytes
 
 -- ---- the rules in order
 module _ (table : List ℕ) (t : Table) (holds : Holds table t) (s s′ : List ℕ) where
@@ -57,7 +51,8 @@ module _ (table : List ℕ) (t : Table) (holds : Holds table t) (s s′ : List �
         (λ f. rw f);
   }
 
-  pub prepared-kept : SameIn orderAt activeAt s s′ → SameIn writersAt preparedEnd s s′ → Prepared table t s → Prepared table t s′
+  -- the active positions, which stand between the order and the sets of writers, may change
+  prepared-kept : SameIn orderAt activeAt s s′ → SameIn writersAt (passedAt + 2 * setBytes) s s′ → Prepared table t s → Prepared table t s′
   prepared-kept order rest p = record {
     ordered = ordered-same table (t .rules) s s′ (order-kept order) (p .ordered);
     writers = writers-kept order (λ i a b. rest i a (omega arith)) (p .writers);
@@ -71,7 +66,7 @@ pub scratch-ready : {table : List ℕ} {t : Table} → Holds table t → {n : �
 scratch-ready {table} {t} holds {s₁ = s₁} {s₂ = s₂} {s₄ = s₄} o w c k r = record {
   size = k .size ∙ c .size ∙ w .kept .size ∙ o .size;
   prepared = record {
-    ordered = ordered-same table (t .rules) s₁ s₄ (λ p l. early p (omega (arith, few)) ∙ w .kept .outside (orderAt + p) (inl (omega (arith, few)))) (o .ordered);
+    ordered = ordered-same table (t .rules) s₁ s₄ (λ p l. same (orderAt + p) (omega (arith, few)) ∙ w .kept .outside (orderAt + p) (inl (omega (arith, few)))) (o .ordered);
     writers = writers-kept table t holds s₂ s₄ (λ i a b. same i (omega arith)) (λ i a b. same i b) (w .writers);
     first-depth = λ i a b. k .before i (omega arith) ∙ c .zero i a (omega arith);
   };
@@ -83,9 +78,6 @@ scratch-ready {table} {t} holds {s₁ = s₁} {s₂ = s₂} {s₄ = s₄} o w c 
 
     same : (i : ℕ) → i < passedAt → getD s₄ i 0 ≡ getD s₂ i 0
     same i l = k .before i (omega arith) ∙ c .before i l
-
-    early : (p : ℕ) → p < ruleCeiling → orderedRule s₄ p ≡ orderedRule s₂ p
-    early p l = same (orderAt + p) (omega arith)
 
 -- ---- letters
 power-bit : (k : ℕ) → hasLetter (2 ^ k) k ≡ true
@@ -138,70 +130,36 @@ module _ (table : List ℕ) (t : Table) (holds : Holds table t) (base number : �
       subst (λ (x : ℕ). hasLetter fresh x ≡ true) e (f i a b)
 
 -- ---- the round stands
--- a head leaves the records of the earlier rounds, the rules, the active positions and the rings
-pub in-round-kept : (table : List ℕ) (t : Table) (round : Round) (log s log′ s′ : List ℕ) → InRound table t round log s
-    → take (round .base * recordLength) log′ ≡ take (round .base * recordLength) log → length log′ ≡ length log → length s′ ≡ length s
-    → SameIn countsEnd preparedEnd s s′ → ((i : ℕ) → ringsAt ≤ i → getD s′ i 0 ≡ getD s i 0) → InRound table t round log′ s′
-in-round-kept table t round log s log′ s′ r front l m kept rings = record {
-  holds = r .holds;
-  begun = r .begun;
-  late = r .late;
-  size = r .size;
-  bytes = front ∙ r .bytes;
-  records = omega (arith, r .records);
-  low = r .low;
-  last = r .last;
-  fresh = λ i a b. ap (hasLetter (round .fresh)) (letters i b) ∙ r .fresh i a b;
-  room = record { fits = r .room .fits; short = r .room .short; records = omega (arith, r .room .records); room = omega (arith, r .room .room) };
-  ringed = ringed-log log log′ (round .base) (round .n) ringsAt s′ letters states (r .room .fits)
-      (ringed-scratch log (round .base) (round .n) ringsAt s s′ (r .room .fits) (λ i a b. rings i a) (r .ringed));
-  freshened = freshened-log log log′ (round .base) (round .n) ringsAt s′ letters states (round .lo) (r .low)
-      (freshened-scratch log (round .lo) (round .base) (round .n) ringsAt s s′ (λ i a b. rings i a) (r .freshened));
-  prepared = prepared-kept table t (r .holds) s s′ order (λ i a b. kept i (omega arith) b) (r .prepared);
-  active = λ p b. in-same s s′ activeAt p (kept (activeAt + p / 8) (omega arith) (omega arith)) ∙ r .active p b ∙ by-test (ltb p (t .rules))
-      (λ y. rw y (ap (λ (k : ℕ). isActive round (ruleIn table k)) (sym (order-kept table t (r .holds) s s′ order p (ltb-true p (t .rules) y)))))
-      (λ f. rw f);
-}
-  where
-    letters : (i : ℕ) → i < round .base → letterAt log′ i ≡ letterAt log i
-    letters = letter-same log log′ (round .base) front
+-- the last round's records are in rings, their letters gathered, and the positions made active
+module _ {table : List ℕ} {t : Table} {lo base n number : ℕ} {log s : List ℕ} {fresh : ℕ} {s₁ s₂ : List ℕ} (b : RoundBegins table t lo base n number log s)
+    (o : OutsideSame n ringsAt s s₁) (letters : FreshLetters log lo base fresh) (a : Activated t number fresh s₁ s₂) where
+  abbrev round : Round
+  round = record { number = number; lo = lo; base = base; fresh = fresh; n = n }
 
-    states : (i : ℕ) → i < round .base → packedBefore log′ i ≡ packedBefore log i
-    states = before-same log log′ (round .base) front
+  prepared-rings : Prepared table t s₁
+  prepared-rings = prepared-kept table t (b .holds) s s₁ (λ i p q. o .before i (omega arith)) (λ i p q. o .before i (omega arith)) (b .prepared)
 
-    order : SameIn orderAt activeAt s s′
-    order i a b = kept i (omega arith) (omega arith)
+  looked-at : (p : ℕ) → p < positionCeiling → inSet s₂ activeAt p ≡ (ltb p (t .rules) && isActive round (ruleIn table (orderedRule s₂ p)))
+  unfolding isActive
+  looked-at p l = elim (ℕ-discrete number 1) [
+    | yes e ↦ a .first e .positions p l ∙ rw (eq-eqb number 1 e) (by-test (ltb p (t .rules)) (λ y. rw y) (λ f. rw f))
+    | no e ↦ gathered-active table t (b .holds) fresh s₁ s₂ (prepared-rings .writers) (prepared-rings .ordered) (a .later e) .positions p l ∙ rw (ne-eqb number 1 e)
+  ]
 
-module _ {table : List ℕ} {t : Table} {lo base n number : ℕ} {log s : List ℕ} (b : RoundBegins table t lo base n number log s) where
-  -- the last round's records in rings, their letters gathered, and the positions made active
-  module _ {fresh : ℕ} {s₁ s₂ : List ℕ} (o : OutsideSame n ringsAt s s₁) (letters : FreshLetters log lo base fresh) (a : Activated t number fresh s₁ s₂) where
-    abbrev round : Round
-    round = record { number = number; lo = lo; base = base; fresh = fresh; n = n }
-
-    prepared-rings : Prepared table t s₁
-    prepared-rings = prepared-kept table t (b .holds) s s₁ (λ i p q. o .before i (omega arith)) (λ i p q. o .before i (omega arith)) (b .prepared)
-
-    looked-at : (p : ℕ) → p < positionCeiling → inSet s₂ activeAt p ≡ (ltb p (t .rules) && isActive round (ruleIn table (orderedRule s₂ p)))
-    unfolding isActive
-    looked-at p l = elim (ℕ-discrete number 1) [
-      | yes e ↦ a .first e .positions p l ∙ rw (eq-eqb number 1 e) (by-test (ltb p (t .rules)) (λ y. rw y) (λ f. rw f))
-      | no e ↦ gathered-active table t (b .holds) fresh s₁ s₂ (prepared-rings .writers) (prepared-rings .ordered) (a .later e) .positions p l ∙ rw (ne-eqb number 1 e)
-    ]
-
-    pub round-stands : Ringed log base n ringsAt s₁ → Freshened log lo base n ringsAt s₁ → InRound table t round log s₂
-    round-stands r f = record {
-      holds = b .holds;
-      begun = b .begun;
-      late = b .late;
-      size = b .logged .size;
-      bytes = b .logged .bytes;
-      records = b .room;
-      low = b .low;
-      last = b .last;
-      fresh = letters-fresh table t (b .holds) base number log (b .logged) lo fresh letters;
-      room = record { fits = b .fits; short = b .short; records = omega (arith, b .fits, b .room); room = omega (arith, b .scratch, o .size, a .kept .size) };
-      ringed = ringed-scratch log base n ringsAt s₁ s₂ (b .fits) (λ i p q. a .kept .outside i (inr (omega arith))) r;
-      freshened = freshened-scratch log lo base n ringsAt s₁ s₂ (λ i p q. a .kept .outside i (inr (omega arith))) f;
-      prepared = prepared-kept table t (b .holds) s₁ s₂ (λ i p q. a .kept .outside i (inl q)) (λ i p q. a .kept .outside i (inr (omega arith))) prepared-rings;
-      active = looked-at;
-    }
+  pub round-stands : Ringed log base n ringsAt s₁ → Freshened log lo base n ringsAt s₁ → InRound table t round log s₂
+  round-stands r f = record {
+    holds = b .holds;
+    begun = b .begun;
+    late = b .late;
+    size = b .logged .size;
+    bytes = b .logged .bytes;
+    records = b .room;
+    low = b .low;
+    last = b .last;
+    fresh = letters-fresh table t (b .holds) base number log (b .logged) lo fresh letters;
+    room = record { fits = b .fits; short = b .short; records = omega (arith, b .fits, b .room); room = omega (arith, b .scratch, o .size, a .kept .size) };
+    ringed = ringed-scratch log base n ringsAt s₁ s₂ (b .fits) (λ i p q. a .kept .outside i (inr (omega arith))) r;
+    freshened = freshened-scratch log lo base n ringsAt s₁ s₂ (λ i p q. a .kept .outside i (inr (omega arith))) f;
+    prepared = prepared-kept table t (b .holds) s₁ s₂ (λ i p q. a .kept .outside i (inl q)) (λ i p q. a .kept .outside i (inr (omega arith))) prepared-rings;
+    active = looked-at;
+  }
