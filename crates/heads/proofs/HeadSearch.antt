@@ -301,3 +301,66 @@ module _ (table : List ℕ) (t : Table) (holds : Holds table t) where
           arrived = subst (λ (cs : List Candidate). Arrived table round (filter (isOffered round) cs) count log₀ s₀ total log s)
               (sym (head-candidates table t holds s₀ (here .prepared .ordered) (systemIn table .loc) R ok from (o .m) (o .ruled) (o .same) looked-inside)) (o .arrived);
         }
+
+-- ---- the loop, with what the function was called with
+pub record Loop (table : List ℕ) (t : Table) (round : Round) (head : Head) (from count : ℕ) (log₀ s₀ log s : List ℕ) (position total : ℕ) : Type 0 where
+  pub here : InRound table t round log₀ s₀
+  pub within : from < t .rules
+  pub lead : inSet s₀ activeAt from ≡ true
+  pub first : Leading table s₀ from
+  pub of : HeadOf table (orderedRule s₀ from) head
+  pub low : round .base ≤ count
+  pub fits : count ≤ round .n
+  pub searching : Searching table t (here .holds) round head from count log₀ s₀ here within lead first of low fits log s position total
+
+pub loop-start : (table : List ℕ) (t : Table) (round : Round) (head : Head) (from count : ℕ) (log s : List ℕ) → InRound table t round log s → from < t .rules → inSet s activeAt from ≡ true → Leading table s from
+    → HeadOf table (orderedRule s from) head → round .base ≤ count → count ≤ round .n → Loop table t round head from count log s log s from count
+loop-start table t round head from count log s here within lead first of low fits = record {
+  here = here;
+  within = within;
+  lead = lead;
+  first = first;
+  of = of;
+  low = low;
+  fits = fits;
+  searching = searching-start table t (here .holds) round head from count log s here within lead first of low fits;
+}
+
+module _ {table : List ℕ} {t : Table} {round : Round} {head : Head} {from count : ℕ} {log₀ s₀ log s : List ℕ} {position total : ℕ} (o : Loop table t round head from count log₀ s₀ log s position total) where
+  pub loop-round : InRound table t round log s
+  loop-round = searching-round table t (o .here .holds) round head from count log₀ s₀ (o .here) (o .within) (o .lead) (o .first) (o .of) (o .low) (o .fits) log s position total (o .searching)
+
+  pub loop-count : (round .base ≤ total) × (total ≤ round .n + 1)
+  loop-count = searching-count table t (o .here .holds) round head from count log₀ s₀ (o .here) (o .within) (o .lead) (o .first) (o .of) (o .low) (o .fits) log s position total (o .searching)
+
+  pub loop-length : length log ≡ length log₀
+  loop-length = searching-length table t (o .here .holds) round head from count log₀ s₀ (o .here) (o .within) (o .lead) (o .first) (o .of) (o .low) (o .fits) log s position total (o .searching)
+
+  module _ (test : (ltb position (t .rules) && hasHead table head (orderedRule s position)) ≡ true) where
+    pub loop-within : position < t .rules
+    loop-within = searching-within table t (o .here .holds) round head from count log₀ s₀ (o .here) (o .within) (o .lead) (o .first) (o .of) (o .low) (o .fits) log s position total (o .searching) test
+
+    pub loop-small : position < 200
+    loop-small = omega (arith, loop-within, table-modest table t (o .here .holds) .rules)
+
+    pub loop-rule : orderedRule s position < t .rules
+    loop-rule = searching-rule table t (o .here .holds) round head from count log₀ s₀ (o .here) (o .within) (o .lead) (o .first) (o .of) (o .low) (o .fits) log s position total (o .searching) test
+
+    pub loop-head : HeadOf table (orderedRule s position) head
+    loop-head = searching-head table t (o .here .holds) round head from count log₀ s₀ (o .here) (o .within) (o .lead) (o .first) (o .of) (o .low) (o .fits) log s position total (o .searching) test
+
+    pub loop-turn : (total′ : ℕ) (log′ s′ : List ℕ) (next : ℕ) → Arrived table round (ruleOffers table round (orderedRule s position)) total log s total′ log′ s′
+        → next ≡ firstFrom (inSet s′ activeAt) (position + 1) (positionCeiling - (position + 1)) → Loop table t round head from count log₀ s₀ log′ s′ next total′
+    loop-turn total′ log′ s′ next d e = record {
+      here = o .here;
+      within = o .within;
+      lead = o .lead;
+      first = o .first;
+      of = o .of;
+      low = o .low;
+      fits = o .fits;
+      searching = searching-turn table t (o .here .holds) round head from count log₀ s₀ (o .here) (o .within) (o .lead) (o .first) (o .of) (o .low) (o .fits) log s position total (o .searching) test total′ log′ s′ next d e;
+    }
+
+  pub loop-end : (ltb position (t .rules) && hasHead table head (orderedRule s position)) ≡ false → HeadSearched table t round from count log₀ s₀ (record { position = position; count = total }) log s
+  loop-end test = searching-end table t (o .here .holds) round head from count log₀ s₀ (o .here) (o .within) (o .lead) (o .first) (o .of) (o .low) (o .fits) log s position total (o .searching) test

@@ -10,3 +10,4 @@ pub mod HeadSearch
 pub mod HeadEnds
 pub mod Clearing
 pub mod Words
+pub mod HeadAdding
