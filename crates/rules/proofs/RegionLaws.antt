@@ -89,7 +89,7 @@ in-put s at p q room l =
 by-digit : {C : Type 0} (n : ℕ) → (n % 2 ≡ 0 → C) → (n % 2 ≡ 1 → C) → C
 by-digit n f g = by-test (eqb (n % 2) 1) (λ t. g (eqb-true (n % 2) 1 t)) (λ e. f (let ne : n % 2 ≡ 1 → ⊥ = eqb-false (n % 2) 1 e in omega arith))
 
-bit-or : (a b j : ℕ) → eqb (bitOr a b / 2 ^ j % 2) 1 ≡ eqb (a / 2 ^ j % 2) 1 || eqb (b / 2 ^ j % 2) 1
+pub bit-or : (a b j : ℕ) → eqb (bitOr a b / 2 ^ j % 2) 1 ≡ eqb (a / 2 ^ j % 2) 1 || eqb (b / 2 ^ j % 2) 1
 bit-or a b j =
     let x = a / 2 ^ j in
     let y = b / 2 ^ j in

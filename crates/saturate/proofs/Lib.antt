@@ -1,9 +1,3 @@
-pub mod Arriving
-pub mod Filling
-pub mod Choosing
-pub mod Matching
-pub mod Stages
-pub mod GroupParts
-pub mod Adding
-pub mod HeadSteps
+pub mod ScratchParts
+pub mod RoundSteps
 pub mod Saturating

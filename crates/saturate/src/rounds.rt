@@ -13,9 +13,24 @@ use rules::order_rules;
 use scratch::PASSED;
 use scratch::RINGS;
 use table::Table;
+ghost use mathlib.Core.Path.{_≡_};
+ghost use mathlib.Core.Bool.{_&&_};
+ghost use Prim.Native.Nat.{_+_, _*_, _≤_};
+ghost use lib.Dec.{leb, ltb};
+ghost use lib.ListN.{length};
+ghost use Rattle.model.specs.Records.{letterAt, recordLength};
+ghost use Rattle.records.specs.Entries.{HasRecord};
+ghost use Rattle.table.specs.Reading.{Holds};
+ghost use Rattle.scratch.specs.Regions.{ringsAt};
+ghost use Rattle.rules.specs.Rules.{letterCeiling, ruleCeiling, rulesEnd};
+ghost use Rattle.heads.specs.Rounds.{InRound};
+ghost use Rattle.saturate.specs.Rounds.{Activated, FreshLetters, LetterIn, RoundAdded, RoundBegins, ScratchReady};
 
 // Makes the scratch ready for the rounds: the rules in order, no state passed, and no record in a ring.
-pub fn prepare(table: &[u8], t: Table, log: &[u8], scratch: &mut [u8], n: usize) {
+pub fn prepare(table: &[u8], t: Table, log: &[u8], scratch: &mut [u8], n: usize)
+    requires { ⌜ Holds (now table) t × (ringsAt + 6 * n ≤ length (now scratch)) ⌝ }
+    ensures { λ _. ⌜ ScratchReady (now (table .entry)) t n (now (log .entry)) (now (scratch .entry)) (now (scratch .exit)) ⌝ }
+{
     order_rules(table, t, scratch);
     mark_writers(table, t, scratch);
     clear_part(scratch, PASSED, PASSED + 1024);
@@ -23,12 +38,18 @@ pub fn prepare(table: &[u8], t: Table, log: &[u8], scratch: &mut [u8], n: usize)
 }
 
 // The letters with that of record r.
-fn with_letter(log: &[u8], letters: u32, r: usize) -> u32 {
+fn with_letter(log: &[u8], letters: u32, r: usize) -> u32
+    requires { ⌜ HasRecord (now log) r ⌝ }
+    ensures { λ x. ⌜ LetterIn letters (letterAt (now (log .entry)) r) x ⌝ }
+{
     letters | (1 << (letter_at(log, r) % 32))
 }
 
 // The letters of the records from lo on and below base, one bit each.
-fn fresh_letters(log: &[u8], lo: usize, base: usize) -> u32 {
+fn fresh_letters(log: &[u8], lo: usize, base: usize) -> u32
+    requires { ⌜ base * recordLength ≤ length (now log) ⌝ }
+    ensures { λ x. ⌜ FreshLetters (now (log .entry)) lo base x ⌝ }
+{
     let mut letters = 0;
     let mut r = lo;
     while r < base {
@@ -39,7 +60,10 @@ fn fresh_letters(log: &[u8], lo: usize, base: usize) -> u32 {
 }
 
 // Makes the positions active that the round looks at: in round 1 all, later those whose rules write a fresh letter.
-fn set_active(t: Table, scratch: &mut [u8], number: usize, fresh: u32) {
+fn set_active(t: Table, scratch: &mut [u8], number: usize, fresh: u32)
+    requires { ⌜ (t .rules ≤ ruleCeiling) × (t .letters ≤ letterCeiling) × (rulesEnd ≤ length (now scratch)) ⌝ }
+    ensures { λ _. ⌜ Activated t number fresh (now (scratch .entry)) (now (scratch .exit)) ⌝ }
+{
     if number == 1 {
         activate_all(scratch, t.rules);
         return;
@@ -48,7 +72,9 @@ fn set_active(t: Table, scratch: &mut [u8], number: usize, fresh: u32) {
 }
 
 // Whether there is a head left, and the log has room.
-fn goes_on(t: Table, at: Reached, n: usize) -> bool {
+fn goes_on(t: Table, at: Reached, n: usize) -> bool
+    ensures { λ r. ⌜ r ≡ (leb (at .count) n && ltb (at .position) (t .rules)) ⌝ }
+{
     if n < at.count {
         return false;
     }
@@ -56,7 +82,10 @@ fn goes_on(t: Table, at: Reached, n: usize) -> bool {
 }
 
 // Adds the records of the active heads, one after the other.
-fn add_heads(table: &[u8], t: Table, log: &mut [u8], scratch: &mut [u8], round: Round) -> usize {
+fn add_heads(table: &[u8], t: Table, log: &mut [u8], scratch: &mut [u8], round: Round) -> usize
+    requires { ⌜ InRound (now table) t round (now log) (now scratch) ⌝ }
+    ensures { λ r. ⌜ RoundAdded (now (table .entry)) t (round .base) (round .n) (round .number) (now (log .entry)) (now (scratch .entry)) r (now (log .exit)) (now (scratch .exit)) ⌝ }
+{
     let mut at = Reached {
         position: next_active(scratch, 0),
         count: round.base,
@@ -79,7 +108,10 @@ pub fn add_round(
     base: usize,
     n: usize,
     number: usize,
-) -> usize {
+) -> usize
+    requires { ⌜ RoundBegins (now table) t lo base n number (now log) (now scratch) ⌝ }
+    ensures { λ r. ⌜ RoundAdded (now (table .entry)) t base n number (now (log .entry)) (now (scratch .entry)) r (now (log .exit)) (now (scratch .exit)) ⌝ }
+{
     append(log, scratch, RINGS, n, lo, base);
     let fresh = fresh_letters(log, lo, base);
     set_active(t, scratch, number, fresh);

@@ -1,15 +1,11 @@
-use mathlib.Core.Path.{_≡_, refl, sym, _∙_}
-use Prim.Native.Nat.{_-_, _+_}
-use Rattle.saturate.proofs.Saturating.{Saturating, saturating-start, saturating-turn, saturating-full, saturating-limit, next-begins, measure-falls}
+-- Round after round, until one adds nothing or the log is full (Saturating).
+use mathlib.Core.Path.{_∙_}
+use Prim.Native.Nat.{_-_}
 use native.Mathlib.Omega.{arith}
-use lib.ListN.{length, length-set}
 use borrow.Author.Needs.{needs}
+use Rattle.saturate.proofs.Saturating.{Saturating, measure-falls, next-begins, saturating-full, saturating-limit, saturating-start, saturating-turn}
 use Rattle.saturate.proofs.add_rounds.Statement.{statement}
 use Rattle.saturate.proofs.add_rounds.Tie as tie
-use Rattle.saturate.proofs.add_rounds.Reads as reads
-use Rattle.saturate.proofs.add_rounds.Lts as lts
-use Rattle.saturate.proofs.goes_on.Reads as goes-on-reads
-use Rattle.saturate.proofs.round_count.Reads as round-count-reads
 
 abbrev Inv-loop : tie.InvT-loop
 Inv-loop table t log₀ scratch₀ n base₀ round₀ count₀ log scratch base round count = Saturating table t n log₀ scratch₀ log scratch base round count
@@ -17,80 +13,43 @@ Inv-loop table t log₀ scratch₀ n base₀ round₀ count₀ log scratch base 
 abbrev μ-loop : tie.MeasureT-loop
 μ-loop table t log₀ scratch₀ n base₀ round₀ count₀ log scratch base round count = n - base
 
--- src/lib.rt:62:9
-round-count-requires : tie.Need-round-count-requires Inv-loop μ-loop
-round-count-requires c κs = c .before .before .before .before .before .pre
-
--- src/lib.rt:63:5
 loop-holds : tie.Need-loop-holds Inv-loop μ-loop
-loop-holds c =
-    let a = c .before .before .before .before .before .before .before .before .before .before .args in
-    let p = c .before .before .before .before .before .before .before .before .before .before .pre in
-    saturating-start (a .table .now) (a .t) (a .n) (a .t .transitions) (c .before .before .before .before .round-count .result) (a .log .now) (a .scratch .now) (c .before .before .before .before .round-count .last .1 .1 .0) (c .before .before .before .before .round-count .last .1 .1 .1 .0) p (c .before .before .before .before .round-count .ensures)
+loop-holds c = let at-round = c .before .before .before .before in saturating-start (at-round .before .before .before .before .before .before .pre) (at-round .add-round .ensures)
 
--- src/lib.rt:65:9
+-- the number of the round is at most that of the records
 add-round : tie.Need-add-round Inv-loop μ-loop
-add-round c = omega (arith, c .before .before .loop .inv .late, c .before .before .loop .inv .fits, c .before .before .loop .inv .short)
+add-round c = let inv = c .before .before .loop .inv in omega (arith, inv .late, inv .fits, inv .short)
 
--- src/lib.rt:66:62
-add-round-count : tie.Need-add-round-count Inv-loop μ-loop
-add-round-count c = omega (arith, c .before .before .before .before .loop .inv .late, c .before .before .before .before .loop .inv .fits, c .before .before .before .before .loop .inv .short)
+add-add-round : tie.Need-add-add-round Inv-loop μ-loop
+add-add-round c = let inv = c .before .before .before .before .loop .inv in omega (arith, inv .late, inv .fits, inv .short)
 
--- src/lib.rt:66:9
-round-count-requires-2 : tie.Need-round-count-requires-2 Inv-loop μ-loop
-round-count-requires-2 c κs =
-    let a = c .before .before .before .before .before .before .before .before .before .before .before .before .before .before .before .args in
-    let p = c .before .before .before .before .before .before .before .before .before .before .before .before .before .before .before .pre in
-    let l = c .before .before .before .before .loop in
-    next-begins (a .table .now) (a .t) (a .n) _ _ (l .log) (l .scratch) (l .base) (l .round) (l .count) (l .inv) (sym (c .before .before .before .goes-on .ensures) ∙ c .before .before .if1 .taken)
+add-round-requires-2 : tie.Need-add-round-requires-2 Inv-loop μ-loop
+add-round-requires-2 c κs =
+    let at-test = c .before .before in
+    next-begins (at-test .before .before .loop .inv) (at-test .before .goes-on .ensures) (at-test .if1 .taken)
 
--- src/lib.rt:63:5
 loop-less : tie.Need-loop-less Inv-loop μ-loop
 loop-less c =
-    let a = c .before .before .before .before .before .before .before .before .before .before .before .before .before .before .before .before .before .before .before .before .args in
-    let p = c .before .before .before .before .before .before .before .before .before .before .before .before .before .before .before .before .before .before .before .before .pre in
-    let l = c .before .before .before .before .before .before .before .before .before .loop in
-    measure-falls (a .table .now) (a .t) (a .n) _ _ (l .log) (l .scratch) (l .base) (l .round) (l .count) (l .inv) (sym (c .before .before .before .before .before .before .before .before .goes-on .ensures) ∙ c .before .before .before .before .before .before .before .if1 .taken)
+    let at-test = c .before .before .before .before .before .before .before in
+    measure-falls (at-test .before .before .loop .inv) (at-test .before .goes-on .ensures) (at-test .if1 .taken)
 
--- src/lib.rt:63:5
 loop-again : tie.Need-loop-again Inv-loop μ-loop
 loop-again c =
-    let a = c .before .before .before .before .before .before .before .before .before .before .before .before .before .before .before .before .before .before .before .before .args in
-    let p = c .before .before .before .before .before .before .before .before .before .before .before .before .before .before .before .before .before .before .before .before .pre in
-    let l = c .before .before .before .before .before .before .before .before .before .loop in
-    saturating-turn (a .table .now) (a .t) (a .n) _ _ (l .log) (l .scratch) (l .base) (l .round) (l .count) (l .inv) (sym (c .before .before .before .before .before .before .before .before .goes-on .ensures) ∙ c .before .before .before .before .before .before .before .if1 .taken) (c .before .before .before .before .round-count2 .result) (c .before .before .before .before .round-count2 .last .1 .1 .0) (c .before .before .before .before .round-count2 .last .1 .1 .1 .0) (c .before .before .before .before .round-count2 .ensures)
+    let at-round = c .before .before .before .before in
+    let at-test = at-round .before .before .before in
+    saturating-turn (at-test .before .before .loop .inv) (at-test .before .goes-on .ensures) (at-test .if1 .taken) (at-round .add-round2 .ensures)
 
--- src/lib.rt:69:9
-same-length : tie.Need-same-length Inv-loop μ-loop
-same-length c = c .before .before .before .loop .inv .log-length ∙ c .before .before .before .before .before .before .before .before .round-count .ensures .log-length
-
--- src/lib.rt:69:9
-same-length-2 : tie.Need-same-length-2 Inv-loop μ-loop
-same-length-2 c = c .before .before .before .loop .inv .scratch-length ∙ c .before .before .before .before .before .before .before .before .round-count .ensures .scratch-length
-
--- src/lib.rt:69:9
 returns : tie.Need-returns Inv-loop μ-loop
 returns c =
-    let a = c .before .before .before .before .before .before .before .before .before .before .before .before .before .before .args in
-    let p = c .before .before .before .before .before .before .before .before .before .before .before .before .before .before .pre in
-    let l = c .before .before .before .loop in
-    saturating-full (a .table .now) (a .t) (a .n) _ _ (l .log) (l .scratch) (l .base) (l .round) (l .count) (l .inv) (a .log .now) (a .scratch .now) (c .before .before .before .before .before .before .before .before .round-count .ensures .log-length) (c .before .before .before .before .before .before .before .before .round-count .ensures .scratch-length) (c .if2 .taken)
+    let at-loop = c .before .before .before in
+    let first = at-loop .before .before .before .before .before .add-round .ensures in
+    saturating-full (at-loop .loop .inv) (c .before .before .goes-on .ensures) (first .log-length) (first .scratch-length) (c .if2 .taken)
 
--- src/lib.rt:56:1
-same-length-3 : tie.Need-same-length-3 Inv-loop μ-loop
-same-length-3 c = c .before .before .before .loop .inv .log-length ∙ c .before .before .before .before .before .before .before .before .round-count .ensures .log-length
-
--- src/lib.rt:56:1
-same-length-4 : tie.Need-same-length-4 Inv-loop μ-loop
-same-length-4 c = c .before .before .before .loop .inv .scratch-length ∙ c .before .before .before .before .before .before .before .before .round-count .ensures .scratch-length
-
--- src/lib.rt:56:1
 returns-2 : tie.Need-returns-2 Inv-loop μ-loop
 returns-2 c =
-    let a = c .before .before .before .before .before .before .before .before .before .before .before .before .before .before .args in
-    let p = c .before .before .before .before .before .before .before .before .before .before .before .before .before .before .pre in
-    let l = c .before .before .before .loop in
-    saturating-limit (a .table .now) (a .t) (a .n) _ _ (l .log) (l .scratch) (l .base) (l .round) (l .count) (l .inv) (sym (c .before .before .goes-on .ensures) ∙ c .before .if1 .left) (c .if2 .left) (a .log .now) (a .scratch .now) (c .before .before .before .before .before .before .before .before .round-count .ensures .log-length) (c .before .before .before .before .before .before .before .before .round-count .ensures .scratch-length)
+    let at-loop = c .before .before .before in
+    let first = at-loop .before .before .before .before .before .add-round .ensures in
+    saturating-limit (at-loop .loop .inv) (c .before .before .goes-on .ensures) (c .before .if1 .left) (c .if2 .left) (first .log-length) (first .scratch-length)
 
 pub add-rounds-spec : {M : Type 1} → statement M
 add-rounds-spec =
@@ -98,17 +57,17 @@ add-rounds-spec =
     (tie.spec
     Inv-loop
     μ-loop
-    round-count-requires
+    (λ c κs. c .before .before .before .before .before .pre)
     loop-holds
     (λ c κs. search needs)
     add-round
-    add-round-count
-    round-count-requires-2
+    add-add-round
+    add-round-requires-2
     loop-less
     loop-again
-    same-length
-    same-length-2
+    (λ c. c .before .before .before .loop .inv .log-length ∙ c .before .before .before .before .before .before .before .before .add-round .ensures .log-length)
+    (λ c. c .before .before .before .loop .inv .scratch-length ∙ c .before .before .before .before .before .before .before .before .add-round .ensures .scratch-length)
     returns
-    same-length-3
-    same-length-4
+    (λ c. c .before .before .before .loop .inv .log-length ∙ c .before .before .before .before .before .before .before .before .add-round .ensures .log-length)
+    (λ c. c .before .before .before .loop .inv .scratch-length ∙ c .before .before .before .before .before .before .before .before .add-round .ensures .scratch-length)
     returns-2)

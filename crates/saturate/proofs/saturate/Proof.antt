@@ -1,8 +1,9 @@
+-- Round 0 is written, the scratch made ready, and the rounds added (Saturating).
 use mathlib.Core.Path.{sym, _∙_}
 use borrow.Author.Needs.{needs}
-use borrow.Author.Tests.{ltb-true, ltb-false}
-use Rattle.model.proofs.Tests.{not-true, not-false}
-use Rattle.saturate.proofs.Saturating.{codes-room, initial-full, initial-begins, saturated-all}
+use borrow.Author.Tests.{ltb-false, ltb-true}
+use Rattle.model.proofs.Tests.{not-false, not-true}
+use Rattle.saturate.proofs.Saturating.{codes-room, initial-begins, initial-full, saturated-all}
 use Rattle.saturate.proofs.saturate.Statement.{statement}
 use Rattle.saturate.proofs.saturate.Tie as tie
 
@@ -24,26 +25,30 @@ returns c =
 
 add-rounds-requires : tie.Need-add-rounds-requires
 add-rounds-requires c κs =
-    let at-test = c .before .before in
+    let at-prepare = c .before .before .before .before in
+    let at-test = at-prepare .before .before .before in
     let at-write = at-test .before .before .before .before .before in
     let entry = at-write .before .before .before .before .before .before in
     let a = entry .args in
     let p = entry .pre in
     let written = at-write .write-initial .ensures in
     let few = ltb-false (a .n) (a .t .transitions) (not-true _ (sym (written .0) ∙ not-false _ (at-test .if1 .left))) in
-    initial-begins (a .table .now) (a .t) (a .n) (p .0) (a .log .now) (a .scratch .now) _ _ (written .1 .1) (written .1 .0) few (p .1) (p .2) (p .3)
+    initial-begins (a .table .now) (a .t) (a .n) (p .0) (a .log .now) (a .scratch .now) _ _ (written .1 .1) (written .1 .0) few (p .1) (p .2) (p .3) _
+    (at-prepare .prepare .ensures)
 
 returns-2 : tie.Need-returns-2
 returns-2 c =
     let at-rounds = c .before .before .before .before in
-    let at-test = at-rounds .before .before .before in
+    let at-prepare = at-rounds .before .before .before .before .before in
+    let at-test = at-prepare .before .before .before in
     let at-write = at-test .before .before .before .before .before in
     let entry = at-write .before .before .before .before .before .before in
     let a = entry .args in
     let p = entry .pre in
     let written = at-write .write-initial .ensures in
     let few = ltb-false (a .n) (a .t .transitions) (not-true _ (sym (written .0) ∙ not-false _ (at-test .if1 .left))) in
-    saturated-all (a .table .now) (a .t) (a .n) (p .0) (a .log .now) (a .scratch .now) _ _ (written .1 .1) (written .1 .0) few (p .1) (p .2) (p .3) (at-rounds .add-rounds .result) _ _ (at-rounds .add-rounds .ensures)
+    saturated-all (a .table .now) (a .t) (a .n) (p .0) (a .log .now) (a .scratch .now) _ _ (written .1 .1) (written .1 .0) few (p .1) (p .2) (p .3) _ (at-prepare .prepare .ensures)
+    (at-rounds .add-rounds .result) _ _ (at-rounds .add-rounds .ensures)
 
 pub saturate-spec : {M : Type 1} → statement M
 saturate-spec =
@@ -53,6 +58,7 @@ saturate-spec =
     (λ c. search needs)
     (λ c. search needs)
     returns
+    (λ c κs. search needs)
     add-rounds-requires
     (λ c. search needs)
     (λ c. search needs)

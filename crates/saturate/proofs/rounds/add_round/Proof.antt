@@ -1,50 +1,43 @@
-use mathlib.Core.Path.{refl, _∙_}
-use Rattle.saturate.proofs.HeadSteps.{at-start, done-before, round-begins, round-stands}
+-- The last round's records are put into rings, the positions that write their letters made active, and the heads added.
+use mathlib.Core.Path.{_∙_}
 use native.Mathlib.Omega.{arith}
-use lib.ListN.{length, length-set}
 use borrow.Author.Needs.{needs}
+use Rattle.table.proofs.Layouts.{table-modest}
+use Rattle.saturate.proofs.RoundSteps.{added-before}
+use Rattle.saturate.proofs.ScratchParts.{round-stands}
 use Rattle.saturate.proofs.rounds.add_round.Statement.{statement}
 use Rattle.saturate.proofs.rounds.add_round.Tie as tie
-use Rattle.saturate.proofs.rounds.add_round.Reads as reads
-use Rattle.saturate.proofs.rounds.add_round.Lts as lts
-use Rattle.chains.proofs.build.Reads as build-reads
-use Rattle.heads.proofs.activity.mark_active.Reads as mark-active-reads
-use Rattle.saturate.proofs.rounds.add_heads.Reads as add-heads-reads
 
--- src/rounds.rt:55:5
-build-requires : tie.Need-build-requires
-build-requires c κs =
-    let a = c .before .before .before .before .before .args in
-    let p = c .before .before .before .before .before .pre in
-    round-begins (a .table .now) (a .t) (a .base) (a .n) (a .round) (a .log .now) (a .scratch .now) p
+set-active-requires : tie.Need-set-active-requires
+set-active-requires c κs =
+    let at-append = c .before .before .before .before .before in
+    let entry = at-append .before .before .before .before .before .before in
+    let modest = table-modest (entry .args .table .now) (entry .args .t) (entry .pre .holds) in
+    (modest .rules, modest .letters, omega (arith, entry .pre .scratch, at-append .append .ensures .0 .size))
 
--- src/rounds.rt:56:5
-mark-active-requires : tie.Need-mark-active-requires
-mark-active-requires c κs =
-    let a = c .before .before .before .before .before .before .before .before .before .before .args in
-    let p = c .before .before .before .before .before .before .before .before .before .before .pre in
-    (p .holds, omega (arith, p .fits, p .room), omega (arith, p .scratch, c .before .before .before .before .build .ensures .0 .size), p .begun, omega (arith, p .late, p .fits, p .short))
-
--- src/rounds.rt:57:5
 add-heads-requires : tie.Need-add-heads-requires
 add-heads-requires c κs =
-    let a = c .before .before .before .before .before .before .before .before .before .before .before .before .before .before .before .args in
-    let p = c .before .before .before .before .before .before .before .before .before .before .before .before .before .before .before .pre in
-    at-start (a .table .now) (a .t) (a .base) (a .n) (a .round) _ _ (round-stands (a .table .now) (a .t) (a .base) (a .n) (a .round) (a .log .now) (a .scratch .now) _ _ p (c .before .before .before .before .before .before .before .before .before .build .ensures .0) (c .before .before .before .before .before .before .before .before .before .build .ensures .1) (c .before .before .before .before .mark-active .ensures)) (p .room)
+    let at-active = c .before .before .before .before in
+    let at-letters = at-active .before .before in
+    let at-append = at-letters .before .before .before .before in
+    let entry = at-append .before .before .before .before .before .before in
+    let rings = at-append .append .ensures in
+    round-stands (entry .pre) (rings .0) (at-letters .fresh-letters .ensures) (at-active .set-active .ensures) (rings .1) (rings .2)
 
--- src/rounds.rt:51:1
 returns : tie.Need-returns
 returns c =
-    let a = c .before .before .before .before .before .before .before .before .before .before .before .before .before .before .before .before .before .before .before .before .args in
-    let p = c .before .before .before .before .before .before .before .before .before .before .before .before .before .before .before .before .before .before .before .before .pre in
-    done-before (a .table .now) (a .n) (a .round) (a .log .now) (a .scratch .now) (a .log .now) (c .before .before .before .before .before .before .before .before .before .mark-active .last .1 .1 .1 .0) (c .before .before .before .before .add-heads .result) (c .before .before .before .before .add-heads .last .1 .1 .0) (c .before .before .before .before .add-heads .last .1 .1 .1 .0) refl (c .before .before .before .before .before .before .before .before .before .mark-active .ensures .kept .size ∙ c .before .before .before .before .before .before .before .before .before .before .before .before .before .before .build .ensures .0 .size) (c .before .before .before .before .add-heads .ensures)
+    let at-heads = c .before .before .before .before in
+    let at-active = at-heads .before .before .before .before .before in
+    let at-append = at-active .before .before .before .before .before .before in
+    added-before (at-active .set-active .ensures .kept .size ∙ at-append .append .ensures .0 .size) (at-heads .add-heads .ensures)
 
 pub add-round-spec : {M : Type 1} → statement M
 add-round-spec =
     tie.close
     (tie.spec
-    build-requires
-    mark-active-requires
+    (λ c κs. search needs)
+    (λ c κs. search needs)
+    set-active-requires
     add-heads-requires
     (λ c. search needs)
     (λ c. search needs)

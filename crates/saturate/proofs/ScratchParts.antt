@@ -1,0 +1,165 @@
+-- The scratch of a round: made ready, the letters of the last round gathered, and its rules made active.
+use mathlib.Core.Path.{_≡_, ap, subst, sym, _∙_}
+use mathlib.Core.Bool.{true, _&&_}
+use mathlib.Core.Logic.{inl, inr}
+use mathlib.Core.List.{List, _++_}
+use Prim.Native.Nat.{ℕ, _+_, _-_, _*_, _/_, _%_, _^_, _<_, _≤_}
+use native.Mathlib.Decide.{ℕ-discrete, decLt}
+use native.Mathlib.Nat.{div-self, mod-eq-of-lt, one-mul}
+use native.Mathlib.Omega.{arith}
+use lib.Pow.{pow-lt, pow-pos}
+use lib.Bits.{bitOr}
+use lib.Dec.{ltb}
+use lib.ListN.{drop, getD, take-append-drop}
+use borrow.Author.Tests.{eq-eqb, ltb-true, ne-eqb}
+use Rattle.model.specs.Log.{Record, noRecord, recordAt}
+use Rattle.model.specs.Records.{letterAt, logBytes, recordLength}
+use Rattle.model.proofs.Lists.{each-get, getD-mem}
+use Rattle.model.proofs.RecordBytes.{from-letter, record-from}
+use Rattle.model.proofs.Tests.{by-test}
+use Rattle.automaton.specs.StateSets.{Cleared}
+use Rattle.table.specs.declared.Table.{Table}
+use Rattle.table.specs.Reading.{Holds, ruleIn}
+use Rattle.table.proofs.Layouts.{table-modest}
+use Rattle.logs.proofs.Logs.{Keyed, log-over}
+use Rattle.scratch.specs.Regions.{activeAt, orderAt, passedAt, ringsAt, setBytes, writersAt}
+use Rattle.rings.specs.Rings.{Freshened, OutsideSame, Ringed}
+use Rattle.rings.proofs.Rings.{freshened-scratch, ringed-scratch}
+use Rattle.rules.specs.Regions.{inSet, positionCeiling}
+use Rattle.rules.specs.Rules.{RulesOrdered, Writers, WritersMarked, hasLetter, letterCeiling, orderedRule, writersOf, writesLetter}
+use Rattle.rules.proofs.ActivePositions.{gathered-active}
+use Rattle.rules.proofs.RegionLaws.{bit-or, in-same}
+use Rattle.rules.proofs.RuleOrder.{ordered-same}
+use Rattle.heads.specs.declared.Round.{Round}
+use Rattle.heads.specs.Rounds.{InRound, Prepared, earlierLog, isActive}
+use Rattle.saturate.specs.Rounds.{Activated, FreshLetters, LetterIn, Logged, RoundBegins, ScratchReady}
+
+-- the bytes from one offset on and below another are the same
+abbrev SameIn : ℕ → ℕ → List ℕ → List ℕ → Type 0
+SameIn from to s s′ = (i : ℕ) → from ≤ i → i < to → getD s′ i 0 ≡ getD s i 0
+
+-- ---- the rules in order
+module _ (table : List ℕ) (t : Table) (holds : Holds table t) (s s′ : List ℕ) where
+  order-kept : SameIn orderAt activeAt s s′ → (p : ℕ) → p < t .rules → orderedRule s′ p ≡ orderedRule s p
+  order-kept same p l = same (orderAt + p) (omega arith) (omega (arith, table-modest table t holds .rules))
+
+  writers-kept : SameIn orderAt activeAt s s′ → SameIn writersAt passedAt s s′ → Writers table (t .letters) (t .rules) s → Writers table (t .letters) (t .rules) s′
+  writers-kept order sets w = record {
+    positions = λ a p la lp. in-same s s′ (writersOf a) p (sets (writersOf a + p / 8) (omega arith) (omega (arith, table-modest table t holds .letters)))
+        ∙ w .positions a p la lp ∙ by-test (ltb p (t .rules))
+        (λ y. rw y (ap (λ (k : ℕ). writesLetter a (ruleIn table k)) (sym (order-kept order p (ltb-true p (t .rules) y)))))
+        (λ f. rw f);
+  }
+
+  -- the active positions, which stand between the order and the sets of writers, may change
+  prepared-kept : SameIn orderAt activeAt s s′ → SameIn writersAt (passedAt + 2 * setBytes) s s′ → Prepared table t s → Prepared table t s′
+  prepared-kept order rest p = record {
+    ordered = ordered-same table (t .rules) s s′ (order-kept order) (p .ordered);
+    writers = writers-kept order (λ i a b. rest i a (omega arith)) (p .writers);
+    first-depth = λ i a b. rest i (omega arith) (omega arith) ∙ p .first-depth i a b;
+  }
+
+-- ---- the scratch made ready
+pub scratch-ready : {table : List ℕ} {t : Table} → Holds table t → {n : ℕ} {log s s₁ s₂ s₃ s₄ : List ℕ} → RulesOrdered table (t .rules) s s₁
+    → WritersMarked table (t .letters) (t .rules) s₁ s₂ → Cleared passedAt (passedAt + 1024) s₂ s₃ → OutsideSame n ringsAt s₃ s₄ → Ringed log 0 n ringsAt s₄
+    → ScratchReady table t n log s s₄
+scratch-ready {table} {t} holds {s₁ = s₁} {s₂ = s₂} {s₄ = s₄} o w c k r = record {
+  size = k .size ∙ c .size ∙ w .kept .size ∙ o .size;
+  prepared = record {
+    ordered = ordered-same table (t .rules) s₁ s₄ (λ p l. same (orderAt + p) (omega (arith, few)) ∙ w .kept .outside (orderAt + p) (inl (omega (arith, few)))) (o .ordered);
+    writers = writers-kept table t holds s₂ s₄ (λ i a b. same i (omega arith)) (λ i a b. same i b) (w .writers);
+    first-depth = λ i a b. k .before i (omega arith) ∙ c .zero i a (omega arith);
+  };
+  ringed = r;
+}
+  where
+    few : t .rules ≤ 200
+    few = table-modest table t holds .rules
+
+    same : (i : ℕ) → i < passedAt → getD s₄ i 0 ≡ getD s₂ i 0
+    same i l = k .before i (omega arith) ∙ c .before i l
+
+-- ---- letters
+power-bit : (k : ℕ) → hasLetter (2 ^ k) k ≡ true
+power-bit k = rw (div-self (pow-pos k))
+
+one-shifted : (k : ℕ) → k < 32 → 1 * 2 ^ k % 4294967296 ≡ 2 ^ k
+one-shifted k l = rw one-mul (mod-eq-of-lt (pow-lt {j = 32} l))
+
+letter-or : (letters a : ℕ) → LetterIn letters a (bitOr letters (2 ^ (a % letterCeiling)))
+letter-or letters a = record {
+  has = bit-or letters (2 ^ (a % letterCeiling)) (a % letterCeiling) ∙ by-test (hasLetter letters (a % letterCeiling)) (λ y. rw y) (λ f. rw f (power-bit (a % letterCeiling)));
+  kept = λ b h. bit-or letters (2 ^ (a % letterCeiling)) b ∙ rw h;
+}
+
+-- one bit of 32 is set
+pub letter-set : (letters a v : ℕ) → v ≡ a → LetterIn letters a (bitOr letters (1 * 2 ^ (v % 32) % 4294967296))
+letter-set letters a v e = subst (LetterIn letters a) (ap (bitOr letters) (sym (one-shifted (v % 32) (omega arith) ∙ ap (λ (x : ℕ). 2 ^ (x % 32)) e))) (letter-or letters a)
+
+pub letters-none : (log : List ℕ) (lo x : ℕ) → FreshLetters log lo lo x
+letters-none log lo x i a b = absurd (omega arith)
+
+pub letters-more : (log : List ℕ) (lo r x y : ℕ) → FreshLetters log lo r x → LetterIn x (letterAt log r) y → FreshLetters log lo (r + 1) y
+letters-more log lo r x y f d i a b = elim (decLt i r) [
+  | yes l ↦ d .kept (letterAt log i % letterCeiling) (f i a l)
+  | no l ↦ let e : i ≡ r = omega arith in subst (λ (j : ℕ). hasLetter y (letterAt log j % letterCeiling) ≡ true) (sym e) (d .has)
+]
+
+pub letters-all : (log : List ℕ) (lo r base x : ℕ) → base ≤ r → FreshLetters log lo r x → FreshLetters log lo base x
+letters-all log lo r base x l f i a b = f i a (omega arith)
+
+-- ---- records and their letters
+module _ (table : List ℕ) (t : Table) (holds : Holds table t) (base number : ℕ) (log : List ℕ) (logged : Logged (earlierLog table number) base log) where
+  split : log ≡ logBytes (earlierLog table number) ++ drop (base * recordLength) log
+  split = sym (take-append-drop (base * recordLength) log) ∙ ap (λ (l : List ℕ). l ++ drop (base * recordLength) log) (logged .bytes)
+
+  pub letter-is : (i : ℕ) → i < base → letterAt log i ≡ recordAt (earlierLog table number) i .key .letter
+  letter-is i l = from-letter log i (recordAt (earlierLog table number) i) _
+      (record-from (earlierLog table number) (drop (base * recordLength) log) log i split (omega (arith, logged .size)))
+
+  letter-small : (i : ℕ) → i < base → letterAt log i < letterCeiling
+  letter-small i l =
+      let R = earlierLog table number in
+      let k = each-get (λ (x : Record). Keyed table t (x .key)) (recordAt R i) R (log-over table t holds (number - 1)) (getD-mem R i noRecord (omega (arith, logged .size))) in
+      omega (arith, letter-is i l, k .0, table-modest table t holds .letters)
+
+  -- each letter of the table has its own bit
+  pub letters-fresh : (lo fresh : ℕ) → FreshLetters log lo base fresh → (i : ℕ) → lo ≤ i → i < base → hasLetter fresh (letterAt log i) ≡ true
+  letters-fresh lo fresh f i a b =
+      let e : letterAt log i % letterCeiling ≡ letterAt log i = omega (arith, letter-small i b) in
+      subst (λ (x : ℕ). hasLetter fresh x ≡ true) e (f i a b)
+
+-- ---- the round stands
+-- the last round's records are in rings, their letters gathered, and the positions made active
+module _ {table : List ℕ} {t : Table} {lo base n number : ℕ} {log s : List ℕ} {fresh : ℕ} {s₁ s₂ : List ℕ} (b : RoundBegins table t lo base n number log s)
+    (o : OutsideSame n ringsAt s s₁) (letters : FreshLetters log lo base fresh) (a : Activated t number fresh s₁ s₂) where
+  abbrev round : Round
+  round = record { number = number; lo = lo; base = base; fresh = fresh; n = n }
+
+  prepared-rings : Prepared table t s₁
+  prepared-rings = prepared-kept table t (b .holds) s s₁ (λ i p q. o .before i (omega arith)) (λ i p q. o .before i (omega arith)) (b .prepared)
+
+  looked-at : (p : ℕ) → p < positionCeiling → inSet s₂ activeAt p ≡ (ltb p (t .rules) && isActive round (ruleIn table (orderedRule s₂ p)))
+  unfolding isActive
+  looked-at p l = elim (ℕ-discrete number 1) [
+    | yes e ↦ a .first e .positions p l ∙ rw (eq-eqb number 1 e) (by-test (ltb p (t .rules)) (λ y. rw y) (λ f. rw f))
+    | no e ↦ gathered-active table t (b .holds) fresh s₁ s₂ (prepared-rings .writers) (prepared-rings .ordered) (a .later e) .positions p l ∙ rw (ne-eqb number 1 e)
+  ]
+
+  pub round-stands : Ringed log base n ringsAt s₁ → Freshened log lo base n ringsAt s₁ → InRound table t round log s₂
+  round-stands r f = record {
+    holds = b .holds;
+    begun = b .begun;
+    late = b .late;
+    size = b .logged .size;
+    bytes = b .logged .bytes;
+    records = b .room;
+    low = b .low;
+    last = b .last;
+    fresh = letters-fresh table t (b .holds) base number log (b .logged) lo fresh letters;
+    room = record { fits = b .fits; short = b .short; records = omega (arith, b .fits, b .room); room = omega (arith, b .scratch, o .size, a .kept .size) };
+    ringed = ringed-scratch log base n ringsAt s₁ s₂ (b .fits) (λ i p q. a .kept .outside i (inr (omega arith))) r;
+    freshened = freshened-scratch log lo base n ringsAt s₁ s₂ (λ i p q. a .kept .outside i (inr (omega arith))) f;
+    prepared = prepared-kept table t (b .holds) s₁ s₂ (λ i p q. a .kept .outside i (inl q)) (λ i p q. a .kept .outside i (inr (omega arith))) prepared-rings;
+    active = looked-at;
+  }
