@@ -3,7 +3,7 @@ use mathlib.Core.Path.{_≡_, refl, ap, ap₂, sym, subst, _∙_}
 use mathlib.Core.Bool.{Bool, true, false, _&&_, _||_, true≢false}
 use mathlib.Core.Logic.{inl, inr, ⊎-elim}
 use mathlib.Core.List.{List, [], _∷_, map}
-use Prim.Native.Nat.{ℕ, zero, suc, _+_, _-_, _%_, _<_, _≤_}
+use Prim.Native.Nat.{ℕ, zero, suc, _+_, _-_, _*_, _%_, _<_, _≤_}
 use native.Mathlib.Decide.{decLt}
 use native.Mathlib.Numerals.{add-one}
 use native.Mathlib.Omega.{arith}
@@ -25,20 +25,24 @@ use Rattle.automaton.specs.StateNumbers.{stateCount, stateNumber, Over}
 use Rattle.automaton.specs.StateSets.{member, firstFrom}
 use Rattle.automaton.proofs.StateNumbers.{stateNumber-below, number-injective}
 use Rattle.automaton.proofs.StateSets.{first-of}
-use Rattle.model.specs.Records.{afterAt}
-use Rattle.chains.specs.Buckets.{recordReads}
-use Rattle.chains.proofs.Buckets.{reads-model}
+use Rattle.model.specs.Records.{recordLength, beforeAt, afterAt}
+use Rattle.records.specs.Entries.{Fits, Reads}
+use Rattle.packs.specs.Packs.{packed, Bytes, packedBefore}
+use Rattle.packs.proofs.Packs.{pack-group, packed-same}
+use Rattle.packs.proofs.Unpacked.{restrict-bytes}
+use Rattle.rings.specs.Rings.{recordReads}
 use Rattle.table.specs.declared.Table.{Table}
 use Rattle.table.specs.Reading.{systemIn, pileIn, statesIn}
 use Rattle.table.proofs.Layouts.{pile-count}
 use Rattle.stack.specs.LimitLog.{LimitLog}
 use Rattle.stack.proofs.Limits.{limit-fits, limit-reads}
 use Rattle.start.specs.declared.Letter.{Letter}
-use Rattle.start.specs.Regions.{setAt, setsEnd, chainsPlace, SameBut, OnlySet}
+use Rattle.scratch.specs.Regions.{ringsAt}
+use Rattle.start.specs.Regions.{setAt, setsEnd, Linked, SameBut, OnlySet}
 use Rattle.start.specs.RestSets.{processesOfTable, LetterAt, leads, firstLead, someLead, EmptySet, Filled, isNumberOf, acceptsFrom, SetRight}
 use Rattle.start.specs.OwnGroups.{lastStates, Numbered, FrameTo, Added}
 use Rattle.start.specs.declared.Frame.{Frame}
-use Rattle.start.proofs.ScratchRegions.{same-none, same-join, same-wider, set-same}
+use Rattle.start.proofs.ScratchRegions.{linked-same, set-same}
 use Rattle.start.proofs.Leading.{lead-not, lead-reads}
 use Rattle.start.proofs.OwnGroups.{own-below}
 use Rattle.start.proofs.Grounds.{over-merge, Grounds, grounds}
@@ -82,6 +86,22 @@ accepts-first sys log b w g =
     any-map (λ (t : Transition). eqb (t .letter) b && sameGroup (restrict (sys .loc b) g) (t .before) && accepts (sys .loc) (keys log) (sys .accepting) w (move (sys .loc) t g)) (λ (r : Record). r .key) log
     ∙ any-first (λ (r : Record). readsAt (sys .loc) b g r && accepts (sys .loc) (keys log) (sys .accepting) w (move (sys .loc) (r .key) g)) noRecord log
 
+-- ---- what the rings find is what the paths go by
+over-bytes : (L : Processes) (g : Group) → Over L g → Bytes g
+over-bytes L g o i = by-test (has L i) (λ m. omega (arith, o .inside i m)) (λ n. omega (arith, o .outside i n))
+
+same-packed : (g h : Group) → Bytes g → Bytes h → eqb (packed h) (packed g) ≡ sameGroup g h
+same-packed g h p q = same-test (eqb (packed h) (packed g)) (sameGroup g h)
+    (λ t. sameGroup-of g h (packed-same g h p q (sym (eqb-true (packed h) (packed g) t))))
+    (λ t. eq-eqb (packed h) (packed g) (ap packed (sym (sameGroup-true g h t))))
+
+reads-model : (loc : ℕ → Processes) (log : List ℕ) (b : ℕ) (g : Group) (r : ℕ) (e : Record) → Reads log r e → Fits e → Bytes g
+    → recordReads log b (packed (restrict (loc b) g)) r ≡ readsAt loc b g e
+unfolding recordReads readsAt packedBefore beforeAt
+reads-model loc log b g r e w f small =
+    ap₂ (λ (l h : ℕ). eqb l b && eqb h (packed (restrict (loc b) g))) (w .letter) (pack-group log (r * recordLength + 1) ∙ ap packed (w .before))
+    ∙ ap (λ (s : Bool). eqb (e .key .letter) b && s) (same-packed (restrict (loc b) g) (e .key .before) (restrict-bytes (loc b) g small) (f .before))
+
 -- ---- one letter
 module _ {table : List ℕ} {t : Table} {log : List ℕ} {count : ℕ} (lent : LimitLog table t log count) (i : ℕ) (inside : i < t .pile) (a : Letter) (letter : LetterAt table i a) where
   abbrev sys : System
@@ -97,11 +117,11 @@ module _ {table : List ℕ} {t : Table} {log : List ℕ} {count : ℕ} (lent : L
   pub word-from : drop i (systemIn table .start .word) ≡ pileIn table i ∷ drop (i + 1) (systemIn table .start .word)
   word-from = drop-cons (sys .start .word) i 0 (omega (arith, pile-count table t (lent .holds))) ∙ ap (λ (k : ℕ). pileIn table i ∷ drop k (sys .start .word)) (sym (add-one i))
 
-  reads-is : (g : Group) (r : ℕ) → r < count
-      → recordReads log (a .number) (restrict (processesOf (a .bits)) g) r ≡ readsAt (systemIn table .loc) (pileIn table i) g (recordAt (limit (systemIn table)) r)
-  reads-is g r h =
-      ap₂ (λ (b : ℕ) (L : Processes). recordReads log b (restrict L g) r) (letter .number) (letter .bits .same)
-      ∙ reads-model (sys .loc) records (lent .rest) log (pileIn table i) g r (lent .logged) (omega (arith, lent .size)) (limit-fits lent r h)
+  reads-is : (g : Group) → Over (processesOfTable t) g → (r : ℕ) → r < count
+      → recordReads log (a .number) (packed (restrict (processesOf (a .bits)) g)) r ≡ readsAt (systemIn table .loc) (pileIn table i) g (recordAt (limit (systemIn table)) r)
+  reads-is g o r h =
+      ap₂ (λ (b : ℕ) (L : Processes). recordReads log b (packed (restrict L g)) r) (letter .number) (letter .bits .same)
+      ∙ reads-model (sys .loc) log (pileIn table i) g r (recordAt records r) (limit-reads lent r h) (limit-fits lent r h) (over-bytes (processesOfTable t) g o)
 
   -- where a record that reads the letter leads
   pub target-is : (g : Group) (r : ℕ) → r < count → readsAt (systemIn table .loc) (pileIn table i) g (recordAt (limit (systemIn table)) r) ≡ true
@@ -120,10 +140,10 @@ module _ {table : List ℕ} {t : Table} {log : List ℕ} {count : ℕ} (lent : L
   module _ (s : List ℕ) (next : SetRight table t s (i + 1)) (g : Group) (o : Over (processesOfTable t) g) where
     lead-is : (r : ℕ) → r < count → leads log (setAt s (i + 1)) a g r ≡ goesOn (systemIn table) (limit (systemIn table)) (pileIn table i) (drop (i + 1) (systemIn table .start .word)) g r
     lead-is r h = by-test (readsAt (sys .loc) (pileIn table i) g (recordAt records r))
-        (λ y. rw y (lead-reads log (setAt s (i + 1)) a g r (reads-is g r h ∙ y)
+        (λ y. rw y (lead-reads log (setAt s (i + 1)) a g r (reads-is g o r h ∙ y)
         ∙ ap (λ (x : Group). member (setAt s (i + 1)) (stateNumber x)) (target-is g r h y)
         ∙ next (move (sys .loc) (recordAt records r .key) g) (target-over g r h o y)))
-        (λ n. rw n (lead-not log (setAt s (i + 1)) a g r (reads-is g r h ∙ n)))
+        (λ n. rw n (lead-not log (setAt s (i + 1)) a g r (reads-is g o r h ∙ n)))
 
     pub first-is-lead : firstLead log count (setAt s (i + 1)) a g
         ≡ firstFrom (goesOn (systemIn table) (limit (systemIn table)) (pileIn table i) (drop (i + 1) (systemIn table .start .word)) g) 0 (length (limit (systemIn table)))
@@ -174,33 +194,36 @@ right-same : (table : List ℕ) (t : Table) (s s′ : List ℕ) (k : ℕ) → se
 right-same table t s s′ k e r g o = ap (λ (l : List ℕ). member l (stateNumber g)) e ∙ r g o
 
 -- a set behind one that has changed stays right
-pub right-behind : (table : List ℕ) (t : Table) {s s′ : List ℕ} (i k : ℕ) → i < k → k ≤ 64 → chainsPlace ≤ length s → OnlySet i s s′ → SetRight table t s k → SetRight table t s′ k
+pub right-behind : (table : List ℕ) (t : Table) {s s′ : List ℕ} (i k : ℕ) → i < k → k ≤ 64 → ringsAt ≤ length s → OnlySet i s s′ → SetRight table t s k → SetRight table t s′ k
 right-behind table t {s} {s′} i k h l room w r = right-same table t s s′ k (set-same k (omega arith) (inr (omega arith)) w) r
 
 -- every set stays right where only the bytes behind the sets change
-pub right-before : (table : List ℕ) (t : Table) {low high : ℕ} {s s′ : List ℕ} (k : ℕ) → k ≤ 64 → setsEnd ≤ low → chainsPlace ≤ length s → SameBut low high s s′ → SetRight table t s k → SetRight table t s′ k
+pub right-before : (table : List ℕ) (t : Table) {low high : ℕ} {s s′ : List ℕ} (k : ℕ) → k ≤ 64 → setsEnd ≤ low → ringsAt ≤ length s → SameBut low high s s′ → SetRight table t s k → SetRight table t s′ k
 right-before table t {s = s} {s′ = s′} k l h room w r = right-same table t s s′ k (set-same k (omega arith) (inl (omega arith)) w) r
 
 -- the loop: the sets from i on are right
-pub record Backwards (table : List ℕ) (t : Table) (s : List ℕ) (i : ℕ) (s′ : List ℕ) : Type 0 where
+pub record Backwards (table : List ℕ) (t : Table) (log : List ℕ) (count n : ℕ) (s : List ℕ) (i : ℕ) (s′ : List ℕ) : Type 0 where
   pub few : i ≤ t .pile
-  pub same : SameBut 0 setsEnd s s′
+  pub size : length s′ ≡ length s
+  pub linked : Linked log count n s′
   pub right : (k : ℕ) → i ≤ k → k ≤ t .pile → SetRight table t s′ k
 
-pub backwards-start : {table : List ℕ} {t : Table} (s : List ℕ) → SetRight table t s (t .pile) → Backwards table t s (t .pile) s
-backwards-start {table} {t} s r = record {
+pub backwards-start : {table : List ℕ} {t : Table} {log : List ℕ} {count n : ℕ} (s : List ℕ) → Linked log count n s → SetRight table t s (t .pile) → Backwards table t log count n s (t .pile) s
+backwards-start {table} {t} s linked r = record {
   few = omega arith;
-  same = same-none 0 setsEnd s;
+  size = refl;
+  linked = linked;
   right = λ k a b. let e : t .pile ≡ k = omega arith in subst (λ (j : ℕ). SetRight table t s j) e r;
 }
 
-pub backwards-turn : {table : List ℕ} {t : Table} {s s′ s″ : List ℕ} {i : ℕ} → 0 < i → t .pile ≤ 64 → chainsPlace ≤ length s → Backwards table t s i s′ → OnlySet (i - 1) s′ s″ → SetRight table t s″ (i - 1)
-    → Backwards table t s (i - 1) s″
-backwards-turn {table} {t} {s} {s′} {s″} {i} h small room b w r = record {
+pub backwards-turn : {table : List ℕ} {t : Table} {log : List ℕ} {count n : ℕ} {s s′ s″ : List ℕ} {i : ℕ} → 0 < i → t .pile ≤ 64 → Backwards table t log count n s i s′ → OnlySet (i - 1) s′ s″
+    → SetRight table t s″ (i - 1) → Backwards table t log count n s (i - 1) s″
+backwards-turn {table} {t} {s″ = s″} {i = i} h small b w r = record {
   few = omega (arith, b .few);
-  same = same-join (b .same) (same-wider (omega arith) (omega (arith, b .few)) w);
+  size = w .size ∙ b .size;
+  linked = linked-same (omega (arith, b .few)) w (b .linked);
   right = λ k l m. elim (decLt (i - 1) k) [
-    | yes n ↦ right-behind table t (i - 1) k n (omega arith) (omega (arith, b .same .size)) w (b .right k (omega arith) m)
+    | yes n ↦ right-behind table t (i - 1) k n (omega arith) (omega (arith, b .linked .room .room)) w (b .right k (omega arith) m)
     | no n ↦ let e : i - 1 ≡ k = omega arith in subst (λ (j : ℕ). SetRight table t s″ j) e r
   ];
 }

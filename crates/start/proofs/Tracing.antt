@@ -35,7 +35,8 @@ use Rattle.stack.proofs.Numbers.{down-more}
 use Rattle.start.specs.declared.Letter.{Letter}
 use Rattle.start.specs.declared.StartPath.the-variants.{NoPath, Found}
 use Rattle.start.specs.declared.Trace.{Trace}
-use Rattle.start.specs.Regions.{setAt, chainsPlace, SameBut}
+use Rattle.scratch.specs.Regions.{ringsAt}
+use Rattle.start.specs.Regions.{setAt, SameBut}
 use Rattle.start.specs.RestSets.{processesOfTable, LetterAt, firstLead, acceptsFrom, SetRight}
 use Rattle.start.specs.Search.{pathFrom, OnPath, Advanced, PathWritten, startFound, Sought}
 use Rattle.start.proofs.ScratchRegions.{same-none, same-join}
@@ -122,7 +123,7 @@ soFar t i s = numbersDown s (stackPlace (t .pile - i)) i
 
 pub record Tracing (table : List ℕ) (t : Table) (s : List ℕ) (i : ℕ) (s′ : List ℕ) (c : Trace) : Type 0 where
   pub few : i ≤ t .pile
-  pub same : SameBut stackBase chainsPlace s s′
+  pub same : SameBut stackBase ringsAt s s′
   pub on-path : OnPath table t i c
   pub path : startPath (systemIn table) ≡ Option·map (prepend (soFar t i s′)) (pathFrom table i (c .state))
   pub figure : c .steps ≡ pathSteps (limit (systemIn table)) (soFar t i s′)
@@ -132,7 +133,7 @@ pub tracing-start : (table : List ℕ) (t : Table) (s : List ℕ) (c : Trace) �
 unfolding numbersDown
 tracing-start table t s c e z over good = record {
   few = omega arith;
-  same = same-none stackBase chainsPlace s;
+  same = same-none stackBase ringsAt s;
   on-path = record {
     over = subst (Over (processesOfTable t)) (sym e) over;
     accepted = ap (acceptsFrom table 0) e ∙ good;
@@ -142,14 +143,14 @@ tracing-start table t s c e z over good = record {
   figure = z;
 }
 
-word-only : (s : List ℕ) (at x : ℕ) → stackBase ≤ at → at + 2 ≤ chainsPlace → SameBut stackBase chainsPlace s (withNumber 2 s at x)
+word-only : (s : List ℕ) (at x : ℕ) → stackBase ≤ at → at + 2 ≤ ringsAt → SameBut stackBase ringsAt s (withNumber 2 s at x)
 word-only s at x h l = record {
   size = length-number 2 s at x;
   before = λ i b. byte-kept 2 s at x i (inl (omega arith));
   behind = λ i b. byte-kept 2 s at x i (inr (omega arith));
 }
 
-pub tracing-turn : {table : List ℕ} {t : Table} {s s′ s″ : List ℕ} {i : ℕ} {c d : Trace} → t .pile ≤ 64 → chainsPlace ≤ length s → i < t .pile → Tracing table t s i s′ c → Advanced table t i c s′ s″ d
+pub tracing-turn : {table : List ℕ} {t : Table} {s s′ s″ : List ℕ} {i : ℕ} {c d : Trace} → t .pile ≤ 64 → ringsAt ≤ length s → i < t .pile → Tracing table t s i s′ c → Advanced table t i c s′ s″ d
     → Tracing table t s (i + 1) s″ d
 tracing-turn {table} {t} {s} {s′} {s″} {i} {c} {d} small room inside w v =
     let at = stackPlace (t .pile - 1 - i) in
@@ -165,7 +166,7 @@ tracing-turn {table} {t} {s} {s′} {s″} {i} {c} {d} small room inside w v =
     let figure : c .steps ≡ min (sumOver steps (soFar t i s′)) stepsCap = w .figure in
     record {
       few = omega arith;
-      same = same-join (w .same) (subst (SameBut stackBase chainsPlace s′) (sym (v .written)) (word-only s′ at (v .number) (omega arith) (omega arith)));
+      same = same-join (w .same) (subst (SameBut stackBase ringsAt s′) (sym (v .written)) (word-only s′ at (v .number) (omega arith) (omega arith)));
       on-path = v .on-path;
       path = w .path ∙ ap (λ (o : Option Path). Option·map (prepend (soFar t i s′)) o) (v .first) ∙ prepend-more (soFar t i s′) (v .number) (pathFrom table (i + 1) (d .state))
           ∙ ap (λ (l : List ℕ). Option·map (prepend l) (pathFrom table (i + 1) (d .state))) (sym more);

@@ -13,7 +13,8 @@ use Rattle.model.specs.Systems.{accepts}
 use Rattle.automaton.specs.StateNumbers.{stateCount, stateNumber, Over}
 use Rattle.automaton.specs.StateSets.{member, firstFrom}
 use Rattle.model.specs.Records.{afterAt}
-use Rattle.chains.specs.Buckets.{recordReads}
+use Rattle.packs.specs.Packs.{packed}
+use Rattle.rings.specs.Rings.{recordReads}
 use Rattle.table.specs.declared.Table.{Table}
 use Rattle.table.specs.Reading.{systemIn, pileIn, BitsOf}
 use Rattle.start.specs.declared.Letter.{Letter}
@@ -35,7 +36,7 @@ pub record LetterAt (table : List ℕ) (i : ℕ) (a : Letter) : Type 0 where
 -- record r reads the letter in the state g, and leads into the set
 unfoldable pub leads : List ℕ → List ℕ → Letter → Group → ℕ → Bool
 leads log members a g r =
-    recordReads log (a .number) (restrict (processesOf (a .bits)) g) r && member members (stateNumber (merge (processesOf (a .bits)) (afterAt log r) g))
+    recordReads log (a .number) (packed (restrict (processesOf (a .bits)) g)) r && member members (stateNumber (merge (processesOf (a .bits)) (afterAt log r) g))
 
 -- the lowest record that does, or count
 unfoldable pub firstLead : List ℕ → ℕ → List ℕ → Letter → Group → ℕ

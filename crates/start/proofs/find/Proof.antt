@@ -1,3 +1,4 @@
+-- The sets tell whether there is a path; it is written where there is one.
 use mathlib.Core.Path.{sym, _∙_}
 use native.Mathlib.Omega.{arith}
 use borrow.Author.Needs.{needs}
@@ -7,13 +8,12 @@ use Rattle.start.proofs.find.Tie as tie
 
 is-accepted-requires : tie.Need-is-accepted-requires
 is-accepted-requires c κs =
-    let p = c .before .before .before .before .before .before .before .before .pre in
-    let e = c .before .before .before .prepare .ensures in
-    (p .0 .holds, omega (arith, e .0 .room .room), e .1 0 (omega arith))
+    let e = c .before .before .before .fill-sets .ensures in
+    (c .before .before .before .before .before .before .before .before .pre .0 .holds, omega (arith, e .0 .room .room), e .1 0 (omega arith))
 
 write-path-requires : tie.Need-write-path-requires
 write-path-requires c κs =
-    let e = c .before .before .before .before .before .before .prepare .ensures in
+    let e = c .before .before .before .before .before .before .fill-sets .ensures in
     (c .before .before .before .before .before .before .before .before .before .before .before .pre .0, e .0, e .1, sym (c .before .before .is-accepted .ensures) ∙ c .before .if1 .taken)
 
 returns : tie.Need-returns
@@ -22,7 +22,7 @@ returns c = sought-path (c .before .before .write-path .ensures)
 returns-2 : tie.Need-returns-2
 returns-2 c =
     let a = c .before .before .before .before .before .before .before .before .before .before .args in
-    sought-none (a .table .now) (a .t) (c .before .before .before .before .before .prepare .last .1 .1 .1 .0) (sym (c .before .is-accepted .ensures) ∙ c .if1 .left)
+    sought-none (a .table .now) (a .t) _ (sym (c .before .is-accepted .ensures) ∙ c .if1 .left)
 
 pub find-spec : {M : Type 1} → statement M
 find-spec =
