@@ -24,7 +24,9 @@ use Rattle.saturate.specs.declared.Saturated.{Saturated}
 use Rattle.saturate.specs.declared.Saturated.the-variants.{Limit}
 use Rattle.saturate.specs.declared.Saturated.the-variants as Saturated
 use Rattle.table.specs.declared.Table.{Table}
-use Rattle.saturate.specs.Limits.{Logged, RoundBegins, RoundCounted, RoundDone, SaturatedDone, SaturatedFull, SaturatedLimit, countOrOver}
+use Rattle.rings.specs.Rings.{RingRoom, Ringed}
+use Rattle.scratch.specs.Regions.{ringsAt}
+use Rattle.saturate.specs.Limits.{Logged, SaturatedLimit, RoundBegins, RoundCounted, RoundDone, FoundDone, SaturatedFull, FoundLimit, countOrOver}
 use Rattle.sorting.specs.Sorting.{keyPlace}
 use Rattle.initial.specs.Initial.{codesAt, initialLog, withInitial}
 use Rattle.table.specs.Reading.{Holds, itemsIn, systemIn}
@@ -165,7 +167,7 @@ module _ (table : List ℕ) (t : Table) (n : ℕ) where
       limit-is = logAt-suc sys round ∙ ap (λ (cs : List Candidate). logAt sys round ++ map (addedRecord (suc round) (logAt sys round)) cs) (length-zero (additions sys (logAt sys round)) nothing)
           ∙ append-nil (logAt sys round) ∙ ap (logAt sys) (sym last-is)
 
-      pub saturating-limit : (log₁ s₁ : List ℕ) → length log₀ ≡ length log₁ → length s₀ ≡ length s₁ → SaturatedLimit table n log₁ s₁ count round log s
+      pub saturating-limit : (log₁ s₁ : List ℕ) → length log₀ ≡ length log₁ → length s₀ ≡ length s₁ → FoundLimit table n log₁ s₁ count round log s
       saturating-limit log₁ s₁ l m = record {
         logged = subst (λ (rs : List Record). Logged rs count log) limit-is (here-at .within low);
         last-round = sym last-is ∙ sym (rounds-limit sys);
@@ -214,6 +216,28 @@ module _ (table : List ℕ) (t : Table) (n : ℕ) (holds : Holds table t) where
       }
 
       -- what a call that goes on from these buffers leaves
-      pub saturated-all : (r : Saturated) (log″ s″ : List ℕ) → SaturatedDone table n log′ s′ r log″ s″ → SaturatedDone table n log s r log″ s″
+      pub saturated-all : (r : Saturated) (log″ s″ : List ℕ) → FoundDone table n log′ s′ r log″ s″ → FoundDone table n log s r log″ s″
       saturated-all (Limit c k) log″ s″ d = record { logged = d .logged; last-round = d .last-round; fits = d .fits; log-length = d .log-length ∙ log-kept; scratch-length = d .scratch-length ∙ kept }
       saturated-all Saturated.Full log″ s″ d = record { over = d .over; log-length = d .log-length ∙ log-kept; scratch-length = d .scratch-length ∙ kept }
+
+-- ---- the rings
+module _ (table : List ℕ) (n : ℕ) (log s log₁ s₁ : List ℕ) (r : Saturated) (d : FoundDone table n log s r log₁ s₁) where
+  pub saturated-none : r ≡ Saturated.Full → SaturatedFull table n log s log₁ s₁
+  saturated-none e = subst (λ (x : Saturated). FoundDone table n log s x log₁ s₁) e d
+
+  module _ (count last : ℕ) (e : r ≡ Limit count last) (short : n ≤ 65535) (room : n * recordLength ≤ length log) (scratch : 34000 + 6 * n ≤ length s) (u : List ℕ) (size : length u ≡ length s₁) where
+    found : FoundLimit table n log s count last log₁ s₁
+    found = subst (λ (x : Saturated). FoundDone table n log s x log₁ s₁) e d
+
+    pub rings-room : RingRoom log₁ count n ringsAt u
+    rings-room = record { fits = found .fits; short = short; records = omega (arith, found .fits, found .log-length); room = omega (arith, found .scratch-length) }
+
+    pub saturated-rings : Ringed log₁ count n ringsAt u → SaturatedLimit table n log s count last log₁ u
+    saturated-rings w = record {
+      logged = found .logged;
+      last-round = found .last-round;
+      fits = found .fits;
+      log-length = found .log-length;
+      scratch-length = size ∙ found .scratch-length;
+      linked = (rings-room, w);
+    }

@@ -10,6 +10,8 @@ use Rattle.model.proofs.RoundGroups.{filter, ruleHead, upTo}
 use Rattle.table.specs.declared.Table.{Table}
 use Rattle.table.specs.Reading.{Holds, systemIn}
 use Rattle.heads.specs.Heads.{digitsOf}
+use Rattle.rings.specs.Rings.{RingRoom, Ringed}
+use Rattle.scratch.specs.Regions.{ringsAt}
 use Rattle.saturate.specs.Rounds.{InRound, earlierLog}
 use Rattle.saturate.specs.declared.groups.Added.{Added}
 use Rattle.saturate.specs.declared.groups.Added.the-variants.{Records, Full}
@@ -77,7 +79,7 @@ pub record RoundCounted (table : List ℕ) (n round : ℕ) (log s : List ℕ) (c
   pub scratch-length : length s′ ≡ length s
 
 -- the log begins with the records of the limit
-pub record SaturatedLimit (table : List ℕ) (n : ℕ) (log s : List ℕ) (count last : ℕ) (log′ s′ : List ℕ) : Type 0 where
+pub record FoundLimit (table : List ℕ) (n : ℕ) (log s : List ℕ) (count last : ℕ) (log′ s′ : List ℕ) : Type 0 where
   pub logged : Logged (limit (systemIn table)) count log′
   pub last-round : last ≡ rounds (limit (systemIn table))
   pub fits : count ≤ n
@@ -89,6 +91,19 @@ pub record SaturatedFull (table : List ℕ) (n : ℕ) (log s log′ s′ : List 
   pub over : n < length (limit (systemIn table))
   pub log-length : length log′ ≡ length log
   pub scratch-length : length s′ ≡ length s
+
+abbrev pub FoundDone : List ℕ → ℕ → List ℕ → List ℕ → Saturated → List ℕ → List ℕ → Type 0
+FoundDone table n log s (Limit count last) log′ s′ = FoundLimit table n log s count last log′ s′
+FoundDone table n log s Saturated.Full log′ s′ = SaturatedFull table n log s log′ s′
+
+-- the log begins with the records of the limit, and they are in their rings
+pub record SaturatedLimit (table : List ℕ) (n : ℕ) (log s : List ℕ) (count last : ℕ) (log′ s′ : List ℕ) : Type 0 where
+  pub logged : Logged (limit (systemIn table)) count log′
+  pub last-round : last ≡ rounds (limit (systemIn table))
+  pub fits : count ≤ n
+  pub log-length : length log′ ≡ length log
+  pub scratch-length : length s′ ≡ length s
+  pub linked : RingRoom log′ count n ringsAt s′ × Ringed log′ count n ringsAt s′
 
 abbrev pub SaturatedDone : List ℕ → ℕ → List ℕ → List ℕ → Saturated → List ℕ → List ℕ → Type 0
 SaturatedDone table n log s (Limit count last) log′ s′ = SaturatedLimit table n log s count last log′ s′

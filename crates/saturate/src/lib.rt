@@ -2,6 +2,9 @@
 use crate::groups::Added;
 use crate::rounds::add_round;
 use initial::write_initial;
+use rings::append;
+use rings::clear;
+use scratch::RINGS;
 use table::Table;
 ghost use mathlib.Core.Path.{_≡_};
 ghost use mathlib.Core.Bool.{_&&_};
@@ -10,7 +13,7 @@ ghost use lib.Dec.{leb, ltb};
 ghost use lib.ListN.{length};
 ghost use Rattle.model.specs.Records.{recordLength};
 ghost use Rattle.table.specs.Reading.{Holds};
-ghost use Rattle.saturate.specs.Limits.{RoundBegins, RoundCounted, SaturatedDone, countOrOver};
+ghost use Rattle.saturate.specs.Limits.{RoundBegins, RoundCounted, FoundDone, SaturatedDone, countOrOver};
 
 pub mod groups;
 pub mod rounds;
@@ -59,7 +62,7 @@ fn goes_on(base: usize, count: usize, n: usize) -> bool
 // Adds rounds to round 0 until one adds nothing or the log is full.
 fn add_rounds(table: &[u8], t: Table, log: &mut [u8], scratch: &mut [u8], n: usize) -> Saturated
     requires { ⌜ RoundBegins (now table) t (t .transitions) n 1 (now log) (now scratch) ⌝ }
-    ensures { λ r. ⌜ SaturatedDone (now (table .entry)) n (now (log .entry)) (now (scratch .entry)) r (now (log .exit)) (now (scratch .exit)) ⌝ }
+    ensures { λ r. ⌜ FoundDone (now (table .entry)) n (now (log .entry)) (now (scratch .entry)) r (now (log .exit)) (now (scratch .exit)) ⌝ }
 {
     let mut base = t.transitions;
     let mut round = 0;
@@ -79,12 +82,27 @@ fn add_rounds(table: &[u8], t: Table, log: &mut [u8], scratch: &mut [u8], n: usi
 }
 
 // Fills the log with the records of the limit. What it leaves in the scratch, and in the log behind them or where it has no room, is not decided.
-pub fn saturate(table: &[u8], t: Table, log: &mut [u8], scratch: &mut [u8], n: usize) -> Saturated
+fn find_limit(table: &[u8], t: Table, log: &mut [u8], scratch: &mut [u8], n: usize) -> Saturated
     requires { ⌜ Holds (now table) t × (n ≤ 65535) × (n * recordLength ≤ length (now log)) × (34000 + 4 * n ≤ length (now scratch)) ⌝ }
-    ensures { λ r. ⌜ SaturatedDone (now (table .entry)) n (now (log .entry)) (now (scratch .entry)) r (now (log .exit)) (now (scratch .exit)) ⌝ }
+    ensures { λ r. ⌜ FoundDone (now (table .entry)) n (now (log .entry)) (now (scratch .entry)) r (now (log .exit)) (now (scratch .exit)) ⌝ }
 {
     if !write_initial(table, t, log, scratch, n) {
         return Saturated::Full;
     }
     add_rounds(table, t, log, scratch, n)
+}
+
+// Fills the log with the records of the limit, and puts them into their rings.
+pub fn saturate(table: &[u8], t: Table, log: &mut [u8], scratch: &mut [u8], n: usize) -> Saturated
+    requires { ⌜ Holds (now table) t × (n ≤ 65535) × (n * recordLength ≤ length (now log)) × (34000 + 6 * n ≤ length (now scratch)) ⌝ }
+    ensures { λ r. ⌜ SaturatedDone (now (table .entry)) n (now (log .entry)) (now (scratch .entry)) r (now (log .exit)) (now (scratch .exit)) ⌝ }
+{
+    match find_limit(table, t, log, scratch, n) {
+        Saturated::Full => Saturated::Full,
+        Saturated::Limit { count, rounds } => {
+            clear(log, scratch, RINGS, n);
+            append(log, scratch, RINGS, n, 0, count);
+            Saturated::Limit { count, rounds }
+        }
+    }
 }
