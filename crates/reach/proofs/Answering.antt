@@ -74,7 +74,7 @@ module _ (table log scratch : List ℕ) (t : Table) (holds : Holds table t) wher
         → (r : Answered) → r ≡ verdict (limit (systemIn table)) (startPath (systemIn table)) → scratch′ ≡ zeros scratch₁ → Answers (answerCall table log scratch) r log′ scratch′
     unfolding logAfter scratchAfter
     answers-limit n count most e log′ scratch₁ scratch′ l r g z =
-        let few : length (limit (systemIn table)) ≤ capacity (length log) = omega (arith, l .settled .log-of .size, l .settled .fits) in
+        let few : length (limit (systemIn table)) ≤ capacity (length log) = omega (arith, l .settled .log-of .size, l .settled .linked .room .fits) in
         let zero : answerRefusal r ≡ 0 = ap answerRefusal g ∙ not-refused (limit (systemIn table)) (startPath (systemIn table)) in
         answers r (given-limit few ∙ sym g) log′ scratch′
         (l .log-left ∙ ap (λ (rs : List Record). filled (logBytes rs) log) (sym records-are) ∙ ap (λ (k : ℕ). logAfter k (recordsOf (read table)) log) (sym zero))
@@ -128,7 +128,7 @@ module _ (table log scratch : List ℕ) (t : Table) (holds : Holds table t) wher
       pub runs-limit : (n count most : ℕ) → n ≡ capacity (length log) → (log′ scratch₁ scratch′ page′ : List ℕ) → LimitLeft table t n log scratch count most log′ scratch₁
           → (r : Ran) → RunLeft table scratch₁ page r scratch′ page′ → Runs (runCall table log scratch page) r log′ scratch′ page′
       runs-limit n count most e log′ scratch₁ scratch′ page′ l r d =
-          let few : length (limit (systemIn table)) ≤ capacity (length log) = omega (arith, l .settled .log-of .size, l .settled .fits) in
+          let few : length (limit (systemIn table)) ≤ capacity (length log) = omega (arith, l .settled .log-of .size, l .settled .linked .room .fits) in
           runs r (run-limit-is few ∙ sym (d .given)) log′ scratch′ page′
           (l .log-left ∙ ap (λ (rs : List Record). filled (logBytes rs) log) (sym records-are) ∙ sym (late-log (startPath (systemIn table)) (recordsOf (read table))) ∙ ap (λ (g : Ran). logAfter (runRefusal g) (recordsOf (read table)) log) (sym (d .given)))
           (d .cleared ∙ ap (λ (k : ℕ). replicate k 0) (l .scratch-length) ∙ sym (late-scratch (startPath (systemIn table))) ∙ ap (λ (g : Ran). scratchAfter (runRefusal g) scratch) (sym (d .given)))

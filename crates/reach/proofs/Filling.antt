@@ -18,6 +18,7 @@ use Rattle.reach.specs.Outcomes.{LimitLeft, LogLeft, NoneLeft, Roomy}
 use Rattle.saturate.specs.Limits.{SaturatedDone, SaturatedFull, SaturatedLimit}
 use Rattle.table.specs.Reading.{Holds, systemIn}
 use Rattle.verdict.specs.Verdicts.{Settled}
+use Rattle.verdict.proofs.Clearing.{linked-cleared}
 use Rattle.logs.proofs.Logs.{log-fits}
 use Rattle.model.proofs.RecordBytes.{length-log}
 
@@ -59,9 +60,7 @@ module _ (table : List ℕ) (t : Table) (n : ℕ) (log scratch : List ℕ) (hold
               size = count-is;
               short = omega (arith, whole .fits, roomy .short);
             };
-            fits = whole .fits;
-            short = roomy .short;
-            room = omega (arith, roomy .scratch-room, whole .scratch-length);
+            linked = linked-cleared p (record { room = whole .linked .0; ringed = whole .linked .1 });
             highest = whole .last-round;
           };
           log-left = is ∙ ap₂ (λ (a b : ℕ). logBytes (limit sys) ++ replicate (a - b) 0) (whole .log-length) (sym bytes-long);
@@ -80,7 +79,7 @@ module _ (table : List ℕ) (t : Table) (n : ℕ) (log scratch log′ scratch′
 
     -- the highest round is a number of a record
     pub rounds-few : most ≤ 65535
-    rounds-few = let l = left-limit in omega (arith, l .settled .highest, rounds-limit (systemIn table), rounds-short (systemIn table), l .settled .log-of .size, l .settled .fits, l .settled .short)
+    rounds-few = let l = left-limit in omega (arith, l .settled .highest, rounds-limit (systemIn table), rounds-short (systemIn table), l .settled .log-of .size, l .settled .linked .room .fits, l .settled .linked .room .short)
 
     pub settled-as : (m : ℕ) → m ≡ most → Settled table t log′ n count m scratch′
     settled-as m q = subst (λ (x : ℕ). Settled table t log′ n count x scratch′) (sym q) (left-limit .settled)
