@@ -8,7 +8,7 @@ use lib.ListN.{drop}
 use Rattle.model.specs.declared.Group.{Group}
 use Rattle.model.specs.Groups.{Processes, processesOf, restrict, merge}
 use Rattle.model.specs.Lists.{anyOf}
-use Rattle.model.specs.Log.{keys, limit}
+use Rattle.model.specs.Log.{keys, logAt}
 use Rattle.model.specs.Systems.{accepts}
 use Rattle.automaton.specs.StateNumbers.{stateCount, stateNumber, Over}
 use Rattle.automaton.specs.StateSets.{member, firstFrom}
@@ -17,6 +17,7 @@ use Rattle.packs.specs.Packs.{packed}
 use Rattle.rings.specs.Rings.{recordReads}
 use Rattle.table.specs.declared.Table.{Table}
 use Rattle.table.specs.Reading.{systemIn, pileIn, BitsOf}
+use Rattle.stack.specs.RoundLogs.{EachRound}
 use Rattle.start.specs.declared.Letter.{Letter}
 use Rattle.start.specs.Regions.{setAt, OnlySet}
 
@@ -60,8 +61,17 @@ unfoldable pub isNumberOf : List Group → ℕ → Bool
 isNumberOf groups x = anyOf (λ (g : Group). eqb x (stateNumber g)) groups
 
 -- ---- what a set means
-abbrev pub acceptsFrom : List ℕ → ℕ → Group → Bool
-acceptsFrom table k g = accepts (systemIn table .loc) (keys (limit (systemIn table))) (systemIn table .accepting) (drop k (systemIn table .start .word)) g
+-- the records up to a round accept the start word from letter k on from the state g
+abbrev pub acceptsFrom : List ℕ → ℕ → ℕ → Group → Bool
+acceptsFrom table round k g = accepts (systemIn table .loc) (keys (logAt (systemIn table) round)) (systemIn table .accepting) (drop k (systemIn table .start .word)) g
 
-abbrev pub SetRight : List ℕ → Table → List ℕ → ℕ → Type 0
-SetRight table t s k = (g : Group) → Over (processesOfTable t) g → member (setAt s k) (stateNumber g) ≡ acceptsFrom table k g
+abbrev pub SetRight : List ℕ → Table → ℕ → List ℕ → ℕ → Type 0
+SetRight table t round s k = (g : Group) → Over (processesOfTable t) g → member (setAt s k) (stateNumber g) ≡ acceptsFrom table round k g
+
+-- set k is right for every round whose log this is
+abbrev pub RightSet : List ℕ → Table → List ℕ → ℕ → List ℕ → ℕ → Type 0
+RightSet table t log count s k = EachRound table t log count (λ (round : ℕ). SetRight table t round s k)
+
+-- the start's state is in the first set
+abbrev pub startIn : List ℕ → List ℕ → Bool
+startIn table s = member (setAt s 0) (stateNumber (systemIn table .start .states))

@@ -1,4 +1,4 @@
-// The start's path: the first accepting path of the limit from the start, by record numbers. Sets of states, from the back of the start word on,
+// The start's path: the first accepting path of the log's records from the start, by record numbers. Sets of states, from the back of the start word on,
 // tell from which states the rest of the word is accepted; then each letter takes the lowest record that leads into the next set.
 pub mod groups;
 pub mod letters;
@@ -13,13 +13,13 @@ use model::Group;
 use table::Table;
 use table::start_group;
 ghost use mathlib.Core.Path.{_≡_};
-ghost use Prim.Native.Nat.{_≤_};
+ghost use Prim.Native.Nat.{ℕ, _≤_};
 ghost use lib.ListN.{length};
-ghost use Rattle.table.specs.Reading.{Holds, systemIn};
-ghost use Rattle.stack.specs.LimitLog.{LimitLog};
+ghost use Rattle.table.specs.Reading.{Holds};
+ghost use Rattle.stack.specs.RoundLogs.{SomeRound, EachRound};
 ghost use Rattle.scratch.specs.Regions.{ringsAt};
 ghost use Rattle.start.specs.Regions.{Linked};
-ghost use Rattle.start.specs.RestSets.{acceptsFrom, SetRight};
+ghost use Rattle.start.specs.RestSets.{startIn};
 ghost use Rattle.start.specs.Search.{Sought};
 
 pub const SET_LENGTH: usize = 512;
@@ -56,8 +56,8 @@ pub struct Trace {
 
 // Whether the start's state is in the first set.
 fn is_accepted(table: &[u8], t: Table, scratch: &[u8]) -> bool
-    requires { ⌜ Holds (now table) t × (ringsAt ≤ length (now scratch)) × SetRight (now table) t (now scratch) 0 ⌝ }
-    ensures { λ b. ⌜ b ≡ acceptsFrom (now (table .entry)) 0 (systemIn (now (table .entry)) .start .states) ⌝ }
+    requires { ⌜ Holds (now table) t × (ringsAt ≤ length (now scratch)) ⌝ }
+    ensures { λ b. ⌜ b ≡ startIn (now (table .entry)) (now (scratch .entry)) ⌝ }
 {
     let g = start_group(table, t);
     contains(&scratch[0..SET_LENGTH], number(g))
@@ -73,8 +73,8 @@ pub fn find(
     n: usize,
     count: usize,
 ) -> StartPath
-    requires { ⌜ LimitLog (now table) t (now log) count × Linked (now log) count n (now scratch) ⌝ }
-    ensures { λ r. ⌜ Sought (now (table .entry)) t r (now (scratch .exit)) ⌝ }
+    requires { ⌜ SomeRound (now table) t (now log) count × Linked (now log) count n (now scratch) ⌝ }
+    ensures { λ r. ⌜ EachRound (now (table .entry)) t (now (log .entry)) count (λ (round : ℕ). Sought (now (table .entry)) t round r (now (scratch .exit))) ⌝ }
 {
     fill_sets(table, t, log, scratch, n, count);
     if is_accepted(table, t, scratch) {

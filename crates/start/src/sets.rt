@@ -14,10 +14,10 @@ ghost use Prim.Native.Nat.{ℕ, _+_, _*_, _<_, _≤_};
 ghost use lib.ListN.{length};
 ghost use Rattle.automaton.specs.StateNumbers.{stateCount, stateNumber};
 ghost use Rattle.table.specs.Reading.{Holds, acceptingIn, systemIn};
-ghost use Rattle.stack.specs.LimitLog.{LimitLog};
+ghost use Rattle.stack.specs.RoundLogs.{SomeRound};
 ghost use Rattle.scratch.specs.Regions.{ringsAt};
 ghost use Rattle.start.specs.Regions.{withState, Linked, OnlySet};
-ghost use Rattle.start.specs.RestSets.{EmptySet, Filled, isNumberOf, SetRight};
+ghost use Rattle.start.specs.RestSets.{EmptySet, Filled, isNumberOf, SetRight, RightSet};
 
 fn clear_set(scratch: &mut [u8], k: usize)
     requires { ⌜ (k ≤ 64) × (ringsAt ≤ length (now scratch)) ⌝ }
@@ -45,8 +45,8 @@ fn fill_set(
     count: usize,
     i: usize,
 )
-    requires { ⌜ LimitLog (now table) t (now log) count × Linked (now log) count n (now scratch) × (i < t .pile) × SetRight (now table) t (now scratch) (i + 1) ⌝ }
-    ensures { λ _. ⌜ OnlySet i (now (scratch .entry)) (now (scratch .exit)) × SetRight (now (table .entry)) t (now (scratch .exit)) i ⌝ }
+    requires { ⌜ SomeRound (now table) t (now log) count × Linked (now log) count n (now scratch) × (i < t .pile) × RightSet (now table) t (now log) count (now scratch) (i + 1) ⌝ }
+    ensures { λ _. ⌜ OnlySet i (now (scratch .entry)) (now (scratch .exit)) × RightSet (now (table .entry)) t (now (log .entry)) count (now (scratch .exit)) i ⌝ }
 {
     let a = letter_at(table, t, i);
     clear_set(scratch, i);
@@ -57,8 +57,8 @@ fn fill_set(
 
 // All sets, from the back.
 pub fn fill_sets(table: &[u8], t: Table, log: &[u8], scratch: &mut [u8], n: usize, count: usize)
-    requires { ⌜ LimitLog (now table) t (now log) count × Linked (now log) count n (now scratch) ⌝ }
-    ensures { λ _. ⌜ Linked (now (log .entry)) count n (now (scratch .exit)) × ((k : ℕ) → k ≤ t .pile → SetRight (now (table .entry)) t (now (scratch .exit)) k) ⌝ }
+    requires { ⌜ SomeRound (now table) t (now log) count × Linked (now log) count n (now scratch) ⌝ }
+    ensures { λ _. ⌜ Linked (now (log .entry)) count n (now (scratch .exit)) × ((k : ℕ) → k ≤ t .pile → RightSet (now (table .entry)) t (now (log .entry)) count (now (scratch .exit)) k) ⌝ }
 {
     fill_accepting(table, t, scratch);
     let mut i = t.pile;
@@ -91,7 +91,7 @@ fn add_all_accepting(table: &[u8], t: Table, scratch: &mut [u8])
 // The last set: the accepting groups.
 fn fill_accepting(table: &[u8], t: Table, scratch: &mut [u8])
     requires { ⌜ Holds (now table) t × (ringsAt ≤ length (now scratch)) ⌝ }
-    ensures { λ _. ⌜ OnlySet (t .pile) (now (scratch .entry)) (now (scratch .exit)) × SetRight (now (table .entry)) t (now (scratch .exit)) (t .pile) ⌝ }
+    ensures { λ _. ⌜ OnlySet (t .pile) (now (scratch .entry)) (now (scratch .exit)) × ((round : ℕ) → SetRight (now (table .entry)) t round (now (scratch .exit)) (t .pile)) ⌝ }
 {
     clear_set(scratch, t.pile);
     add_all_accepting(table, t, scratch);

@@ -33,7 +33,7 @@ unfolding stated
 stated-found log none = refl
 stated-found log (some p) = refl
 
-pub verdict-stated : {table : List ℕ} {t : Table} {log : List ℕ} {n count most : ℕ} {s : List ℕ} → Settled table t log n count most s → (answer : StartPath) (s′ : List ℕ) → Sought table t answer s′
+pub verdict-stated : {table : List ℕ} {t : Table} {log : List ℕ} {n count most : ℕ} {s : List ℕ} → Settled table t log n count most s → (answer : StartPath) (s′ : List ℕ) → Sought table t (saturatedAt (systemIn table)) answer s′
     → stated answer count most ≡ verdict (limit (systemIn table)) (startPath (systemIn table))
 verdict-stated {table = table} w answer s′ f =
     rw (f .given, sym (w .log-of .size), w .highest) (stated-found (limit (systemIn table)) (startPath (systemIn table)))
@@ -131,7 +131,7 @@ path-found : (log : List Record) (o : Option Path) (steps : ℕ) → Found steps
 path-found log none steps e = let z : _≡_ {A = ℕ} 0 1 = cc in absurd (omega arith)
 path-found log (some p) steps e = record { path = p; is = refl; figure = cc }
 
-module _ {table : List ℕ} {t : Table} {log : List ℕ} {n count most : ℕ} {s : List ℕ} (w : Settled table t log n count most s) (answer : StartPath) (s₁ : List ℕ) (f : Sought table t answer s₁) (size : length s₁ ≡ length s) where
+module _ {table : List ℕ} {t : Table} {log : List ℕ} {n count most : ℕ} {s : List ℕ} (w : Settled table t log n count most s) (answer : StartPath) (s₁ : List ℕ) (f : Sought table t (saturatedAt (systemIn table)) answer s₁) (size : length s₁ ≡ length s) where
   pub run-none : (page s₂ : List ℕ) → answer ≡ NoPath → s₂ ≡ zeros s₁ → RunLeft table s page (Ran.Refused 16 0) s₂ page
   unfolding pageAfter
   run-none page s₂ e z =

@@ -12,7 +12,7 @@ use Rattle.model.specs.Log.{Path, limit, rounds}
 use Rattle.model.specs.Unfolding.{emitted, pathSteps}
 use Rattle.table.specs.declared.Table.{Table}
 use Rattle.table.specs.Reading.{systemIn}
-use Rattle.stack.specs.LimitLog.{LimitLog, scratchFor}
+use Rattle.stack.specs.RoundLogs.{LimitLog, scratchFor}
 use Rattle.stack.specs.StackNumbers.{stackOf}
 use Rattle.start.specs.declared.StartPath.{StartPath}
 use Rattle.start.specs.declared.StartPath.the-variants.{NoPath, Found}

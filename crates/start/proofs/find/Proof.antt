@@ -7,9 +7,7 @@ use Rattle.start.proofs.find.Statement.{statement}
 use Rattle.start.proofs.find.Tie as tie
 
 is-accepted-requires : tie.Need-is-accepted-requires
-is-accepted-requires c κs =
-    let e = c .before .before .before .fill-sets .ensures in
-    (c .before .before .before .before .before .before .before .before .pre .0 .holds, omega (arith, e .0 .room .room), e .1 0 (omega arith))
+is-accepted-requires c κs = (c .before .before .before .before .before .before .before .before .pre .0 .1 .holds, omega (arith, c .before .before .before .fill-sets .ensures .0 .room .room))
 
 write-path-requires : tie.Need-write-path-requires
 write-path-requires c κs =
@@ -17,12 +15,10 @@ write-path-requires c κs =
     (c .before .before .before .before .before .before .before .before .before .before .before .pre .0, e .0, e .1, sym (c .before .before .is-accepted .ensures) ∙ c .before .if1 .taken)
 
 returns : tie.Need-returns
-returns c = sought-path (c .before .before .write-path .ensures)
+returns c = λ round lent. sought-path (c .before .before .write-path .ensures round lent)
 
 returns-2 : tie.Need-returns-2
-returns-2 c =
-    let a = c .before .before .before .before .before .before .before .before .before .before .args in
-    sought-none (a .table .now) (a .t) _ (sym (c .before .is-accepted .ensures) ∙ c .if1 .left)
+returns-2 c = sought-none _ (c .before .before .before .before .before .fill-sets .ensures .1 0 (omega arith)) (sym (c .before .is-accepted .ensures) ∙ c .if1 .left)
 
 pub find-spec : {M : Type 1} → statement M
 find-spec =

@@ -4,19 +4,15 @@ use Prim.Native.Nat.{ℕ}
 use borrow.Author.Needs.{needs}
 use Rattle.automaton.specs.StateNumbers.{stateNumber}
 use Rattle.automaton.specs.StateSets.{member}
-use Rattle.table.specs.Reading.{systemIn}
 use Rattle.start.proofs.ScratchRegions.{set-part}
-use Rattle.start.proofs.Grounds.{grounds}
 use Rattle.start.proofs.is_accepted.Statement.{statement}
 use Rattle.start.proofs.is_accepted.Tie as tie
 
 returns : tie.Need-returns
 returns c =
     let a = c .before .before .before .before .before .before .args in
-    let p = c .before .before .before .before .before .before .pre in
     c .contains .ensures
     ∙ ap₂ (λ (l : List ℕ) (x : ℕ). member l x) (set-part (a .scratch .now) 0) (c .before .number .ensures .0 ∙ ap stateNumber (c .before .before .before .start-group .ensures))
-    ∙ p .2 (systemIn (a .table .now) .start .states) (grounds (a .table .now) (a .t) (p .0) .start)
 
 pub is-accepted-spec : {M : Type 1} → statement M
 is-accepted-spec =

@@ -18,7 +18,7 @@ returns c =
     let e = c .before .before .before .before .before .before .clear-set in
     let f = c .before .before .add-all-accepting in (
       same-join (e .ensures .0) (f .ensures .same),
-      set-last (grounds (a .table .now) (a .t) holds) (pile-count (a .table .now) (a .t) holds) (e .last .0) (f .last .1 .1 .0) (f .ensures),
+      λ round. set-last (grounds (a .table .now) (a .t) holds) (pile-count (a .table .now) (a .t) holds) round (e .last .0) (f .last .1 .1 .0) (f .ensures),
     )
 
 pub fill-accepting-spec : {M : Type 1} → statement M

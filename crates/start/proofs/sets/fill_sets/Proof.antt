@@ -15,7 +15,7 @@ abbrev μ-loop : tie.MeasureT-loop
 μ-loop table t log scratch₀ n count i₀ scratch i = i
 
 fill-accepting-requires : tie.Need-fill-accepting-requires Inv-loop μ-loop
-fill-accepting-requires c κs = let p = c .before .before .before .before .pre in (p .0 .holds, omega (arith, p .1 .room .room))
+fill-accepting-requires c κs = let p = c .before .before .before .before .pre in (p .0 .1 .holds, omega (arith, p .1 .room .room))
 
 loop-holds : tie.Need-loop-holds Inv-loop μ-loop
 loop-holds c =
@@ -23,7 +23,7 @@ loop-holds c =
     let a = at-start .args in
     let p = at-start .pre in
     let f = c .before .before .fill-accepting .ensures in
-    backwards-start _ (linked-same (omega (arith, table-modest (a .table .now) (a .t) (p .0 .holds) .pile)) (f .0) (p .1)) (f .1)
+    backwards-start _ (linked-same (omega (arith, table-modest (a .table .now) (a .t) (p .0 .1 .holds) .pile)) (f .0) (p .1)) (λ round lent. f .1 round)
 
 fill-set-requires : tie.Need-fill-set-requires Inv-loop μ-loop
 fill-set-requires c κs =
@@ -40,7 +40,7 @@ loop-again c =
     let at-start = c .before .before .before .before .before .before .before .before .before .before .before .before .before in
     let a = at-start .args in
     let f = c .before .before .fill-set .ensures in
-    backwards-turn (c .before .before .before .before .loop-test .taken) (table-modest (a .table .now) (a .t) (at-start .pre .0 .holds) .pile) (c .before .before .before .before .before .loop .inv) (f .0) (f .1)
+    backwards-turn (c .before .before .before .before .loop-test .taken) (table-modest (a .table .now) (a .t) (at-start .pre .0 .1 .holds) .pile) (c .before .before .before .before .before .loop .inv) (f .0) (f .1)
 
 same-length : tie.Need-same-length Inv-loop μ-loop
 same-length c = c .before .loop .inv .size ∙ c .before .before .before .before .fill-accepting .ensures .0 .size
