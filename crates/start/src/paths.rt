@@ -3,6 +3,7 @@ use crate::Trace;
 use crate::letters::first_lead;
 use crate::letters::letter_at;
 use automaton::groups::merged;
+use records::STEPS_CAP;
 use records::after_at;
 use records::steps_at;
 use stack::put_number;
@@ -16,8 +17,6 @@ ghost use Rattle.stack.specs.RoundLogs.{SomeRound, EachRound};
 ghost use Rattle.start.specs.Regions.{Linked};
 ghost use Rattle.start.specs.RestSets.{RightSet, startIn};
 ghost use Rattle.start.specs.Search.{Underway, Advanced, PathWritten};
-
-const STEPS_CAP: u32 = 1000001;
 
 fn add_steps(a: u32, b: u32) -> u32
     requires { ⌜ (a ≤ stepsCap) × (b < 2 ^ 24) ⌝ }
