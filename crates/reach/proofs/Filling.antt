@@ -26,7 +26,8 @@ module _ (table : List ℕ) (t : Table) (n : ℕ) (log scratch : List ℕ) (hold
   abbrev sys : System
   sys = systemIn table
 
-  pub none-left : (log₁ scratch₁ log₂ scratch₂ : List ℕ) (r : Saturated) → r ≡ Full → SaturatedDone table n log scratch r log₁ scratch₁ → log₂ ≡ zeros log₁ → scratch₂ ≡ zeros scratch₁ → NoneLeft table n log scratch log₂ scratch₂
+  pub none-left : (log₁ scratch₁ log₂ scratch₂ : List ℕ) (r : Saturated) → r ≡ Full → SaturatedDone table n log scratch r log₁ scratch₁ → log₂ ≡ zeros log₁
+      → scratch₂ ≡ zeros scratch₁ → NoneLeft table n log scratch log₂ scratch₂
   none-left log₁ scratch₁ log₂ scratch₂ r e d p q =
       let full : SaturatedFull table n log scratch log₁ scratch₁ = subst (λ (x : Saturated). SaturatedDone table n log scratch x log₁ scratch₁) e d in
       record { over = full .over; log-left = p ∙ zeros-same log₁ log (full .log-length); scratch-left = q ∙ zeros-same scratch₁ scratch (full .scratch-length) }
@@ -47,7 +48,8 @@ module _ (table : List ℕ) (t : Table) (n : ℕ) (log scratch : List ℕ) (hold
     few-rounds : saturatedAt sys ≤ 65535
     few-rounds = omega (arith, rounds-short sys, count-is, whole .fits, roomy .short)
 
-    pub limit-left : (log₂ : List ℕ) → log₂ ≡ take (count * recordLength) log₁ ++ replicate (length log₁ - count * recordLength) 0 → LimitLeft table t n log scratch count most log₂ scratch₁
+    pub limit-left : (log₂ : List ℕ) → log₂ ≡ take (count * recordLength) log₁ ++ replicate (length log₁ - count * recordLength) 0
+        → LimitLeft table t n log scratch count most log₂ scratch₁
     limit-left log₂ p =
         let is : log₂ ≡ logBytes (limit sys) ++ replicate (length log₁ - count * recordLength) 0 = p ∙ ap (λ (l : List ℕ). l ++ replicate (length log₁ - count * recordLength) 0) (whole .logged .bytes) in
         record {

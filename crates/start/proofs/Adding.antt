@@ -76,10 +76,12 @@ module _ (log : List ℕ) (count : ℕ) (members : List ℕ) (a : Letter) (f : F
     pub high : r ≤ count
     pub reading : r < count → recordReads log (a .number) before r ≡ true
     pub added : Added log count members a f (λ (z : ℕ). ⊥) k s t
-    pub taken : (g : Group) → InFrame (processesOf (a .bits)) f g → ownNumber (processesOf (a .bits)) g ≡ x → (q : ℕ) → q < r → leads log members a g q ≡ true → member (setAt t k) (stateNumber g) ≡ true
+    pub taken : (g : Group) → InFrame (processesOf (a .bits)) f g → ownNumber (processesOf (a .bits)) g ≡ x → (q : ℕ) → q < r → leads log members a g q ≡ true
+        → member (setAt t k) (stateNumber g) ≡ true
 
   -- a record reads the letter in g exactly if it has g's own states before
-  reads-own : (g : Group) (x before r : ℕ) → before ≡ packed (groupNumbered (processesOf (a .bits)) x) → Numbered (processesOf (a .bits)) g → ownNumber (processesOf (a .bits)) g ≡ x
+  reads-own : (g : Group) (x before r : ℕ) → before ≡ packed (groupNumbered (processesOf (a .bits)) x) → Numbered (processesOf (a .bits)) g
+      → ownNumber (processesOf (a .bits)) g ≡ x
       → recordReads log (a .number) (packed (restrict (processesOf (a .bits)) g)) r ≡ recordReads log (a .number) before r
   reads-own g x before r b h e = ap (λ (d : ℕ). recordReads log (a .number) d r) (sym (b ∙ ap packed (ap (groupNumbered L) (sym e) ∙ numbered-own L g h)))
 
@@ -91,7 +93,8 @@ module _ (log : List ℕ) (count : ℕ) (members : List ℕ) (a : Letter) (f : F
     complete = λ g w z y. absurd (never (ownNumber L g) z);
   }
 
-  pub taking-start : (x before r : ℕ) (s : List ℕ) → before ≡ packed (groupNumbered (processesOf (a .bits)) x) → r ≡ firstFrom (recordReads log (a .number) before) 0 count → Taking x before r s s
+  pub taking-start : (x before r : ℕ) (s : List ℕ) → before ≡ packed (groupNumbered (processesOf (a .bits)) x) → r ≡ firstFrom (recordReads log (a .number) before) 0 count
+      → Taking x before r s s
   taking-start x before r s b e =
       let w = first-at (reads before) 0 count r e in
       record {
@@ -119,7 +122,8 @@ module _ (log : List ℕ) (count : ℕ) (members : List ℕ) (a : Letter) (f : F
     like g = in-set t (k + 1) (stateNumber (merge L (afterAt log r) g)) (stateNumber-below (merge L (afterAt log r) g))
         ∙ ap (λ (l : List ℕ). member l (stateNumber (merge L (afterAt log r) g))) same
 
-    leads-is : (g : Group) → Numbered (processesOf (a .bits)) g → ownNumber (processesOf (a .bits)) g ≡ x → leads log members a g r ≡ inSet t (setPlace (k + 1)) (stateNumber (merge (processesOf (a .bits)) (afterAt log r) g))
+    leads-is : (g : Group) → Numbered (processesOf (a .bits)) g → ownNumber (processesOf (a .bits)) g ≡ x
+        → leads log members a g r ≡ inSet t (setPlace (k + 1)) (stateNumber (merge (processesOf (a .bits)) (afterAt log r) g))
     leads-is g i e = lead-reads log members a g r (reads-own g x before r (w .states) i e ∙ w .reading h) ∙ sym (like g)
 
     gained-leads : (g : Group) → Numbered (processesOf (a .bits)) g → gained g ≡ true → someLead log count members a g ≡ true

@@ -139,7 +139,8 @@ module _ (table : List ℕ) (t : Table) (h : Holds table t) where
   loc-present : (a : ℕ) → a < length (bodies 2 (itemsIn table)) → Within (systemIn table .loc a) (present (bodies 1 (itemsIn table)))
   loc-present a l = subst (λ (L : Processes). Within (systemIn table .loc a) L) (sym processes-are) (loc-within a (subst (λ (n : ℕ). a < n) (count-in table t h 2 (omega arith)) l))
 
-  below-8 : (bound : Process → ℕ) → ((i : Process) → has (present (bodies 1 (itemsIn table))) i ≡ true → bound i ≤ 8) → (u : Transition) → Fitting (bodies 2 (itemsIn table)) bound u
+  below-8 : (bound : Process → ℕ) → ((i : Process) → has (present (bodies 1 (itemsIn table))) i ≡ true → bound i ≤ 8) → (u : Transition)
+      → Fitting (bodies 2 (itemsIn table)) bound u
       → Below (systemIn table .loc) (λ (i : Process). 8) u
   unfolding systemIn systemOf
   below-8 bound small u f i m =
@@ -173,7 +174,8 @@ module _ (table : List ℕ) (t : Table) (h : Holds table t) where
         (λ body f. from-states (statesOf ps) (λ i m. omega arith) (transitionOf body) (f .fits)) (bodies 4 items) (transitions-fit (complete .checked)))) m;
   }
     where
-      from-states : (bound : Process → ℕ) → ((i : Process) → has (present (bodies 1 (itemsIn table))) i ≡ true → bound i ≤ statesIn table i) → (u : Transition) → Fitting (bodies 2 (itemsIn table)) bound u
+      from-states : (bound : Process → ℕ) → ((i : Process) → has (present (bodies 1 (itemsIn table))) i ≡ true → bound i ≤ statesIn table i) → (u : Transition)
+          → Fitting (bodies 2 (itemsIn table)) bound u
           → From (systemIn table .loc) (statesIn table) u
       from-states bound small u f i m =
           let a : at (u .before) i < bound i = fits-at (locOf ls (u .letter)) bound (u .before) (f .before) i m in

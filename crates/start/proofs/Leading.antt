@@ -38,7 +38,8 @@ module _ (log members : List ℕ) (a : Letter) (g : Group) where
     pub reading : r < count → recordReads log (a .number) before r ≡ true
     pub fails : Fails (leads log members a g) 0 r
 
-  pub seeking-start : (before count r : ℕ) → before ≡ packed (restrict (processesOf (a .bits)) g) → r ≡ firstFrom (recordReads log (a .number) before) 0 count → Seeking before count r
+  pub seeking-start : (before count r : ℕ) → before ≡ packed (restrict (processesOf (a .bits)) g) → r ≡ firstFrom (recordReads log (a .number) before) 0 count
+      → Seeking before count r
   seeking-start before count r is e =
       let f = first-at (recordReads log (a .number) before) 0 count r e in
       record { states = is; high = omega (arith, f .high); reading = λ h. f .passes (omega arith); fails = fails-lead before 0 r is (f .fails) }

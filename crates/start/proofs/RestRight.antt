@@ -131,7 +131,8 @@ module _ {table : List ℕ} {t : Table} {round : ℕ} {log : List ℕ} {count : 
       (letter .bits .same ∙ sym (ap (sys .loc) (reads-letter (sys .loc) (pileIn table i) g (recordAt records r) y)))
       (round-reads lent r h .after)
 
-  pub target-over : (g : Group) (r : ℕ) → r < count → Over (processesOfTable t) g → readsAt (systemIn table .loc) (pileIn table i) g (recordAt (logAt (systemIn table) round) r) ≡ true
+  pub target-over : (g : Group) (r : ℕ) → r < count → Over (processesOfTable t) g
+      → readsAt (systemIn table .loc) (pileIn table i) g (recordAt (logAt (systemIn table) round) r) ≡ true
       → Over (processesOfTable t) (move (systemIn table .loc) (recordAt (logAt (systemIn table) round) r .key) g)
   target-over g r h o y = over-merge (processesOfTable t) (sys .loc (recordAt records r .key .letter)) (recordAt records r .key .after) g
       (rw (reads-letter (sys .loc) (pileIn table i) g (recordAt records r) y) (ground .letters i inside))
@@ -194,11 +195,13 @@ right-same : (table : List ℕ) (t : Table) (round : ℕ) (s s′ : List ℕ) (k
 right-same table t round s s′ k e r g o = ap (λ (l : List ℕ). member l (stateNumber g)) e ∙ r g o
 
 -- a set behind one that has changed stays right
-pub right-behind : (table : List ℕ) (t : Table) (round : ℕ) {s s′ : List ℕ} (i k : ℕ) → i < k → k ≤ 64 → ringsAt ≤ length s → OnlySet i s s′ → SetRight table t round s k → SetRight table t round s′ k
+pub right-behind : (table : List ℕ) (t : Table) (round : ℕ) {s s′ : List ℕ} (i k : ℕ) → i < k → k ≤ 64 → ringsAt ≤ length s → OnlySet i s s′ → SetRight table t round s k
+    → SetRight table t round s′ k
 right-behind table t round {s} {s′} i k h l room w r = right-same table t round s s′ k (set-same k (omega arith) (inr (omega arith)) w) r
 
 -- every set stays right where only the bytes behind the sets change
-pub right-before : (table : List ℕ) (t : Table) (round : ℕ) {low high : ℕ} {s s′ : List ℕ} (k : ℕ) → k ≤ 64 → setsEnd ≤ low → ringsAt ≤ length s → SameBut low high s s′ → SetRight table t round s k → SetRight table t round s′ k
+pub right-before : (table : List ℕ) (t : Table) (round : ℕ) {low high : ℕ} {s s′ : List ℕ} (k : ℕ) → k ≤ 64 → setsEnd ≤ low → ringsAt ≤ length s → SameBut low high s s′
+    → SetRight table t round s k → SetRight table t round s′ k
 right-before table t round {s = s} {s′ = s′} k l h room w r = right-same table t round s s′ k (set-same k (omega arith) (inl (omega arith)) w) r
 
 -- the loop: the sets from i on are right
@@ -208,7 +211,8 @@ pub record Backwards (table : List ℕ) (t : Table) (log : List ℕ) (count n : 
   pub linked : Linked log count n s′
   pub right : (k : ℕ) → i ≤ k → k ≤ t .pile → RightSet table t log count s′ k
 
-pub backwards-start : {table : List ℕ} {t : Table} {log : List ℕ} {count n : ℕ} (s : List ℕ) → Linked log count n s → RightSet table t log count s (t .pile) → Backwards table t log count n s (t .pile) s
+pub backwards-start : {table : List ℕ} {t : Table} {log : List ℕ} {count n : ℕ} (s : List ℕ) → Linked log count n s → RightSet table t log count s (t .pile)
+    → Backwards table t log count n s (t .pile) s
 backwards-start {table} {t} {log} {count} s linked r = record {
   few = omega arith;
   size = refl;
@@ -216,7 +220,8 @@ backwards-start {table} {t} {log} {count} s linked r = record {
   right = λ k a b. let e : t .pile ≡ k = omega arith in subst (λ (j : ℕ). RightSet table t log count s j) e r;
 }
 
-pub backwards-turn : {table : List ℕ} {t : Table} {log : List ℕ} {count n : ℕ} {s s′ s″ : List ℕ} {i : ℕ} → 0 < i → t .pile ≤ 64 → Backwards table t log count n s i s′ → OnlySet (i - 1) s′ s″
+pub backwards-turn : {table : List ℕ} {t : Table} {log : List ℕ} {count n : ℕ} {s s′ s″ : List ℕ} {i : ℕ} → 0 < i → t .pile ≤ 64 → Backwards table t log count n s i s′
+    → OnlySet (i - 1) s′ s″
     → RightSet table t log count s″ (i - 1) → Backwards table t log count n s (i - 1) s″
 backwards-turn {table} {t} {log} {count} {s″ = s″} {i = i} h small b w r = record {
   few = omega (arith, b .few);

@@ -45,7 +45,8 @@ unfolding setAt
 byte-set s k i h = getD-take setLength (drop (setPlace k) s) i 0 h ∙ getD-drop (setPlace k) s i 0
 
 -- a set beside what has changed stays
-pub set-same : {low high : ℕ} {s t : List ℕ} (k : ℕ) → setPlace k + setLength ≤ length s → (setPlace k + setLength ≤ low) ⊎ (high ≤ setPlace k) → SameBut low high s t → setAt t k ≡ setAt s k
+pub set-same : {low high : ℕ} {s t : List ℕ} (k : ℕ) → setPlace k + setLength ≤ length s → (setPlace k + setLength ≤ low) ⊎ (high ≤ setPlace k) → SameBut low high s t
+    → setAt t k ≡ setAt s k
 set-same {low} {high} {s} {t} k h d p =
     let ls : length (setAt s k) ≡ setLength = length-set-at s k h in
     let lt : length (setAt t k) ≡ setLength = length-set-at t k (omega (arith, p .size)) in

@@ -28,8 +28,9 @@ use Rattle.numbers.specs.NumberBytes.{withNumber}
 use Rattle.numbers.proofs.NumberBytes.{byte-kept, length-number}
 use Rattle.table.specs.declared.Table.{Table}
 use Rattle.table.specs.Reading.{Holds, systemIn, pileIn}
+use Rattle.table.proofs.Layouts.{table-modest}
 use Rattle.stack.specs.StackNumbers.{stackBase, stackPlace, numbersDown, stackOf}
-use Rattle.stack.specs.RoundLogs.{RoundLog, EachRound}
+use Rattle.stack.specs.RoundLogs.{RoundLog, SomeRound, EachRound}
 use Rattle.stack.proofs.Numbers.{down-more}
 use Rattle.stack.proofs.RoundLogs.{round-fits, round-reads}
 use Rattle.start.specs.declared.Letter.{Letter}
@@ -37,11 +38,11 @@ use Rattle.start.specs.declared.StartPath.the-variants.{NoPath, Found}
 use Rattle.start.specs.declared.Trace.{Trace}
 use Rattle.scratch.specs.Regions.{ringsAt}
 use Rattle.start.specs.Regions.{setAt, SameBut}
-use Rattle.start.specs.RestSets.{processesOfTable, LetterAt, firstLead, acceptsFrom, SetRight, RightSet, startIn}
+use Rattle.start.specs.RestSets.{processesOfTable, LetterAt, firstLead, acceptsFrom, SetRight, RightSet, SetsRight, startIn}
 use Rattle.start.specs.Search.{pathFrom, roundPath, OnPath, Underway, Advanced, PathWritten, startFound, Sought}
-use Rattle.start.proofs.ScratchRegions.{same-none, same-join}
+use Rattle.start.proofs.ScratchRegions.{same-none, same-join, linked-same}
 use Rattle.start.proofs.Grounds.{grounds}
-use Rattle.start.proofs.RestRight.{goesOn, word-from, target-is, target-over, first-is-lead, lead-accepts}
+use Rattle.start.proofs.RestRight.{right-before, goesOn, word-from, target-is, target-over, first-is-lead, lead-accepts}
 
 -- ---- the lowest record that leads on
 pick-first : (sys : System) (b : ℕ) (g : Group) (ok : Group → Bool) (next : Group → Option Path) (rs : List Record) (n j : ℕ) → j < length rs
@@ -171,6 +172,18 @@ tracing-start table t log count s c holds right good e z = record {
   path = λ round lent. prepend-none (roundPath table round) ∙ ap (λ (g : Group). Option·map (prepend []) (pathFrom table round 0 g)) (sym e);
   figure = λ round lent. z;
 }
+
+pub tracing-underway : {table : List ℕ} {t : Table} {log : List ℕ} {count n : ℕ} {s : List ℕ} {i : ℕ} {s′ : List ℕ} {c : Trace} → SomeRound table t log count → SetsRight table t log count n s
+    → Tracing table t log count s i s′ c → i < t .pile → Underway table t log count n s′ i c
+tracing-underway {table} {t} {i = i} lent sets w inside =
+    let small : t .pile ≤ 64 = table-modest table t (lent .1 .holds) .pile in
+    record {
+      some = lent;
+      linked = linked-same (omega arith) (w .same) (sets .linked);
+      inside = inside;
+      next = λ round r. right-before table t round (i + 1) (omega arith) (omega arith) (omega (arith, sets .linked .room .room)) (w .same) (sets .right (i + 1) (omega arith) round r);
+      on-path = w .on-path;
+    }
 
 word-only : (s : List ℕ) (at x : ℕ) → stackBase ≤ at → at + 2 ≤ ringsAt → SameBut stackBase ringsAt s (withNumber 2 s at x)
 word-only s at x h l = record {

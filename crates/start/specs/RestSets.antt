@@ -2,7 +2,7 @@
 use mathlib.Core.Path.{_≡_}
 use mathlib.Core.Bool.{Bool, false, _&&_}
 use mathlib.Core.List.{List}
-use Prim.Native.Nat.{ℕ, _<_}
+use Prim.Native.Nat.{ℕ, _<_, _≤_}
 use lib.Dec.{eqb, ltb}
 use lib.ListN.{drop}
 use Rattle.model.specs.declared.Group.{Group}
@@ -19,7 +19,7 @@ use Rattle.table.specs.declared.Table.{Table}
 use Rattle.table.specs.Reading.{systemIn, pileIn, BitsOf}
 use Rattle.stack.specs.RoundLogs.{EachRound}
 use Rattle.start.specs.declared.Letter.{Letter}
-use Rattle.start.specs.Regions.{setAt, OnlySet}
+use Rattle.start.specs.Regions.{setAt, Linked, OnlySet}
 
 -- the first n processes, and those of the table
 abbrev pub firstProcesses : ℕ → Processes
@@ -71,6 +71,11 @@ SetRight table t round s k = (g : Group) → Over (processesOfTable t) g → mem
 -- set k is right for every round whose log this is
 abbrev pub RightSet : List ℕ → Table → List ℕ → ℕ → List ℕ → ℕ → Type 0
 RightSet table t log count s k = EachRound table t log count (λ (round : ℕ). SetRight table t round s k)
+
+-- the log's first count records are in their rings, and every set is right
+pub record SetsRight (table : List ℕ) (t : Table) (log : List ℕ) (count n : ℕ) (s : List ℕ) : Type 0 where
+  pub linked : Linked log count n s
+  pub right : (k : ℕ) → k ≤ t .pile → RightSet table t log count s k
 
 -- the start's state is in the first set
 abbrev pub startIn : List ℕ → List ℕ → Bool

@@ -14,7 +14,8 @@ use Rattle.rings.proofs.Rings.{ringed-log}
 use Rattle.scratch.specs.Regions.{ringsAt}
 use Rattle.start.specs.Regions.{Linked}
 
-pub zeros-behind : (l ys : List ℕ) (a : ℕ) → ys ≡ zeros (take (length l - a) (drop a l)) → take a l ++ (ys ++ drop (length l - a) (drop a l)) ≡ take a l ++ replicate (length l - a) 0
+pub zeros-behind : (l ys : List ℕ) (a : ℕ) → ys ≡ zeros (take (length l - a) (drop a l))
+    → take a l ++ (ys ++ drop (length l - a) (drop a l)) ≡ take a l ++ replicate (length l - a) 0
 zeros-behind l ys a e = part-back l ys a
     ∙ ap (λ (zs : List ℕ). take a l ++ zs) (e ∙ ap (λ (n : ℕ). replicate {A = ℕ} n 0) (ap length (part-rest l a) ∙ length-drop a l))
 
@@ -29,7 +30,8 @@ linked-cleared {log} {log′} {count} {n} {s} e w = record {
     records = omega (arith, ap length e, length-append front rest, long);
     room = w .room .room;
   };
-  ringed = ringed-log log log′ count n ringsAt s (λ r l. byte (r * recordLength) (omega arith)) (λ r l. number-same 4 log log′ _ (λ m p q. byte m (omega arith))) (w .room .fits) (w .ringed);
+  ringed = ringed-log log log′ count n ringsAt s (λ r l. byte (r * recordLength) (omega arith))
+      (λ r l. number-same 4 log log′ _ (λ m p q. byte m (omega arith))) (w .room .fits) (w .ringed);
 }
   where
     front : List ℕ

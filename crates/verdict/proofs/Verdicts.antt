@@ -103,8 +103,10 @@ module _ {table : List ℕ} {t : Table} {log : List ℕ} {count most steps : ℕ
     unfolding startRun
     run-is = ap (valueOr [] (λ (p : Path). emitted (limit (systemIn table)) (p .numbers))) (w .is)
 
-    pub run-written : (page₁ page₂ s₁ s₂ : List ℕ) (transitions used highest : ℕ) → Unfolded (systemIn table) (stackOf s (t .pile)) page page₁ highest → used ≡ steps → transitions ≡ count
-        → page₂ ≡ take used page₁ ++ replicate (length page₁ - used) 0 → length s₁ ≡ length s → s₂ ≡ zeros s₁ → RunLeft table s page (Ran.Reached transitions most steps highest) s₂ page₂
+    pub run-written : (page₁ page₂ s₁ s₂ : List ℕ) (transitions used highest : ℕ) → Unfolded (systemIn table) (stackOf s (t .pile)) page page₁ highest → used ≡ steps
+        → transitions ≡ count
+        → page₂ ≡ take used page₁ ++ replicate (length page₁ - used) 0 → length s₁ ≡ length s → s₂ ≡ zeros s₁
+        → RunLeft table s page (Ran.Reached transitions most steps highest) s₂ page₂
     unfolding pageAfter
     run-written page₁ page₂ s₁ s₂ transitions used highest u us tr f e z =
         let run : List ℕ = emitted (limit (systemIn table)) (w .path .numbers) in

@@ -7,18 +7,23 @@ use Rattle.start.proofs.find.Statement.{statement}
 use Rattle.start.proofs.find.Tie as tie
 
 is-accepted-requires : tie.Need-is-accepted-requires
-is-accepted-requires c κs = (c .before .before .before .before .before .before .before .before .pre .0 .1 .holds, omega (arith, c .before .before .before .fill-sets .ensures .0 .room .room))
+is-accepted-requires c κs =
+    let at-fill-sets = c .before .before .before in
+    let entry = at-fill-sets .before .before .before .before .before in
+    (entry .pre .0 .1 .holds, omega (arith, at-fill-sets .fill-sets .ensures .linked .room .room))
 
 write-path-requires : tie.Need-write-path-requires
 write-path-requires c κs =
-    let e = c .before .before .before .before .before .before .fill-sets .ensures in
-    (c .before .before .before .before .before .before .before .before .before .before .before .pre .0, e .0, e .1, sym (c .before .before .is-accepted .ensures) ∙ c .before .if1 .taken)
+    let at-is-accepted = c .before .before in
+    let at-fill-sets = at-is-accepted .before .before .before .before in
+    let entry = at-fill-sets .before .before .before .before .before in
+    (entry .pre .0, at-fill-sets .fill-sets .ensures, sym (at-is-accepted .is-accepted .ensures) ∙ c .before .if1 .taken)
 
 returns : tie.Need-returns
 returns c = λ round lent. sought-path (c .before .before .write-path .ensures round lent)
 
 returns-2 : tie.Need-returns-2
-returns-2 c = sought-none _ (c .before .before .before .before .before .fill-sets .ensures .1 0 (omega arith)) (sym (c .before .is-accepted .ensures) ∙ c .if1 .left)
+returns-2 c = sought-none _ (c .before .before .before .before .before .fill-sets .ensures .right 0 (omega arith)) (sym (c .before .is-accepted .ensures) ∙ c .if1 .left)
 
 pub find-spec : {M : Type 1} → statement M
 find-spec =

@@ -1,3 +1,4 @@
+-- Whether the start's state is in the first set.
 use mathlib.Core.Path.{ap, ap₂, _∙_}
 use mathlib.Core.List.{List}
 use Prim.Native.Nat.{ℕ}
@@ -10,9 +11,11 @@ use Rattle.start.proofs.is_accepted.Tie as tie
 
 returns : tie.Need-returns
 returns c =
-    let a = c .before .before .before .before .before .before .args in
+    let at-start-group = c .before .before .before in
+    let entry = at-start-group .before .before .before in
+    let a = entry .args in
     c .contains .ensures
-    ∙ ap₂ (λ (l : List ℕ) (x : ℕ). member l x) (set-part (a .scratch .now) 0) (c .before .number .ensures .0 ∙ ap stateNumber (c .before .before .before .start-group .ensures))
+    ∙ ap₂ (λ (l : List ℕ) (x : ℕ). member l x) (set-part (a .scratch .now) 0) (c .before .number .ensures .0 ∙ ap stateNumber (at-start-group .start-group .ensures))
 
 pub is-accepted-spec : {M : Type 1} → statement M
 is-accepted-spec =

@@ -6,24 +6,30 @@ use Rattle.verdict.proofs.run_limit.Tie as tie
 
 returns : tie.Need-returns
 returns c =
-    let at-find = c .before .before .before .before .before .before .before .before in
+    let at-clear = c .before .before in
+    let at-enum-told = at-clear .before .before in
+    let at-find = at-enum-told .before .before .before .before in
     let entry = at-find .before .before .before .before .before .before in
     let f = at-find .find in
-    let z = c .before .before .clear in
-    run-none (entry .pre) (f .result) (f .last .1 .1 .1 .0) (f .ensures) (f .kept .1 .1 .1 .0) (entry .args .page .now) (z .last .0) (c .before .before .before .before .enum-told .given .1) (z .ensures)
+    let z = at-clear .clear in
+    run-none (entry .pre) (f .result) (f .last .1 .1 .1 .0) (f .ensures) (f .kept .1 .1 .1 .0) (entry .args .page .now) (z .last .0) (at-enum-told .enum-told .given .1) (z .ensures)
 
 write-run-requires : tie.Need-write-run-requires
 write-run-requires c κs =
-    let at-find = c .before .before .before .before .before .before .before in
+    let at-steps = c .before .before .before in
+    let at-find = at-steps .before .before .before .before in
+    let entry = at-find .before .before .before .before .before .before in
     let f = at-find .find in
-    let p = c .before .before .before .steps .given in
-    path-stacked (at-find .before .before .before .before .before .before .pre) (f .result) (f .last .1 .1 .1 .0) (f .ensures) (f .kept .1 .1 .1 .0) (p .0 .0) (p .1)
+    let p = at-steps .steps .given in
+    path-stacked (entry .pre) (f .result) (f .last .1 .1 .1 .0) (f .ensures) (f .kept .1 .1 .1 .0) (p .0 .0) (p .1)
 
 returns-2 : tie.Need-returns-2
 returns-2 c =
-    let at-find = c .before .before .before .before .before .before .before .before .before .before .before .before in
+    let at-write-run = c .before .before .before .before in
+    let at-find = at-write-run .before .before .before .before .before .before .before .before in
+    let entry = at-find .before .before .before .before .before .before in
     let f = at-find .find in
-    run-back (at-find .before .before .before .before .before .before .pre) (f .result) (f .last .1 .1 .1 .0) (f .ensures) (f .kept .1 .1 .1 .0) (c .before .before .before .before .write-run .ensures)
+    run-back (entry .pre) (f .result) (f .last .1 .1 .1 .0) (f .ensures) (f .kept .1 .1 .1 .0) (at-write-run .write-run .ensures)
 
 pub run-limit-spec : {M : Type 1} → statement M
 run-limit-spec =

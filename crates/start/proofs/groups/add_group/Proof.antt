@@ -26,10 +26,13 @@ first-match-requires c κs = let p = c .before .before .before .before .before .
 
 loop-holds : tie.Need-loop-holds Inv-loop μ-loop
 loop-holds c =
-    let a = c .before .before .before .before .before .before .args in
-    let before = c .before .before .pack in
+    let at-pack = c .before .before in
+    let at-numbered = at-pack .before in
+    let entry = at-numbered .before .before .before in
+    let a = entry .args in
+    let before = at-pack .pack in
     taking-start (a .log .now) (a .count) (setAt (a .scratch .now) (a .k + 1)) (a .a) (a .f) (a .k) (a .x) (before .result) (c .first-match .result) (a .scratch .now)
-    (before .ensures .0 ∙ ap packed (c .before .before .before .numbered .ensures)) (c .first-match .ensures)
+    (before .ensures .0 ∙ ap packed (at-numbered .numbered .ensures)) (c .first-match .ensures)
 
 own-after-requires : tie.Need-own-after-requires Inv-loop μ-loop
 own-after-requires c κs = omega (arith, c .before .before .before .before .before .before .before .before .pre .0 .room .records)
@@ -37,9 +40,9 @@ own-after-requires c κs = omega (arith, c .before .before .before .before .befo
 add-record-requires : tie.Need-add-record-requires Inv-loop μ-loop
 add-record-requires c κs =
     let at-loop = c .before .before .before in
-    let at-start = at-loop .before .before .before .before .before .before .before in
-    let a = at-start .args in
-    let p = at-start .pre in
+    let entry = at-loop .before .before .before .before .before .before .before in
+    let a = entry .args in
+    let p = entry .pre in
     let own-after = c .before .own-after in
     let y : own-after .result ≡ ownNumber (processesOf (a .a .bits)) (afterAt (a .log .now) (at-loop .loop .r)) = own-after .ensures (processesOf (a .a .bits)) (p .2 .mask) in (
       sets-apart (at-loop .loop .scratch) (a .k) (p .1) (omega (arith, p .0 .room .room, at-loop .loop .inv .added .same .size)),
@@ -47,29 +50,37 @@ add-record-requires c κs =
     )
 
 same-length : tie.Need-same-length Inv-loop μ-loop
-same-length c = c .before .before .before .before .add-record .ensures .outside .size ∙ c .before .before .before .before .before .before .before .before .loop .inv .added .same .size
+same-length c =
+    let at-add-record = c .before .before .before .before in
+    let at-loop = at-add-record .before .before .before .before in
+    at-add-record .add-record .ensures .outside .size ∙ at-loop .loop .inv .added .same .size
 
 returns : tie.Need-returns Inv-loop μ-loop
 returns c =
-    let add = c .before .before .before .before .add-record in
-    let own-after = c .before .before .before .before .before .before .own-after in
-    let at-loop = c .before .before .before .before .before .before .before .before in
+    let at-add-record = c .before .before .before .before in
+    let at-own-after = at-add-record .before .before in
+    let at-loop-test = at-own-after .before in
+    let at-loop = at-loop-test .before in
+    let entry = at-loop .before .before .before .before .before .before .before in
+    let add = at-add-record .add-record in
+    let own-after = at-own-after .own-after in
     let m = at-loop .loop in
-    let at-start = at-loop .before .before .before .before .before .before .before in
-    let a = at-start .args in
-    let p = at-start .pre in
+    let a = entry .args in
+    let p = entry .pre in
     taking-full (a .log .now) (a .count) (setAt (a .scratch .now) (a .k + 1)) (a .a) (a .f) (a .k) (p .2) (a .x) (p .3) (p .4) _ (m .r) (a .scratch .now) (m .scratch) (add .last .0)
-    (only-next (p .1) (omega (arith, p .0 .room .room)) (m .inv .added .same)) (m .inv) (c .before .before .before .before .before .before .before .loop-test .taken)
+    (only-next (p .1) (omega (arith, p .0 .room .room)) (m .inv .added .same)) (m .inv) (at-loop-test .loop-test .taken)
     (own-after .result) (own-after .ensures (processesOf (a .a .bits)) (p .2 .mask)) (add .result) (add .ensures) (c .if1 .taken)
 
 next-match-requires : tie.Need-next-match-requires Inv-loop μ-loop
 next-match-requires c κs =
-    let add = c .before .before .before .before .before .add-record in
-    let at-loop = c .before .before .before .before .before .before .before .before .before in
-    let at-start = at-loop .before .before .before .before .before .before .before in
-    let p = at-start .pre in
-    let linked = only-linked (p .1) (same-join (at-loop .loop .inv .added .same) (only-outside (at-start .args .k) (add .ensures .outside))) (p .0) in
-    let less = c .before .before .before .before .before .before .before .before .loop-test .taken in
+    let at-add-record = c .before .before .before .before .before in
+    let at-loop-test = at-add-record .before .before .before in
+    let at-loop = at-loop-test .before in
+    let entry = at-loop .before .before .before .before .before .before .before in
+    let add = at-add-record .add-record in
+    let p = entry .pre in
+    let linked = only-linked (p .1) (same-join (at-loop .loop .inv .added .same) (only-outside (entry .args .k) (add .ensures .outside))) (p .0) in
+    let less = at-loop-test .loop-test .taken in
     (linked .room, linked .ringed, less, at-loop .loop .inv .reading less)
 
 loop-less : tie.Need-loop-less Inv-loop μ-loop
@@ -77,15 +88,18 @@ loop-less c = omega (arith, reads-later _ _ _ _ _ _ (c .next-match .ensures), c 
 
 loop-again : tie.Need-loop-again Inv-loop μ-loop
 loop-again c =
-    let add = c .before .before .before .before .before .before .add-record in
-    let own-after = c .before .before .before .before .before .before .before .before .own-after in
-    let at-loop = c .before .before .before .before .before .before .before .before .before .before in
+    let at-add-record = c .before .before .before .before .before .before in
+    let at-own-after = at-add-record .before .before in
+    let at-loop-test = at-own-after .before in
+    let at-loop = at-loop-test .before in
+    let entry = at-loop .before .before .before .before .before .before .before in
+    let add = at-add-record .add-record in
+    let own-after = at-own-after .own-after in
     let m = at-loop .loop in
-    let at-start = at-loop .before .before .before .before .before .before .before in
-    let a = at-start .args in
-    let p = at-start .pre in
+    let a = entry .args in
+    let p = entry .pre in
     taking-turn (a .log .now) (a .count) (setAt (a .scratch .now) (a .k + 1)) (a .a) (a .f) (a .k) (p .2) (a .x) (p .3) (p .4) _ (m .r) (a .scratch .now) (m .scratch) (add .last .0)
-    (only-next (p .1) (omega (arith, p .0 .room .room)) (m .inv .added .same)) (m .inv) (c .before .before .before .before .before .before .before .before .before .loop-test .taken)
+    (only-next (p .1) (omega (arith, p .0 .room .room)) (m .inv .added .same)) (m .inv) (at-loop-test .loop-test .taken)
     (own-after .result) (own-after .ensures (processesOf (a .a .bits)) (p .2 .mask)) (add .result) (add .ensures) (c .next-match .result) (c .next-match .ensures)
 
 same-length-2 : tie.Need-same-length-2 Inv-loop μ-loop

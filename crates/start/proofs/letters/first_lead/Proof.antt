@@ -35,9 +35,11 @@ returns c =
 
 next-match-requires : tie.Need-next-match-requires Inv-loop μ-loop
 next-match-requires c κs =
-    let at-loop = c .before .before .before in
-    let p = at-loop .before .before .before .before .before .before .pre in
-    let less = c .before .before .loop-test .taken in
+    let at-loop-test = c .before .before in
+    let at-loop = at-loop-test .before in
+    let entry = at-loop .before .before .before .before .before .before in
+    let p = entry .pre in
+    let less = at-loop-test .loop-test .taken in
     (p .0 .room, p .0 .ringed, less, at-loop .loop .inv .reading less)
 
 loop-less : tie.Need-loop-less Inv-loop μ-loop

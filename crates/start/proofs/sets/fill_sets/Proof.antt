@@ -19,10 +19,11 @@ fill-accepting-requires c κs = let p = c .before .before .before .before .pre i
 
 loop-holds : tie.Need-loop-holds Inv-loop μ-loop
 loop-holds c =
-    let at-start = c .before .before .before .before .before .before .before in
-    let a = at-start .args in
-    let p = at-start .pre in
-    let f = c .before .before .fill-accepting .ensures in
+    let at-fill-accepting = c .before .before in
+    let entry = at-fill-accepting .before .before .before .before .before in
+    let a = entry .args in
+    let p = entry .pre in
+    let f = at-fill-accepting .fill-accepting .ensures in
     backwards-start _ (linked-same (omega (arith, table-modest (a .table .now) (a .t) (p .0 .1 .holds) .pile)) (f .0) (p .1)) (λ round lent. f .1 round)
 
 fill-set-requires : tie.Need-fill-set-requires Inv-loop μ-loop
@@ -37,10 +38,13 @@ fill-set-requires c κs =
 
 loop-again : tie.Need-loop-again Inv-loop μ-loop
 loop-again c =
-    let at-start = c .before .before .before .before .before .before .before .before .before .before .before .before .before in
-    let a = at-start .args in
-    let f = c .before .before .fill-set .ensures in
-    backwards-turn (c .before .before .before .before .loop-test .taken) (table-modest (a .table .now) (a .t) (at-start .pre .0 .1 .holds) .pile) (c .before .before .before .before .before .loop .inv) (f .0) (f .1)
+    let at-fill-set = c .before .before in
+    let at-loop-test = at-fill-set .before .before in
+    let at-loop = at-loop-test .before in
+    let entry = at-loop .before .before .before .before .before .before .before .before in
+    let a = entry .args in
+    let f = at-fill-set .fill-set .ensures in
+    backwards-turn (at-loop-test .loop-test .taken) (table-modest (a .table .now) (a .t) (entry .pre .0 .1 .holds) .pile) (at-loop .loop .inv) (f .0) (f .1)
 
 same-length : tie.Need-same-length Inv-loop μ-loop
 same-length c = c .before .loop .inv .size ∙ c .before .before .before .before .fill-accepting .ensures .0 .size
@@ -48,7 +52,7 @@ same-length c = c .before .loop .inv .size ∙ c .before .before .before .before
 returns : tie.Need-returns Inv-loop μ-loop
 returns c =
     let m = c .before .loop in
-    (m .inv .linked, λ k h. m .inv .right k (omega (arith, c .loop-test .left)) h)
+    record { linked = m .inv .linked; right = λ k h. m .inv .right k (omega (arith, c .loop-test .left)) h }
 
 pub fill-sets-spec : {M : Type 1} → statement M
 fill-sets-spec =
