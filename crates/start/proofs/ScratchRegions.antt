@@ -25,9 +25,6 @@ same-join p q = record {
   behind = λ i h. q .behind i h ∙ p .behind i h;
 }
 
-pub same-wider : {low high low′ high′ : ℕ} {s t : List ℕ} → low′ ≤ low → high ≤ high′ → SameBut low high s t → SameBut low′ high′ s t
-same-wider a b p = record { size = p .size; before = λ i h. p .before i (omega arith); behind = λ i h. p .behind i (omega arith) }
-
 -- rings behind what has changed stay
 pub linked-same : {log : List ℕ} {count n low high : ℕ} {s t : List ℕ} → high ≤ ringsAt → SameBut low high s t → Linked log count n s → Linked log count n t
 linked-same {log} {count} {n} {low} {high} {s} {t} h p l = record {
