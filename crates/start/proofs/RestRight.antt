@@ -39,7 +39,7 @@ use Rattle.stack.proofs.RoundLogs.{round-fits, round-reads}
 use Rattle.start.specs.declared.Letter.{Letter}
 use Rattle.scratch.specs.Regions.{ringsAt}
 use Rattle.start.specs.Regions.{setAt, setsEnd, Linked, SameBut, OnlySet}
-use Rattle.start.specs.RestSets.{processesOfTable, LetterAt, leads, firstLead, someLead, EmptySet, Filled, isNumberOf, acceptsFrom, SetRight, RightSet}
+use Rattle.start.specs.RestSets.{processesOfTable, LetterAt, leads, firstLead, someLead, EmptySet, Filled, isNumberOf, acceptsFrom, SetRight, RightForLog}
 use Rattle.start.specs.OwnGroups.{lastStates, Numbered, FrameTo, Added}
 use Rattle.start.specs.declared.Frame.{Frame}
 use Rattle.start.proofs.ScratchRegions.{linked-same, set-same}
@@ -209,26 +209,26 @@ pub record Backwards (table : List ℕ) (t : Table) (log : List ℕ) (count n : 
   pub few : i ≤ t .pile
   pub size : length s′ ≡ length s
   pub linked : Linked log count n s′
-  pub right : (k : ℕ) → i ≤ k → k ≤ t .pile → RightSet table t log count s′ k
+  pub right : (k : ℕ) → i ≤ k → k ≤ t .pile → RightForLog table t log count s′ k
 
-pub backwards-start : {table : List ℕ} {t : Table} {log : List ℕ} {count n : ℕ} (s : List ℕ) → Linked log count n s → RightSet table t log count s (t .pile)
+pub backwards-start : {table : List ℕ} {t : Table} {log : List ℕ} {count n : ℕ} (s : List ℕ) → Linked log count n s → RightForLog table t log count s (t .pile)
     → Backwards table t log count n s (t .pile) s
 backwards-start {table} {t} {log} {count} s linked r = record {
   few = omega arith;
   size = refl;
   linked = linked;
-  right = λ k a b. let e : t .pile ≡ k = omega arith in subst (λ (j : ℕ). RightSet table t log count s j) e r;
+  right = λ k a b. let e : t .pile ≡ k = omega arith in subst (λ (j : ℕ). RightForLog table t log count s j) e r;
 }
 
 pub backwards-turn : {table : List ℕ} {t : Table} {log : List ℕ} {count n : ℕ} {s s′ s″ : List ℕ} {i : ℕ} → 0 < i → t .pile ≤ 64 → Backwards table t log count n s i s′
     → OnlySet (i - 1) s′ s″
-    → RightSet table t log count s″ (i - 1) → Backwards table t log count n s (i - 1) s″
+    → RightForLog table t log count s″ (i - 1) → Backwards table t log count n s (i - 1) s″
 backwards-turn {table} {t} {log} {count} {s″ = s″} {i = i} h small b w r = record {
   few = omega (arith, b .few);
   size = w .size ∙ b .size;
   linked = linked-same (omega (arith, b .few)) w (b .linked);
   right = λ k l m. elim (decLt (i - 1) k) [
     | yes n ↦ λ round lent. right-behind table t round (i - 1) k n (omega arith) (omega (arith, b .linked .room .room)) w (b .right k (omega arith) m round lent)
-    | no n ↦ let e : i - 1 ≡ k = omega arith in subst (λ (j : ℕ). RightSet table t log count s″ j) e r
+    | no n ↦ let e : i - 1 ≡ k = omega arith in subst (λ (j : ℕ). RightForLog table t log count s″ j) e r
   ];
 }

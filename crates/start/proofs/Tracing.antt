@@ -38,7 +38,7 @@ use Rattle.start.specs.declared.StartPath.the-variants.{NoPath, Found}
 use Rattle.start.specs.declared.Trace.{Trace}
 use Rattle.scratch.specs.Regions.{ringsAt}
 use Rattle.start.specs.Regions.{setAt, SameBut}
-use Rattle.start.specs.RestSets.{processesOfTable, LetterAt, firstLead, acceptsFrom, SetRight, RightSet, SetsRight, startIn}
+use Rattle.start.specs.RestSets.{processesOfTable, LetterAt, firstLead, acceptsFrom, SetRight, RightForLog, SetsReady, startIn}
 use Rattle.start.specs.Search.{pathFrom, roundPath, OnPath, Underway, Advanced, PathWritten, startFound, Sought}
 use Rattle.start.proofs.ScratchRegions.{same-none, same-join, linked-same}
 use Rattle.start.proofs.Grounds.{grounds}
@@ -154,11 +154,11 @@ pub record Tracing (table : List ℕ) (t : Table) (log : List ℕ) (count : ℕ)
   pub figure : EachRound table t log count (λ (round : ℕ). c .steps ≡ pathSteps (logAt (systemIn table) round) (soFar t i s′))
 
 -- what the first set tells of the start
-start-right : {table : List ℕ} {t : Table} {log : List ℕ} {count : ℕ} (s : List ℕ) → RightSet table t log count s 0
+start-right : {table : List ℕ} {t : Table} {log : List ℕ} {count : ℕ} (s : List ℕ) → RightForLog table t log count s 0
     → EachRound table t log count (λ (round : ℕ). startIn table s ≡ acceptsFrom table round 0 (systemIn table .start .states))
 start-right {table} {t} s right round lent = right round lent (systemIn table .start .states) (grounds table t (lent .holds) .start)
 
-pub tracing-start : (table : List ℕ) (t : Table) (log : List ℕ) (count : ℕ) (s : List ℕ) (c : Trace) → Holds table t → RightSet table t log count s 0 → startIn table s ≡ true
+pub tracing-start : (table : List ℕ) (t : Table) (log : List ℕ) (count : ℕ) (s : List ℕ) (c : Trace) → Holds table t → RightForLog table t log count s 0 → startIn table s ≡ true
     → c .state ≡ systemIn table .start .states → c .steps ≡ 0 → Tracing table t log count s 0 s c
 unfolding numbersDown
 tracing-start table t log count s c holds right good e z = record {
@@ -173,7 +173,7 @@ tracing-start table t log count s c holds right good e z = record {
   figure = λ round lent. z;
 }
 
-pub tracing-underway : {table : List ℕ} {t : Table} {log : List ℕ} {count n : ℕ} {s : List ℕ} {i : ℕ} {s′ : List ℕ} {c : Trace} → SomeRound table t log count → SetsRight table t log count n s
+pub tracing-underway : {table : List ℕ} {t : Table} {log : List ℕ} {count n : ℕ} {s : List ℕ} {i : ℕ} {s′ : List ℕ} {c : Trace} → SomeRound table t log count → SetsReady table t log count n s
     → Tracing table t log count s i s′ c → i < t .pile → Underway table t log count n s′ i c
 tracing-underway {table} {t} {i = i} lent sets w inside =
     let small : t .pile ≤ 64 = table-modest table t (lent .1 .holds) .pile in
@@ -260,7 +260,7 @@ no-some : (o : Option Path) → isSome o ≡ false → o ≡ none
 no-some none e = refl
 no-some (some p) e = absurd (true≢false e)
 
-pub sought-none : {table : List ℕ} {t : Table} {log : List ℕ} {count : ℕ} (s : List ℕ) → RightSet table t log count s 0 → startIn table s ≡ false
+pub sought-none : {table : List ℕ} {t : Table} {log : List ℕ} {count : ℕ} (s : List ℕ) → RightForLog table t log count s 0 → startIn table s ≡ false
     → EachRound table t log count (λ (round : ℕ). Sought table t round NoPath s)
 unfolding acceptingPath
 sought-none {table} s right e round lent =

@@ -69,13 +69,13 @@ abbrev pub SetRight : List ℕ → Table → ℕ → List ℕ → ℕ → Type 0
 SetRight table t round s k = (g : Group) → Over (processesOfTable t) g → member (setAt s k) (stateNumber g) ≡ acceptsFrom table round k g
 
 -- set k is right for every round whose log this is
-abbrev pub RightSet : List ℕ → Table → List ℕ → ℕ → List ℕ → ℕ → Type 0
-RightSet table t log count s k = EachRound table t log count (λ (round : ℕ). SetRight table t round s k)
+abbrev pub RightForLog : List ℕ → Table → List ℕ → ℕ → List ℕ → ℕ → Type 0
+RightForLog table t log count s k = EachRound table t log count (λ (round : ℕ). SetRight table t round s k)
 
 -- the log's first count records are in their rings, and every set is right
-pub record SetsRight (table : List ℕ) (t : Table) (log : List ℕ) (count n : ℕ) (s : List ℕ) : Type 0 where
+pub record SetsReady (table : List ℕ) (t : Table) (log : List ℕ) (count n : ℕ) (s : List ℕ) : Type 0 where
   pub linked : Linked log count n s
-  pub right : (k : ℕ) → k ≤ t .pile → RightSet table t log count s k
+  pub right : (k : ℕ) → k ≤ t .pile → RightForLog table t log count s k
 
 -- the start's state is in the first set
 abbrev pub startIn : List ℕ → List ℕ → Bool

@@ -18,7 +18,7 @@ use Rattle.start.specs.declared.StartPath.{StartPath}
 use Rattle.start.specs.declared.StartPath.the-variants.{NoPath, Found}
 use Rattle.start.specs.declared.Trace.{Trace}
 use Rattle.start.specs.Regions.{Linked}
-use Rattle.start.specs.RestSets.{processesOfTable, acceptsFrom, RightSet}
+use Rattle.start.specs.RestSets.{processesOfTable, acceptsFrom, RightForLog}
 
 -- the first accepting path from the state g that reads the start word from letter k on, and that from the start
 abbrev pub pathFrom : List ℕ → ℕ → ℕ → Group → Option Path
@@ -38,7 +38,7 @@ pub record Underway (table : List ℕ) (t : Table) (log : List ℕ) (count n : �
   pub some : SomeRound table t log count
   pub linked : Linked log count n s
   pub inside : k < t .pile
-  pub next : RightSet table t log count s (k + 1)
+  pub next : RightForLog table t log count s (k + 1)
   pub on-path : OnPath table t log count k c
 
 -- one record more: the path's first record from here on, and its number in its place on the stack

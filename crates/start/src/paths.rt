@@ -14,7 +14,7 @@ ghost use mathlib.Core.Bool.{true};
 ghost use Prim.Native.Nat.{ℕ, _+_, _^_, _<_, _≤_, min};
 ghost use Rattle.model.specs.Log.{stepsCap};
 ghost use Rattle.stack.specs.RoundLogs.{SomeRound, EachRound};
-ghost use Rattle.start.specs.RestSets.{SetsRight, startIn};
+ghost use Rattle.start.specs.RestSets.{SetsReady, startIn};
 ghost use Rattle.start.specs.Search.{Underway, Advanced, PathWritten};
 
 fn add_steps(a: u32, b: u32) -> u32
@@ -59,7 +59,7 @@ pub fn write_path(
     n: usize,
     count: usize,
 ) -> u32
-    requires { ⌜ SomeRound (now table) t (now log) count × SetsRight (now table) t (now log) count n (now scratch) × (startIn (now table) (now scratch) ≡ true) ⌝ }
+    requires { ⌜ SomeRound (now table) t (now log) count × SetsReady (now table) t (now log) count n (now scratch) × (startIn (now table) (now scratch) ≡ true) ⌝ }
     ensures { λ r. ⌜ EachRound (now (table .entry)) t (now (log .entry)) count (λ (round : ℕ). PathWritten (now (table .entry)) t round (now (scratch .exit)) r) ⌝ }
 {
     let state = start_group(table, t);

@@ -17,7 +17,7 @@ ghost use Rattle.table.specs.Reading.{Holds, acceptingIn, systemIn};
 ghost use Rattle.stack.specs.RoundLogs.{SomeRound};
 ghost use Rattle.scratch.specs.Regions.{ringsAt};
 ghost use Rattle.start.specs.Regions.{withState, Linked, OnlySet};
-ghost use Rattle.start.specs.RestSets.{EmptySet, Filled, isNumberOf, SetRight, RightSet, SetsRight};
+ghost use Rattle.start.specs.RestSets.{EmptySet, Filled, isNumberOf, SetRight, RightForLog, SetsReady};
 
 fn clear_set(scratch: &mut [u8], k: usize)
     requires { ⌜ (k ≤ 64) × (ringsAt ≤ length (now scratch)) ⌝ }
@@ -45,8 +45,8 @@ fn fill_set(
     count: usize,
     i: usize,
 )
-    requires { ⌜ SomeRound (now table) t (now log) count × Linked (now log) count n (now scratch) × (i < t .pile) × RightSet (now table) t (now log) count (now scratch) (i + 1) ⌝ }
-    ensures { λ _. ⌜ OnlySet i (now (scratch .entry)) (now (scratch .exit)) × RightSet (now (table .entry)) t (now (log .entry)) count (now (scratch .exit)) i ⌝ }
+    requires { ⌜ SomeRound (now table) t (now log) count × Linked (now log) count n (now scratch) × (i < t .pile) × RightForLog (now table) t (now log) count (now scratch) (i + 1) ⌝ }
+    ensures { λ _. ⌜ OnlySet i (now (scratch .entry)) (now (scratch .exit)) × RightForLog (now (table .entry)) t (now (log .entry)) count (now (scratch .exit)) i ⌝ }
 {
     let a = letter_at(table, t, i);
     clear_set(scratch, i);
@@ -58,7 +58,7 @@ fn fill_set(
 // All sets, from the back.
 pub fn fill_sets(table: &[u8], t: Table, log: &[u8], scratch: &mut [u8], n: usize, count: usize)
     requires { ⌜ SomeRound (now table) t (now log) count × Linked (now log) count n (now scratch) ⌝ }
-    ensures { λ _. ⌜ SetsRight (now (table .entry)) t (now (log .entry)) count n (now (scratch .exit)) ⌝ }
+    ensures { λ _. ⌜ SetsReady (now (table .entry)) t (now (log .entry)) count n (now (scratch .exit)) ⌝ }
 {
     fill_accepting(table, t, scratch);
     let mut i = t.pile;
