@@ -7,10 +7,10 @@ use native.Mathlib.Omega.{arith}
 use lib.Dec.{eqb}
 use borrow.Author.Tests.{eq-eqb, eqb-true}
 use Rattle.model.specs.declared.Group.{Group}
-use Rattle.model.specs.Groups.{Process, Processes, at, has, merge, p0, p1, p2, p3, restrict, sameGroup}
+use Rattle.model.specs.Groups.{Processes, at, has, merge, p0, p1, p2, p3, restrict, sameGroup}
 use Rattle.model.proofs.Groups.{at-merge, at-restrict}
 use Rattle.model.proofs.Tests.{cond-less, same-test}
-use Rattle.automaton.specs.StateNumbers.{Over, stateNumber}
+use Rattle.automaton.specs.StateNumbers.{stateNumber}
 use Rattle.packs.specs.Packs.{Bytes, maskByte, maskOf, mergedBits, packNumber, packed, processesIn, restrictedBits, unpacked}
 use Rattle.packs.proofs.Packs.{merge-bits, pack-number, packed-same, restrict-bits, same-bits}
 
@@ -57,10 +57,10 @@ same-unpacked x y h k =
     ∙ ap₂ eqb (sym (packed-unpacked x h)) (sym (packed-unpacked y k))
     ∙ same-bits (unpacked x) (unpacked y) (bytes-unpacked x) (bytes-unpacked y)
 
-restrict-bytes : (L : Processes) (g : Group) → Bytes g → Bytes (restrict L g)
+pub restrict-bytes : (L : Processes) (g : Group) → Bytes g → Bytes (restrict L g)
 restrict-bytes L g b i = rw at-restrict (cond-less (has L i) (at g i) 255 256 (λ m. b i) (omega arith))
 
-merge-bytes : (L : Processes) (x g : Group) → Bytes x → Bytes g → Bytes (merge L x g)
+pub merge-bytes : (L : Processes) (x g : Group) → Bytes x → Bytes g → Bytes (merge L x g)
 merge-bytes L x g p q i = rw at-merge (cond-less (has L i) (at x i) (at g i) 256 (λ m. p i) (q i))
 
 -- ---- the two operations

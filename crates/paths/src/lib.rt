@@ -8,6 +8,7 @@ use packs::number;
 use packs::restricted;
 use packs::unpack;
 use records::Entry;
+use records::STEPS_CAP;
 use records::put_record;
 use records::steps_at;
 use rings::first_fresh;
@@ -31,8 +32,6 @@ ghost use Rattle.rings.specs.Rings.{recordReads, RingRoom, Ringed, Freshened};
 ghost use Rattle.packs.specs.Packs.{unpacked};
 ghost use Rattle.scratch.specs.Regions.{passedAt, passedBit, ringsAt, seenBit, setBytes};
 ghost use Rattle.paths.specs.Jobs.{Searchable, Searched, Standing, firstTried, isPassed, longerTrail, glances, offers, storedEnd, withPassed, arrivals};
-
-const STEPS_CAP: u32 = 1000001;
 
 pub mod held;
 

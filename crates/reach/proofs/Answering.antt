@@ -36,7 +36,8 @@ module _ (table log scratch : List ℕ) (t : Table) (holds : Holds table t) wher
   records-are = ap recordsOf reading
 
   module _ (r : Answered) (given : answerGiven (read table) (length log) (length scratch) ≡ r) where
-    answers : (log′ scratch′ : List ℕ) → log′ ≡ logAfter (answerRefusal r) (recordsOf (read table)) log → scratch′ ≡ scratchAfter (answerRefusal r) scratch → Answers (answerCall table log scratch) r log′ scratch′
+    answers : (log′ scratch′ : List ℕ) → log′ ≡ logAfter (answerRefusal r) (recordsOf (read table)) log → scratch′ ≡ scratchAfter (answerRefusal r) scratch
+        → Answers (answerCall table log scratch) r log′ scratch′
     unfolding answerCall
     answers log′ scratch′ l s = record {
       answer = sym given;
@@ -58,11 +59,13 @@ module _ (table log scratch : List ℕ) (t : Table) (holds : Holds table t) wher
     unfolding answerGiven systemIn
     given-full h = ap (λ (x : Reading). answerGiven x (length log) (length scratch)) reading ∙ rw (le-ltb (length scratch) (scratchNeeded (length log)) long, lt-ltb (capacity (length log)) (length (limit (systemOf (itemsIn table)))) h)
 
-    pub answers-full : (n : ℕ) → n ≡ capacity (length log) → (log′ scratch′ : List ℕ) → NoneLeft table n log scratch log′ scratch′ → Answers (answerCall table log scratch) (Answered.Refused 10 0) log′ scratch′
+    pub answers-full : (n : ℕ) → n ≡ capacity (length log) → (log′ scratch′ : List ℕ) → NoneLeft table n log scratch log′ scratch′
+        → Answers (answerCall table log scratch) (Answered.Refused 10 0) log′ scratch′
     unfolding logAfter scratchAfter
     answers-full n e log′ scratch′ l = answers (Answered.Refused 10 0) (given-full (subst (λ (x : ℕ). x < length (limit (systemIn table))) e (l .over))) log′ scratch′ (l .log-left) (l .scratch-left)
 
-    given-limit : length (limit (systemIn table)) ≤ capacity (length log) → answerGiven (read table) (length log) (length scratch) ≡ verdict (limit (systemIn table)) (startPath (systemIn table))
+    given-limit : length (limit (systemIn table)) ≤ capacity (length log)
+        → answerGiven (read table) (length log) (length scratch) ≡ verdict (limit (systemIn table)) (startPath (systemIn table))
     unfolding answerGiven systemIn
     given-limit h = ap (λ (x : Reading). answerGiven x (length log) (length scratch)) reading ∙ rw (le-ltb (length scratch) (scratchNeeded (length log)) long, le-ltb (capacity (length log)) (length (limit (systemOf (itemsIn table)))) h)
 
@@ -74,7 +77,7 @@ module _ (table log scratch : List ℕ) (t : Table) (holds : Holds table t) wher
         → (r : Answered) → r ≡ verdict (limit (systemIn table)) (startPath (systemIn table)) → scratch′ ≡ zeros scratch₁ → Answers (answerCall table log scratch) r log′ scratch′
     unfolding logAfter scratchAfter
     answers-limit n count most e log′ scratch₁ scratch′ l r g z =
-        let few : length (limit (systemIn table)) ≤ capacity (length log) = omega (arith, l .settled .log-of .size, l .settled .fits) in
+        let few : length (limit (systemIn table)) ≤ capacity (length log) = omega (arith, l .settled .log-of .size, l .settled .linked .room .fits) in
         let zero : answerRefusal r ≡ 0 = ap answerRefusal g ∙ not-refused (limit (systemIn table)) (startPath (systemIn table)) in
         answers r (given-limit few ∙ sym g) log′ scratch′
         (l .log-left ∙ ap (λ (rs : List Record). filled (logBytes rs) log) (sym records-are) ∙ ap (λ (k : ℕ). logAfter k (recordsOf (read table)) log) (sym zero))
@@ -86,7 +89,8 @@ module _ (table log scratch : List ℕ) (t : Table) (holds : Holds table t) wher
     unfolding runOf startRun systemIn
     run-is = ap runOf reading
 
-    runs : (r : Ran) → runGiven (read table) (length log) (length scratch) (length page) ≡ r → (log′ scratch′ page′ : List ℕ) → log′ ≡ logAfter (runRefusal r) (recordsOf (read table)) log → scratch′ ≡ scratchAfter (runRefusal r) scratch
+    runs : (r : Ran) → runGiven (read table) (length log) (length scratch) (length page) ≡ r → (log′ scratch′ page′ : List ℕ)
+        → log′ ≡ logAfter (runRefusal r) (recordsOf (read table)) log → scratch′ ≡ scratchAfter (runRefusal r) scratch
         → page′ ≡ pageAfter (runRefusal r) (runOf (read table)) page → Runs (runCall table log scratch page) r log′ scratch′ page′
     unfolding runCall
     runs r given log′ scratch′ page′ l s p = record {
@@ -106,11 +110,13 @@ module _ (table log scratch : List ℕ) (t : Table) (holds : Holds table t) wher
       unfolding runGiven systemIn
       run-full h = ap (λ (x : Reading). runGiven x (length log) (length scratch) (length page)) reading ∙ rw (le-ltb (length scratch) (scratchNeeded (length log)) long, lt-ltb (capacity (length log)) (length (limit (systemOf (itemsIn table)))) h)
 
-      pub runs-full : (n : ℕ) → n ≡ capacity (length log) → (log′ scratch′ : List ℕ) → NoneLeft table n log scratch log′ scratch′ → Runs (runCall table log scratch page) (Ran.Refused 10 0) log′ scratch′ page
+      pub runs-full : (n : ℕ) → n ≡ capacity (length log) → (log′ scratch′ : List ℕ) → NoneLeft table n log scratch log′ scratch′
+          → Runs (runCall table log scratch page) (Ran.Refused 10 0) log′ scratch′ page
       unfolding logAfter scratchAfter pageAfter
       runs-full n e log′ scratch′ l = runs (Ran.Refused 10 0) (run-full (subst (λ (x : ℕ). x < length (limit (systemIn table))) e (l .over))) log′ scratch′ page (l .log-left) (l .scratch-left) refl
 
-      run-limit-is : length (limit (systemIn table)) ≤ capacity (length log) → runGiven (read table) (length log) (length scratch) (length page) ≡ runVerdict (systemIn table) (length page) (startPath (systemIn table))
+      run-limit-is : length (limit (systemIn table)) ≤ capacity (length log)
+          → runGiven (read table) (length log) (length scratch) (length page) ≡ runVerdict (systemIn table) (length page) (startPath (systemIn table))
       unfolding runGiven systemIn
       run-limit-is h = ap (λ (x : Reading). runGiven x (length log) (length scratch) (length page)) reading ∙ rw (le-ltb (length scratch) (scratchNeeded (length log)) long, le-ltb (capacity (length log)) (length (limit (systemOf (itemsIn table)))) h)
 
@@ -128,7 +134,7 @@ module _ (table log scratch : List ℕ) (t : Table) (holds : Holds table t) wher
       pub runs-limit : (n count most : ℕ) → n ≡ capacity (length log) → (log′ scratch₁ scratch′ page′ : List ℕ) → LimitLeft table t n log scratch count most log′ scratch₁
           → (r : Ran) → RunLeft table scratch₁ page r scratch′ page′ → Runs (runCall table log scratch page) r log′ scratch′ page′
       runs-limit n count most e log′ scratch₁ scratch′ page′ l r d =
-          let few : length (limit (systemIn table)) ≤ capacity (length log) = omega (arith, l .settled .log-of .size, l .settled .fits) in
+          let few : length (limit (systemIn table)) ≤ capacity (length log) = omega (arith, l .settled .log-of .size, l .settled .linked .room .fits) in
           runs r (run-limit-is few ∙ sym (d .given)) log′ scratch′ page′
           (l .log-left ∙ ap (λ (rs : List Record). filled (logBytes rs) log) (sym records-are) ∙ sym (late-log (startPath (systemIn table)) (recordsOf (read table))) ∙ ap (λ (g : Ran). logAfter (runRefusal g) (recordsOf (read table)) log) (sym (d .given)))
           (d .cleared ∙ ap (λ (k : ℕ). replicate k 0) (l .scratch-length) ∙ sym (late-scratch (startPath (systemIn table))) ∙ ap (λ (g : Ran). scratchAfter (runRefusal g) scratch) (sym (d .given)))
@@ -164,16 +170,19 @@ module _ (table log scratch : List ℕ) (number place : ℕ) (e : parsed (read t
       }
 
 -- ---- demands 2 and 3
-pub answer-holds : (table log scratch : List ℕ) (r : Answered) (log′ scratch′ : List ℕ) → Answers (answerCall table log scratch) r log′ scratch′ → LogHolds table (answerRefusal r) log′
+pub answer-holds : (table log scratch : List ℕ) (r : Answered) (log′ scratch′ : List ℕ) → Answers (answerCall table log scratch) r log′ scratch′
+    → LogHolds table (answerRefusal r) log′
 answer-holds table log scratch r log′ scratch′ a = rw (a .answer, a .log-left) (demand-2-answer table log scratch)
 
-pub run-holds : (table log scratch page : List ℕ) (r : Ran) (log′ scratch′ page′ : List ℕ) → Runs (runCall table log scratch page) r log′ scratch′ page′ → LogHolds table (runRefusal r) log′
+pub run-holds : (table log scratch page : List ℕ) (r : Ran) (log′ scratch′ page′ : List ℕ) → Runs (runCall table log scratch page) r log′ scratch′ page′
+    → LogHolds table (runRefusal r) log′
 run-holds table log scratch page r log′ scratch′ page′ a = rw (a .answer, a .log-left) (demand-2-run table log scratch page)
 
 pub answer-demand : (table log scratch : List ℕ) (r : Answered) (log′ scratch′ : List ℕ) → Answers (answerCall table log scratch) r log′ scratch′
     → (page : List ℕ) → Demand3 table log scratch page r (runCall table log scratch page .answer) (runCall table log scratch page .page)
 answer-demand table log scratch r log′ scratch′ a page = subst (λ (x : Answered). Demand3 table log scratch page x (runCall table log scratch page .answer) (runCall table log scratch page .page)) (sym (a .answer)) (demand-3 table log scratch page)
 
-pub run-demand : (table log scratch page : List ℕ) (r : Ran) (log′ scratch′ page′ : List ℕ) → Runs (runCall table log scratch page) r log′ scratch′ page′ → Demand3 table log scratch page (answerCall table log scratch .answer) r page′
+pub run-demand : (table log scratch page : List ℕ) (r : Ran) (log′ scratch′ page′ : List ℕ) → Runs (runCall table log scratch page) r log′ scratch′ page′
+    → Demand3 table log scratch page (answerCall table log scratch .answer) r page′
 run-demand table log scratch page r log′ scratch′ page′ a = subst (λ (x : Ran). Demand3 table log scratch page (answerCall table log scratch .answer) x page′) (sym (a .answer))
     (subst (λ (x : List ℕ). Demand3 table log scratch page (answerCall table log scratch .answer) (runCall table log scratch page .answer) x) (sym (a .page-left)) (demand-3 table log scratch page))

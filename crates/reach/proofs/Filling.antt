@@ -18,6 +18,7 @@ use Rattle.reach.specs.Outcomes.{LimitLeft, LogLeft, NoneLeft, Roomy}
 use Rattle.saturate.specs.Limits.{SaturatedDone, SaturatedFull, SaturatedLimit}
 use Rattle.table.specs.Reading.{Holds, systemIn}
 use Rattle.verdict.specs.Verdicts.{Settled}
+use Rattle.verdict.proofs.Clearing.{linked-cleared}
 use Rattle.logs.proofs.Logs.{log-fits}
 use Rattle.model.proofs.RecordBytes.{length-log}
 
@@ -25,7 +26,8 @@ module _ (table : List ℕ) (t : Table) (n : ℕ) (log scratch : List ℕ) (hold
   abbrev sys : System
   sys = systemIn table
 
-  pub none-left : (log₁ scratch₁ log₂ scratch₂ : List ℕ) (r : Saturated) → r ≡ Full → SaturatedDone table n log scratch r log₁ scratch₁ → log₂ ≡ zeros log₁ → scratch₂ ≡ zeros scratch₁ → NoneLeft table n log scratch log₂ scratch₂
+  pub none-left : (log₁ scratch₁ log₂ scratch₂ : List ℕ) (r : Saturated) → r ≡ Full → SaturatedDone table n log scratch r log₁ scratch₁ → log₂ ≡ zeros log₁
+      → scratch₂ ≡ zeros scratch₁ → NoneLeft table n log scratch log₂ scratch₂
   none-left log₁ scratch₁ log₂ scratch₂ r e d p q =
       let full : SaturatedFull table n log scratch log₁ scratch₁ = subst (λ (x : Saturated). SaturatedDone table n log scratch x log₁ scratch₁) e d in
       record { over = full .over; log-left = p ∙ zeros-same log₁ log (full .log-length); scratch-left = q ∙ zeros-same scratch₁ scratch (full .scratch-length) }
@@ -46,7 +48,8 @@ module _ (table : List ℕ) (t : Table) (n : ℕ) (log scratch : List ℕ) (hold
     few-rounds : saturatedAt sys ≤ 65535
     few-rounds = omega (arith, rounds-short sys, count-is, whole .fits, roomy .short)
 
-    pub limit-left : (log₂ : List ℕ) → log₂ ≡ take (count * recordLength) log₁ ++ replicate (length log₁ - count * recordLength) 0 → LimitLeft table t n log scratch count most log₂ scratch₁
+    pub limit-left : (log₂ : List ℕ) → log₂ ≡ take (count * recordLength) log₁ ++ replicate (length log₁ - count * recordLength) 0
+        → LimitLeft table t n log scratch count most log₂ scratch₁
     limit-left log₂ p =
         let is : log₂ ≡ logBytes (limit sys) ++ replicate (length log₁ - count * recordLength) 0 = p ∙ ap (λ (l : List ℕ). l ++ replicate (length log₁ - count * recordLength) 0) (whole .logged .bytes) in
         record {
@@ -59,9 +62,7 @@ module _ (table : List ℕ) (t : Table) (n : ℕ) (log scratch : List ℕ) (hold
               size = count-is;
               short = omega (arith, whole .fits, roomy .short);
             };
-            fits = whole .fits;
-            short = roomy .short;
-            room = omega (arith, roomy .scratch-room, whole .scratch-length);
+            linked = linked-cleared p (record { room = whole .linked .0; ringed = whole .linked .1 });
             highest = whole .last-round;
           };
           log-left = is ∙ ap₂ (λ (a b : ℕ). logBytes (limit sys) ++ replicate (a - b) 0) (whole .log-length) (sym bytes-long);
@@ -80,7 +81,7 @@ module _ (table : List ℕ) (t : Table) (n : ℕ) (log scratch log′ scratch′
 
     -- the highest round is a number of a record
     pub rounds-few : most ≤ 65535
-    rounds-few = let l = left-limit in omega (arith, l .settled .highest, rounds-limit (systemIn table), rounds-short (systemIn table), l .settled .log-of .size, l .settled .fits, l .settled .short)
+    rounds-few = let l = left-limit in omega (arith, l .settled .highest, rounds-limit (systemIn table), rounds-short (systemIn table), l .settled .log-of .size, l .settled .linked .room .fits, l .settled .linked .room .short)
 
     pub settled-as : (m : ℕ) → m ≡ most → Settled table t log′ n count m scratch′
     settled-as m q = subst (λ (x : ℕ). Settled table t log′ n count x scratch′) (sym q) (left-limit .settled)

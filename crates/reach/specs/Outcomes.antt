@@ -10,7 +10,7 @@ use Rattle.model.specs.Log.{limit}
 use Rattle.model.specs.Records.{logBytes, recordLength}
 use Rattle.table.specs.declared.Table.{Table}
 use Rattle.table.specs.Reading.{systemIn}
-use Rattle.stack.specs.LimitLog.{scratchFor}
+use Rattle.stack.specs.RoundLogs.{scratchFor}
 use Rattle.saturate.specs.declared.Saturated.{Saturated}
 use Rattle.saturate.specs.declared.Saturated.the-variants.{Limit, Full}
 use Rattle.verdict.specs.Verdicts.{Settled}

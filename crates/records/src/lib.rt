@@ -28,13 +28,13 @@ const STEPS: usize = PATH + 2 * WRITTEN_PLACES;
 
 pub const RECORD_LENGTH: usize = STEPS + 3;
 
-// No rule, and no path place.
+// Stands for no rule, and for a path place past the path's end.
 pub const NO_NUMBER: u16 = 65535;
 
-// More steps than this are not counted.
+// The steps of a record are counted to this.
 pub const STEPS_CAP: u32 = 1000001;
 
-// A record of the log. 65535 stands for no rule, and for a path place past the path's end. The steps fit three bytes.
+// A record of the log. The steps fit three bytes.
 pub struct Entry {
     pub letter: u8,
     pub before: Group,

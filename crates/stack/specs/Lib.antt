@@ -1,2 +1,2 @@
 pub mod StackNumbers
-pub mod LimitLog
+pub mod RoundLogs

@@ -15,10 +15,12 @@ use Rattle.automaton.proofs.StateNumbers.{stateNumber-below}
 use Rattle.automaton.proofs.StateSets.{first-at}
 use Rattle.model.specs.Records.{afterAt}
 use Rattle.wordsets.specs.WordSets.{hasBit, inSet, gains, inBlock, OutsideSet, SetsApart, RecordAdded}
-use Rattle.chains.specs.Buckets.{recordReads}
+use Rattle.packs.specs.Packs.{packed}
+use Rattle.rings.specs.Rings.{recordReads}
 use Rattle.start.specs.declared.Frame.{Frame}
 use Rattle.start.specs.declared.Letter.{Letter}
-use Rattle.start.specs.Regions.{setPlace, setAt, chainsPlace, Linked, OnlySet}
+use Rattle.scratch.specs.Regions.{ringsAt}
+use Rattle.start.specs.Regions.{setPlace, setAt, Linked, OnlySet}
 use Rattle.start.specs.RestSets.{leads, firstLead, someLead}
 use Rattle.start.specs.OwnGroups.{ownNumber, Under, NextUnder, Framed, Numbered, InFrame, Added}
 use Rattle.start.proofs.ScratchRegions.{same-none, same-join, linked-same, byte-set, set-same}
@@ -47,14 +49,14 @@ in-set : (s : List ℕ) (k n : ℕ) → n < stateCount → inSet s (setPlace k) 
 unfolding inSet hasBit member
 in-set s k n h = rw (byte-set s k (n / 8) (omega arith))
 
-pub sets-apart : (s : List ℕ) (k : ℕ) → k < 64 → chainsPlace ≤ length s → SetsApart s (setPlace (k + 1)) (setPlace k)
+pub sets-apart : (s : List ℕ) (k : ℕ) → k < 64 → ringsAt ≤ length s → SetsApart s (setPlace (k + 1)) (setPlace k)
 sets-apart s k h l = record { apart = inr (omega arith); from-room = omega arith; to-room = omega arith }
 
 pub only-outside : (k : ℕ) {s t : List ℕ} → OutsideSet (setPlace k) s t → OnlySet k s t
 only-outside k o = record { size = o .size; before = o .before; behind = o .behind }
 
--- the next set and the chains stay
-pub only-next : {k : ℕ} {s t : List ℕ} → k < 64 → chainsPlace ≤ length s → OnlySet k s t → setAt t (k + 1) ≡ setAt s (k + 1)
+-- the next set and the rings stay
+pub only-next : {k : ℕ} {s t : List ℕ} → k < 64 → ringsAt ≤ length s → OnlySet k s t → setAt t (k + 1) ≡ setAt s (k + 1)
 only-next {k} h l o = set-same (k + 1) (omega arith) (inr (omega arith)) o
 
 pub only-linked : {k : ℕ} {s t log : List ℕ} {count n : ℕ} → k < 64 → OnlySet k s t → Linked log count n s → Linked log count n t
@@ -65,20 +67,23 @@ module _ (log : List ℕ) (count : ℕ) (members : List ℕ) (a : Letter) (f : F
   abbrev L : Processes
   L = processesOf (a .bits)
 
-  abbrev reads : Group → ℕ → Bool
+  abbrev reads : ℕ → ℕ → Bool
   reads before = recordReads log (a .number) before
 
   -- The records with a group before, the one that x stands for, in turn: those below r are taken.
-  pub record Taking (x : ℕ) (before : Group) (r : ℕ) (s t : List ℕ) : Type 0 where
+  pub record Taking (x before r : ℕ) (s t : List ℕ) : Type 0 where
+    pub states : before ≡ packed (groupNumbered (processesOf (a .bits)) x)
     pub high : r ≤ count
     pub reading : r < count → recordReads log (a .number) before r ≡ true
     pub added : Added log count members a f (λ (z : ℕ). ⊥) k s t
-    pub taken : (g : Group) → InFrame (processesOf (a .bits)) f g → ownNumber (processesOf (a .bits)) g ≡ x → (q : ℕ) → q < r → leads log members a g q ≡ true → member (setAt t k) (stateNumber g) ≡ true
+    pub taken : (g : Group) → InFrame (processesOf (a .bits)) f g → ownNumber (processesOf (a .bits)) g ≡ x → (q : ℕ) → q < r → leads log members a g q ≡ true
+        → member (setAt t k) (stateNumber g) ≡ true
 
   -- a record reads the letter in g exactly if it has g's own states before
-  reads-own : (g : Group) (x : ℕ) (before : Group) (r : ℕ) → before ≡ groupNumbered (processesOf (a .bits)) x → Numbered (processesOf (a .bits)) g → ownNumber (processesOf (a .bits)) g ≡ x
-      → recordReads log (a .number) (restrict (processesOf (a .bits)) g) r ≡ recordReads log (a .number) before r
-  reads-own g x before r b h e = ap (λ (d : Group). recordReads log (a .number) d r) (sym (b ∙ ap (groupNumbered L) (sym e) ∙ numbered-own L g h))
+  reads-own : (g : Group) (x before r : ℕ) → before ≡ packed (groupNumbered (processesOf (a .bits)) x) → Numbered (processesOf (a .bits)) g
+      → ownNumber (processesOf (a .bits)) g ≡ x
+      → recordReads log (a .number) (packed (restrict (processesOf (a .bits)) g)) r ≡ recordReads log (a .number) before r
+  reads-own g x before r b h e = ap (λ (d : ℕ). recordReads log (a .number) d r) (sym (b ∙ ap packed (ap (groupNumbered L) (sym e) ∙ numbered-own L g h)))
 
   pub none-added : (test : ℕ → Type 0) → ((z : ℕ) → test z → ⊥) → (s : List ℕ) → Added log count members a f test k s s
   none-added test never s = record {
@@ -88,21 +93,19 @@ module _ (log : List ℕ) (count : ℕ) (members : List ℕ) (a : Letter) (f : F
     complete = λ g w z y. absurd (never (ownNumber L g) z);
   }
 
-  -- the next record comes later
-  pub taking-later : (before : Group) (r next : ℕ) → next ≡ firstFrom (recordReads log (a .number) before) (r + 1) (count - (r + 1)) → r < next
-  taking-later before r next e = omega (arith, first-at (reads before) (r + 1) (count - (r + 1)) next e .low)
-
-  pub taking-start : (x : ℕ) (before : Group) (r : ℕ) (s : List ℕ) → before ≡ groupNumbered (processesOf (a .bits)) x → r ≡ firstFrom (recordReads log (a .number) before) 0 count → Taking x before r s s
+  pub taking-start : (x before r : ℕ) (s : List ℕ) → before ≡ packed (groupNumbered (processesOf (a .bits)) x) → r ≡ firstFrom (recordReads log (a .number) before) 0 count
+      → Taking x before r s s
   taking-start x before r s b e =
       let w = first-at (reads before) 0 count r e in
       record {
+        states = b;
         high = omega (arith, w .high);
         reading = λ h. w .passes (omega arith);
         added = none-added (λ z. ⊥) (λ z n. n) s;
         taken = λ g i is q h t. absurd (true≢false (sym t ∙ lead-not log members a g q (reads-own g x before q b (i .states) is ∙ w .fails q (omega arith) h)));
       }
 
-  module _ (fr : Framed (processesOf (a .bits)) f) (x : ℕ) (xb : x < stateCount) (under : Under (f .own) x) (before : Group) (b : before ≡ groupNumbered (processesOf (a .bits)) x) (r : ℕ) (s t u : List ℕ)
+  module _ (fr : Framed (processesOf (a .bits)) f) (x : ℕ) (xb : x < stateCount) (under : Under (f .own) x) (before r : ℕ) (s t u : List ℕ)
       (same : setAt t (k + 1) ≡ members) (w : Taking x before r s t) (h : r < count)
       (y : ℕ) (own : y ≡ ownNumber (processesOf (a .bits)) (afterAt log r)) (common : ℕ) (call : RecordAdded (setPlace (k + 1)) (setPlace k) y x (f .rest) (f .rows) (f .words) t u common) where
     d : RecordAdded (setPlace (k + 1)) (setPlace k) (ownNumber (processesOf (a .bits)) (afterAt log r)) x (f .rest) (f .rows) (f .words) t u common
@@ -119,8 +122,9 @@ module _ (log : List ℕ) (count : ℕ) (members : List ℕ) (a : Letter) (f : F
     like g = in-set t (k + 1) (stateNumber (merge L (afterAt log r) g)) (stateNumber-below (merge L (afterAt log r) g))
         ∙ ap (λ (l : List ℕ). member l (stateNumber (merge L (afterAt log r) g))) same
 
-    leads-is : (g : Group) → Numbered (processesOf (a .bits)) g → ownNumber (processesOf (a .bits)) g ≡ x → leads log members a g r ≡ inSet t (setPlace (k + 1)) (stateNumber (merge (processesOf (a .bits)) (afterAt log r) g))
-    leads-is g i e = lead-reads log members a g r (reads-own g x before r b i e ∙ w .reading h) ∙ sym (like g)
+    leads-is : (g : Group) → Numbered (processesOf (a .bits)) g → ownNumber (processesOf (a .bits)) g ≡ x
+        → leads log members a g r ≡ inSet t (setPlace (k + 1)) (stateNumber (merge (processesOf (a .bits)) (afterAt log r) g))
+    leads-is g i e = lead-reads log members a g r (reads-own g x before r (w .states) i e ∙ w .reading h) ∙ sym (like g)
 
     gained-leads : (g : Group) → Numbered (processesOf (a .bits)) g → gained g ≡ true → someLead log count members a g ≡ true
     unfolding gained
@@ -149,6 +153,7 @@ module _ (log : List ℕ) (count : ℕ) (members : List ℕ) (a : Letter) (f : F
     taking-turn next n =
         let first = first-at (reads before) (r + 1) (count - (r + 1)) next n in
         record {
+          states = w .states;
           high = omega (arith, first .high);
           reading = λ l. first .passes (omega arith);
           added = joined;
@@ -156,7 +161,7 @@ module _ (log : List ℕ) (count : ℕ) (members : List ℕ) (a : Letter) (f : F
             | yes less ↦ kept-now (stateNumber g) (stateNumber-below g) (w .taken g i e q less y)
             | no later ↦ elim (ℕ-discrete q r) [
               | yes is ↦ now (stateNumber g) (stateNumber-below g) ∙ or-right (member (setAt t k) (stateNumber g)) (gained g) (leads-gained g i e (sym (ap (leads log members a g) is) ∙ y))
-              | no ne ↦ absurd (true≢false (sym y ∙ lead-not log members a g q (reads-own g x before q b (i .states) e ∙ first .fails q (omega arith) l)))
+              | no ne ↦ absurd (true≢false (sym y ∙ lead-not log members a g q (reads-own g x before q (w .states) (i .states) e ∙ first .fails q (omega arith) l)))
             ]
           ];
         }
@@ -173,7 +178,7 @@ module _ (log : List ℕ) (count : ℕ) (members : List ℕ) (a : Letter) (f : F
           ∙ d .shared (p .bit) (p .row) (p .word) (ap (λ (m : ℕ). hasBit m (p .bit)) all ∙ p .has-bit) (p .inside) (p .in-rows) (p .in-words);
     }
 
-  pub taking-end : (x : ℕ) (before : Group) (r : ℕ) (s t : List ℕ) → count ≤ r → Taking x before r s t → Added log count members a f (λ (z : ℕ). z ≡ x) k s t
+  pub taking-end : (x before r : ℕ) (s t : List ℕ) → count ≤ r → Taking x before r s t → Added log count members a f (λ (z : ℕ). z ≡ x) k s t
   taking-end x before r s t h w = record {
     same = w .added .same;
     kept = w .added .kept;

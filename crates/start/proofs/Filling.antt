@@ -34,7 +34,8 @@ numbering-start groups k s j e empty = record {
   members = λ x h. empty x ∙ sym (ap (λ (l : List Group). isNumberOf l x) (drop-of-length-le groups {i = j} (omega arith)));
 }
 
-pub numbering-turn : (groups : List Group) (d : Group) (k j : ℕ) (s t : List ℕ) → setPlace k + setLength ≤ length s → 0 < j → stateNumber (getD groups (j - 1) d) < stateCount → Numbering groups k j s t
+pub numbering-turn : (groups : List Group) (d : Group) (k j : ℕ) (s t : List ℕ) → setPlace k + setLength ≤ length s → 0 < j → stateNumber (getD groups (j - 1) d) < stateCount
+    → Numbering groups k j s t
     → Numbering groups k (j - 1) s (withState t k (stateNumber (getD groups (j - 1) d)))
 unfolding isNumberOf
 numbering-turn groups d k j s t room h small f =

@@ -14,7 +14,7 @@ use Rattle.model.specs.declared.Group.{Group}
 use Rattle.model.specs.Automata.{Transition}
 use Rattle.model.specs.Groups.{Process, Processes, p0, p1, p2, p3, at, has, processesOf, Within, merge}
 use Rattle.model.specs.Lists.{Each}
-use Rattle.model.specs.Log.{Record, recordAt, keys, limit, saturatedAt}
+use Rattle.model.specs.Log.{Record, recordAt, keys, logAt}
 use Rattle.model.specs.Systems.{Rule}
 use Rattle.model.specs.Tables.{Item, bodies, byteOf, numberOf, absent, controlsOf, statesOf, present, locOf, ruleOf, transitionOf, groupOf, groupFits, valueFits, systemOf}
 use Rattle.model.proofs.Bounds.{Below, Bounded, log-below}
@@ -88,9 +88,9 @@ record Ranged (body : List ℕ) : Type 0 where
 pub record Grounds (table : List ℕ) (t : Table) : Type 0 where
   pub states : (i : Process) → has (processesOfTable t) i ≡ true → (0 < statesIn table i) × (statesIn table i ≤ 8)
   pub lacking : (i : Process) → has (processesOfTable t) i ≡ false → statesIn table i ≡ 256
-  pub accepted : (k : ℕ) (g : Group) → acceptsFrom table k g ≡ true → (i : Process) → at g i < statesIn table i
+  pub accepted : (round k : ℕ) (g : Group) → acceptsFrom table round k g ≡ true → (i : Process) → at g i < statesIn table i
   pub letters : (i : ℕ) → i < t .pile → Within (systemIn table .loc (pileIn table i)) (processesOfTable t)
-  pub below : (r : ℕ) → r < length (limit (systemIn table)) → Below (systemIn table .loc) (λ (i : Process). 8) (recordAt (limit (systemIn table)) r .key)
+  pub below : (round r : ℕ) → r < length (logAt (systemIn table) round) → Below (systemIn table .loc) (λ (i : Process). 8) (recordAt (logAt (systemIn table) round) r .key)
   pub start : Over (processesOfTable t) (systemIn table .start .states)
   pub accepting : Each (Over (processesOfTable t)) (systemIn table .accepting)
 
@@ -139,7 +139,8 @@ module _ (table : List ℕ) (t : Table) (h : Holds table t) where
   loc-present : (a : ℕ) → a < length (bodies 2 (itemsIn table)) → Within (systemIn table .loc a) (present (bodies 1 (itemsIn table)))
   loc-present a l = subst (λ (L : Processes). Within (systemIn table .loc a) L) (sym processes-are) (loc-within a (subst (λ (n : ℕ). a < n) (count-in table t h 2 (omega arith)) l))
 
-  below-8 : (bound : Process → ℕ) → ((i : Process) → has (present (bodies 1 (itemsIn table))) i ≡ true → bound i ≤ 8) → (u : Transition) → Fitting (bodies 2 (itemsIn table)) bound u
+  below-8 : (bound : Process → ℕ) → ((i : Process) → has (present (bodies 1 (itemsIn table))) i ≡ true → bound i ≤ 8) → (u : Transition)
+      → Fitting (bodies 2 (itemsIn table)) bound u
       → Below (systemIn table .loc) (λ (i : Process). 8) u
   unfolding systemIn systemOf
   below-8 bound small u f i m =
@@ -173,7 +174,8 @@ module _ (table : List ℕ) (t : Table) (h : Holds table t) where
         (λ body f. from-states (statesOf ps) (λ i m. omega arith) (transitionOf body) (f .fits)) (bodies 4 items) (transitions-fit (complete .checked)))) m;
   }
     where
-      from-states : (bound : Process → ℕ) → ((i : Process) → has (present (bodies 1 (itemsIn table))) i ≡ true → bound i ≤ statesIn table i) → (u : Transition) → Fitting (bodies 2 (itemsIn table)) bound u
+      from-states : (bound : Process → ℕ) → ((i : Process) → has (present (bodies 1 (itemsIn table))) i ≡ true → bound i ≤ statesIn table i) → (u : Transition)
+          → Fitting (bodies 2 (itemsIn table)) bound u
           → From (systemIn table .loc) (statesIn table) u
       from-states bound small u f i m =
           let a : at (u .before) i < bound i = fits-at (locOf ls (u .letter)) bound (u .before) (f .before) i m in
@@ -206,11 +208,11 @@ module _ (table : List ℕ) (t : Table) (h : Holds table t) where
   grounds = record {
     states = λ i m. let r = ranged-at i (subst (λ (L : Processes). has L i ≡ true) (sym processes-are) m) in (r .some, r .small);
     lacking = λ i m. lacks i (subst (λ (L : Processes). has L i ≡ false) (sym processes-are) m);
-    accepted = λ k g y i. accepts-from (systemIn table .loc) (statesIn table) i (keys (limit (systemIn table))) (systemIn table .accepting) (drop k (systemIn table .start .word)) g
-        (log-from (systemIn table) (statesIn table) rooted (saturatedAt (systemIn table))) (accepting-states i) y;
+    accepted = λ round k g y i. accepts-from (systemIn table .loc) (statesIn table) i (keys (logAt (systemIn table) round)) (systemIn table .accepting) (drop k (systemIn table .start .word)) g
+        (log-from (systemIn table) (statesIn table) rooted round) (accepting-states i) y;
     letters = λ i l. loc-within (pileIn table i) (pile-letter-in table t h i l);
-    below = λ r l. each-at (λ (r : Record). Below (systemIn table .loc) (λ (i : Process). 8) (r .key)) (limit (systemIn table))
-        (each-keys (Below (systemIn table .loc) (λ (i : Process). 8)) (limit (systemIn table)) (log-below (systemIn table) (λ (i : Process). 8) bounded (saturatedAt (systemIn table)))) r l;
+    below = λ round r l. each-at (λ (r : Record). Below (systemIn table .loc) (λ (i : Process). 8) (r .key)) (logAt (systemIn table) round)
+        (each-keys (Below (systemIn table .loc) (λ (i : Process). 8)) (logAt (systemIn table) round) (log-below (systemIn table) (λ (i : Process). 8) bounded round)) r l;
     start = subst (λ (L : Processes). Over L (systemIn table .start .states)) processes-are over-start;
     accepting = subst (λ (L : Processes). Each (Over L) (systemIn table .accepting)) processes-are over-accepting;
   }

@@ -1,6 +1,6 @@
 -- Laws of the search for the lowest record that reads a letter and leads into a set.
-use mathlib.Core.Path.{_≡_, sym, subst, _∙_}
-use mathlib.Core.Bool.{Bool, true, false, true≢false}
+use mathlib.Core.Path.{_≡_, ap, sym, subst, _∙_}
+use mathlib.Core.Bool.{true, false, true≢false}
 use mathlib.Core.List.{List}
 use Prim.Native.Nat.{ℕ, _+_, _-_, _<_, _≤_}
 use native.Mathlib.Decide.{decLt}
@@ -12,66 +12,72 @@ use Rattle.automaton.specs.StateNumbers.{stateNumber}
 use Rattle.automaton.specs.StateSets.{member, firstFrom}
 use Rattle.automaton.proofs.StateSets.{Fails, fails-join, fails-one, first-is, first-at, first-of}
 use Rattle.model.specs.Records.{afterAt}
-use Rattle.chains.specs.Buckets.{recordReads}
+use Rattle.packs.specs.Packs.{packed}
+use Rattle.rings.specs.Rings.{recordReads}
 use Rattle.start.specs.declared.Letter.{Letter}
 use Rattle.start.specs.RestSets.{leads, firstLead, someLead}
 
 module _ (log members : List ℕ) (a : Letter) (g : Group) where
-  abbrev reads : ℕ → Bool
-  reads r = recordReads log (a .number) (restrict (processesOf (a .bits)) g) r
-
-  pub lead-not : (r : ℕ) → recordReads log (a .number) (restrict (processesOf (a .bits)) g) r ≡ false → leads log members a g r ≡ false
+  pub lead-not : (r : ℕ) → recordReads log (a .number) (packed (restrict (processesOf (a .bits)) g)) r ≡ false → leads log members a g r ≡ false
   unfolding leads
   lead-not r f = rw f
 
   -- of a record that reads the letter
-  pub lead-reads : (r : ℕ) → recordReads log (a .number) (restrict (processesOf (a .bits)) g) r ≡ true
+  pub lead-reads : (r : ℕ) → recordReads log (a .number) (packed (restrict (processesOf (a .bits)) g)) r ≡ true
       → leads log members a g r ≡ member members (stateNumber (merge (processesOf (a .bits)) (afterAt log r) g))
   unfolding leads
   lead-reads r t = rw t
 
-  fails-lead : (n m : ℕ) → Fails (recordReads log (a .number) (restrict (processesOf (a .bits)) g)) n m → Fails (leads log members a g) n m
-  fails-lead n m f j p q = lead-not j (f j p q)
+  fails-lead : (before n m : ℕ) → before ≡ packed (restrict (processesOf (a .bits)) g) → Fails (recordReads log (a .number) before) n m → Fails (leads log members a g) n m
+  fails-lead before n m e f j p q = lead-not j (sym (ap (λ (h : ℕ). recordReads log (a .number) h j) e) ∙ f j p q)
 
-  -- The loop: no record before r leads into the set, and r reads the letter or is count.
-  pub record Seeking (count r : ℕ) : Type 0 where
+  -- The loop: no record before r leads into the set, and r reads the letter, with the packed states before, or is count.
+  pub record Seeking (before count r : ℕ) : Type 0 where
+    pub states : before ≡ packed (restrict (processesOf (a .bits)) g)
     pub high : r ≤ count
-    pub reading : r < count → recordReads log (a .number) (restrict (processesOf (a .bits)) g) r ≡ true
+    pub reading : r < count → recordReads log (a .number) before r ≡ true
     pub fails : Fails (leads log members a g) 0 r
 
-  pub seeking-start : (count r : ℕ) → r ≡ firstFrom (recordReads log (a .number) (restrict (processesOf (a .bits)) g)) 0 count → Seeking count r
-  seeking-start count r e =
-      let f = first-at reads 0 count r e in
-      record { high = omega (arith, f .high); reading = λ h. f .passes (omega arith); fails = fails-lead 0 r (f .fails) }
+  pub seeking-start : (before count r : ℕ) → before ≡ packed (restrict (processesOf (a .bits)) g) → r ≡ firstFrom (recordReads log (a .number) before) 0 count
+      → Seeking before count r
+  seeking-start before count r is e =
+      let f = first-at (recordReads log (a .number) before) 0 count r e in
+      record { states = is; high = omega (arith, f .high); reading = λ h. f .passes (omega arith); fails = fails-lead before 0 r is (f .fails) }
 
-  pub seeking-turn : (count r q : ℕ) → Seeking count r → r < count → leads log members a g r ≡ false
-      → q ≡ firstFrom (recordReads log (a .number) (restrict (processesOf (a .bits)) g)) (r + 1) (count - (r + 1)) → Seeking count q
-  seeking-turn count r q s h n e =
-      let f = first-at reads (r + 1) (count - (r + 1)) q e in
-      record {
-        high = omega (arith, f .high);
-        reading = λ l. f .passes (omega arith);
-        fails = fails-join (leads log members a g) 0 r q (s .fails) (fails-join (leads log members a g) r (r + 1) q (fails-one (leads log members a g) r n) (fails-lead (r + 1) q (f .fails)));
-      }
+  module _ {before count r : ℕ} (s : Seeking before count r) where
+    -- where the record leads
+    pub seeking-leads : r < count → leads log members a g r ≡ member members (stateNumber (merge (processesOf (a .bits)) (afterAt log r) g))
+    seeking-leads h = lead-reads r (sym (ap (λ (d : ℕ). recordReads log (a .number) d r) (s .states)) ∙ s .reading h)
 
-  -- the next record comes later
-  pub seeking-later : (count r q : ℕ) → q ≡ firstFrom (recordReads log (a .number) (restrict (processesOf (a .bits)) g)) (r + 1) (count - (r + 1)) → r < q
-  seeking-later count r q e = omega (arith, first-at reads (r + 1) (count - (r + 1)) q e .low)
+    pub seeking-turn : (q : ℕ) → leads log members a g r ≡ false → q ≡ firstFrom (recordReads log (a .number) before) (r + 1) (count - (r + 1)) → r < count → Seeking before count q
+    seeking-turn q n e h =
+        let f = first-at (recordReads log (a .number) before) (r + 1) (count - (r + 1)) q e in
+        record {
+          states = s .states;
+          high = omega (arith, f .high);
+          reading = λ l. f .passes (omega arith);
+          fails = fails-join (leads log members a g) 0 r q (s .fails)
+              (fails-join (leads log members a g) r (r + 1) q (fails-one (leads log members a g) r n) (fails-lead before (r + 1) q (s .states) (f .fails)));
+        }
 
-  pub seeking-found : (count r : ℕ) → Seeking count r → leads log members a g r ≡ true → r ≡ firstLead log count members a g
-  unfolding firstLead
-  seeking-found count r s t = first-is (leads log members a g) 0 count r (record { low = omega arith; high = omega (arith, s .high); passes = λ h. t; fails = s .fails })
+    pub seeking-found : leads log members a g r ≡ true → r ≡ firstLead log count members a g
+    unfolding firstLead
+    seeking-found t = first-is (leads log members a g) 0 count r (record { low = omega arith; high = omega (arith, s .high); passes = λ h. t; fails = s .fails })
 
-  pub seeking-none : (count r : ℕ) → Seeking count r → count ≤ r → count ≡ firstLead log count members a g
-  unfolding firstLead
-  seeking-none count r s h =
-      let e : r ≡ count = omega (arith, s .high) in
-      first-is (leads log members a g) 0 count count (record {
-        low = omega arith;
-        high = omega arith;
-        passes = λ l. absurd (omega arith);
-        fails = subst (λ (k : ℕ). Fails (leads log members a g) 0 k) e (s .fails);
-      })
+    pub seeking-none : count ≤ r → count ≡ firstLead log count members a g
+    unfolding firstLead
+    seeking-none h =
+        let e : r ≡ count = omega (arith, s .high) in
+        first-is (leads log members a g) 0 count count (record {
+          low = omega arith;
+          high = omega arith;
+          passes = λ l. absurd (omega arith);
+          fails = subst (λ (k : ℕ). Fails (leads log members a g) 0 k) e (s .fails);
+        })
+
+-- the next record that reads comes later
+pub reads-later : (log : List ℕ) (letter before count r q : ℕ) → q ≡ firstFrom (recordReads log letter before) (r + 1) (count - (r + 1)) → r < q
+reads-later log letter before count r q e = omega (arith, first-at (recordReads log letter before) (r + 1) (count - (r + 1)) q e .low)
 
 -- ---- whether some record does
 pub some-lead : (log members : List ℕ) (a : Letter) (g : Group) (count r : ℕ) → r < count → leads log members a g r ≡ true → someLead log count members a g ≡ true

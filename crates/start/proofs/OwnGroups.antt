@@ -8,10 +8,11 @@ use lib.ListN.{getD}
 use Rattle.model.specs.declared.Group.{Group}
 use Rattle.model.specs.Groups.{Process, Processes, p0, p1, p2, p3, at, has, restrict, merge}
 use Rattle.model.proofs.Groups.{ext, at-merge, at-restrict}
-use Rattle.model.proofs.Tests.{by-test, cond-less}
-use Rattle.model.specs.Records.{recordLength, groupAt, afterAt, numberAt}
-use Rattle.packs.specs.Packs.{packed, Bytes, maskOf, mergedBits, packNumber}
-use Rattle.packs.proofs.Packs.{merge-bits, pack-group, pack-number}
+use Rattle.model.proofs.Tests.{by-test}
+use Rattle.model.specs.Records.{recordLength, groupAt, afterAt}
+use Rattle.packs.specs.Packs.{packed, Bytes, maskOf, mergedBits, packNumber, packedAfter}
+use Rattle.packs.proofs.Packs.{bytes-of, merge-bits, pack-group, pack-number}
+use Rattle.packs.proofs.Unpacked.{merge-bytes}
 use Rattle.automaton.specs.StateNumbers.{stateCount, stateNumber, digit, groupNumbered}
 use Rattle.automaton.proofs.StateNumbers.{stateNumber-below, digit-number, digits-number, at-numbered}
 use Rattle.wordsets.specs.WordSets.{hasBit, inSet, gains, inBlock, BlockFits}
@@ -66,21 +67,15 @@ numbered-own L g h = ext (λ i. at-numbered L (ownNumber L g) i ∙ by-test (has
     (λ n. rw (at-restrict L g i, n)))
 
 -- the own number after a record, from its bytes
-pub own-packed : (L : Processes) (log : List ℕ) (r : ℕ) → ((m : ℕ) → getD log m 0 < 256) → packNumber (mergedBits (maskOf L) (numberAt 4 log (r * recordLength + 5)) 0) ≡ ownNumber L (afterAt log r)
-unfolding ownNumber afterAt groupAt packed
+pub own-packed : (L : Processes) (log : List ℕ) (r : ℕ) → ((m : ℕ) → getD log m 0 < 256) → packNumber (mergedBits (maskOf L) (packedAfter log r) 0) ≡ ownNumber L (afterAt log r)
+unfolding ownNumber afterAt groupAt packed packedAfter
 own-packed L log r bytes =
     let g = groupAt log (r * recordLength + 5) in
-    let small : Bytes g = bytes-at g (bytes _) (bytes _) (bytes _) (bytes _) in
+    let small : Bytes g = bytes-of g (bytes _) (bytes _) (bytes _) (bytes _) in
     let none : Bytes noStates = λ i. rw (zero-at i) (omega arith) in
     ap (λ (n : ℕ). packNumber (mergedBits (maskOf L) n 0)) (pack-group log (r * recordLength + 5))
     ∙ ap packNumber (merge-bits L g noStates small none)
-    ∙ pack-number (merge L g noStates) (λ i. rw (at-merge L g noStates i) (cond-less (has L i) (at g i) (at noStates i) 256 (λ m. small i) (none i)))
-  where
-    bytes-at : (g : Group) → g .s0 < 256 → g .s1 < 256 → g .s2 < 256 → g .s3 < 256 → Bytes g
-    bytes-at g a b c d p0 = a
-    bytes-at g a b c d p1 = b
-    bytes-at g a b c d p2 = c
-    bytes-at g a b c d p3 = d
+    ∙ pack-number (merge L g noStates) (merge-bytes L g noStates small none)
 
 bit-inside : (x a b : ℕ) → digit x p2 + a < 8 → digit x p3 + b < 8 → x % 64 + (8 * a + b) < 64
 bit-inside x a b h l = omega arith

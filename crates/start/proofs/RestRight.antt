@@ -3,7 +3,7 @@ use mathlib.Core.Path.{_≡_, refl, ap, ap₂, sym, subst, _∙_}
 use mathlib.Core.Bool.{Bool, true, false, _&&_, _||_, true≢false}
 use mathlib.Core.Logic.{inl, inr, ⊎-elim}
 use mathlib.Core.List.{List, [], _∷_, map}
-use Prim.Native.Nat.{ℕ, zero, suc, _+_, _-_, _%_, _<_, _≤_}
+use Prim.Native.Nat.{ℕ, zero, suc, _+_, _-_, _*_, _%_, _<_, _≤_}
 use native.Mathlib.Decide.{decLt}
 use native.Mathlib.Numerals.{add-one}
 use native.Mathlib.Omega.{arith}
@@ -15,7 +15,7 @@ use Rattle.model.specs.declared.Group.{Group}
 use Rattle.model.specs.Automata.{Transition, move}
 use Rattle.model.specs.Groups.{Process, Processes, at, has, processesOf, sameGroup, restrict, merge}
 use Rattle.model.specs.Lists.{Each, anyOf}
-use Rattle.model.specs.Log.{Record, recordAt, noRecord, readsAt, keys, limit}
+use Rattle.model.specs.Log.{Record, recordAt, noRecord, readsAt, keys, logAt}
 use Rattle.model.specs.Systems.{System, accepts}
 use Rattle.model.proofs.Groups.{at-build, sameGroup-true, sameGroup-of}
 use Rattle.model.proofs.Lists.{any-of, each-map, getD-mem}
@@ -25,20 +25,24 @@ use Rattle.automaton.specs.StateNumbers.{stateCount, stateNumber, Over}
 use Rattle.automaton.specs.StateSets.{member, firstFrom}
 use Rattle.automaton.proofs.StateNumbers.{stateNumber-below, number-injective}
 use Rattle.automaton.proofs.StateSets.{first-of}
-use Rattle.model.specs.Records.{afterAt}
-use Rattle.chains.specs.Buckets.{recordReads}
-use Rattle.chains.proofs.Buckets.{reads-model}
+use Rattle.model.specs.Records.{recordLength, beforeAt, afterAt}
+use Rattle.records.specs.Entries.{Fits, Reads}
+use Rattle.packs.specs.Packs.{packed, Bytes, packedBefore}
+use Rattle.packs.proofs.Packs.{pack-group, packed-same}
+use Rattle.packs.proofs.Unpacked.{restrict-bytes}
+use Rattle.rings.specs.Rings.{recordReads}
 use Rattle.table.specs.declared.Table.{Table}
 use Rattle.table.specs.Reading.{systemIn, pileIn, statesIn}
 use Rattle.table.proofs.Layouts.{pile-count}
-use Rattle.stack.specs.LimitLog.{LimitLog}
-use Rattle.stack.proofs.Limits.{limit-fits, limit-reads}
+use Rattle.stack.specs.RoundLogs.{RoundLog}
+use Rattle.stack.proofs.RoundLogs.{round-fits, round-reads}
 use Rattle.start.specs.declared.Letter.{Letter}
-use Rattle.start.specs.Regions.{setAt, setsEnd, chainsPlace, SameBut, OnlySet}
-use Rattle.start.specs.RestSets.{processesOfTable, LetterAt, leads, firstLead, someLead, EmptySet, Filled, isNumberOf, acceptsFrom, SetRight}
+use Rattle.scratch.specs.Regions.{ringsAt}
+use Rattle.start.specs.Regions.{setAt, setsEnd, Linked, SameBut, OnlySet}
+use Rattle.start.specs.RestSets.{processesOfTable, LetterAt, leads, firstLead, someLead, EmptySet, Filled, isNumberOf, acceptsFrom, SetRight, RightForLog}
 use Rattle.start.specs.OwnGroups.{lastStates, Numbered, FrameTo, Added}
 use Rattle.start.specs.declared.Frame.{Frame}
-use Rattle.start.proofs.ScratchRegions.{same-none, same-join, same-wider, set-same}
+use Rattle.start.proofs.ScratchRegions.{linked-same, set-same}
 use Rattle.start.proofs.Leading.{lead-not, lead-reads}
 use Rattle.start.proofs.OwnGroups.{own-below}
 use Rattle.start.proofs.Grounds.{over-merge, Grounds, grounds}
@@ -82,13 +86,29 @@ accepts-first sys log b w g =
     any-map (λ (t : Transition). eqb (t .letter) b && sameGroup (restrict (sys .loc b) g) (t .before) && accepts (sys .loc) (keys log) (sys .accepting) w (move (sys .loc) t g)) (λ (r : Record). r .key) log
     ∙ any-first (λ (r : Record). readsAt (sys .loc) b g r && accepts (sys .loc) (keys log) (sys .accepting) w (move (sys .loc) (r .key) g)) noRecord log
 
+-- ---- what the rings find is what the paths go by
+over-bytes : (L : Processes) (g : Group) → Over L g → Bytes g
+over-bytes L g o i = by-test (has L i) (λ m. omega (arith, o .inside i m)) (λ n. omega (arith, o .outside i n))
+
+same-packed : (g h : Group) → Bytes g → Bytes h → eqb (packed h) (packed g) ≡ sameGroup g h
+same-packed g h p q = same-test (eqb (packed h) (packed g)) (sameGroup g h)
+    (λ t. sameGroup-of g h (packed-same g h p q (sym (eqb-true (packed h) (packed g) t))))
+    (λ t. eq-eqb (packed h) (packed g) (ap packed (sym (sameGroup-true g h t))))
+
+reads-model : (loc : ℕ → Processes) (log : List ℕ) (b : ℕ) (g : Group) (r : ℕ) (e : Record) → Reads log r e → Fits e → Bytes g
+    → recordReads log b (packed (restrict (loc b) g)) r ≡ readsAt loc b g e
+unfolding recordReads readsAt packedBefore beforeAt
+reads-model loc log b g r e w f small =
+    ap₂ (λ (l h : ℕ). eqb l b && eqb h (packed (restrict (loc b) g))) (w .letter) (pack-group log (r * recordLength + 1) ∙ ap packed (w .before))
+    ∙ ap (λ (s : Bool). eqb (e .key .letter) b && s) (same-packed (restrict (loc b) g) (e .key .before) (restrict-bytes (loc b) g small) (f .before))
+
 -- ---- one letter
-module _ {table : List ℕ} {t : Table} {log : List ℕ} {count : ℕ} (lent : LimitLog table t log count) (i : ℕ) (inside : i < t .pile) (a : Letter) (letter : LetterAt table i a) where
+module _ {table : List ℕ} {t : Table} {round : ℕ} {log : List ℕ} {count : ℕ} (lent : RoundLog table t round log count) (i : ℕ) (inside : i < t .pile) (a : Letter) (letter : LetterAt table i a) where
   abbrev sys : System
   sys = systemIn table
 
   abbrev records : List Record
-  records = limit (systemIn table)
+  records = logAt (systemIn table) round
 
   ground : Grounds table t
   ground = grounds table t (lent .holds)
@@ -97,42 +117,43 @@ module _ {table : List ℕ} {t : Table} {log : List ℕ} {count : ℕ} (lent : L
   pub word-from : drop i (systemIn table .start .word) ≡ pileIn table i ∷ drop (i + 1) (systemIn table .start .word)
   word-from = drop-cons (sys .start .word) i 0 (omega (arith, pile-count table t (lent .holds))) ∙ ap (λ (k : ℕ). pileIn table i ∷ drop k (sys .start .word)) (sym (add-one i))
 
-  reads-is : (g : Group) (r : ℕ) → r < count
-      → recordReads log (a .number) (restrict (processesOf (a .bits)) g) r ≡ readsAt (systemIn table .loc) (pileIn table i) g (recordAt (limit (systemIn table)) r)
-  reads-is g r h =
-      ap₂ (λ (b : ℕ) (L : Processes). recordReads log b (restrict L g) r) (letter .number) (letter .bits .same)
-      ∙ reads-model (sys .loc) records (lent .rest) log (pileIn table i) g r (lent .logged) (omega (arith, lent .size)) (limit-fits lent r h)
+  reads-is : (g : Group) → Over (processesOfTable t) g → (r : ℕ) → r < count
+      → recordReads log (a .number) (packed (restrict (processesOf (a .bits)) g)) r ≡ readsAt (systemIn table .loc) (pileIn table i) g (recordAt (logAt (systemIn table) round) r)
+  reads-is g o r h =
+      ap₂ (λ (b : ℕ) (L : Processes). recordReads log b (packed (restrict L g)) r) (letter .number) (letter .bits .same)
+      ∙ reads-model (sys .loc) log (pileIn table i) g r (recordAt records r) (round-reads lent r h) (round-fits lent r h) (over-bytes (processesOfTable t) g o)
 
   -- where a record that reads the letter leads
-  pub target-is : (g : Group) (r : ℕ) → r < count → readsAt (systemIn table .loc) (pileIn table i) g (recordAt (limit (systemIn table)) r) ≡ true
-      → merge (processesOf (a .bits)) (afterAt log r) g ≡ move (systemIn table .loc) (recordAt (limit (systemIn table)) r .key) g
+  pub target-is : (g : Group) (r : ℕ) → r < count → readsAt (systemIn table .loc) (pileIn table i) g (recordAt (logAt (systemIn table) round) r) ≡ true
+      → merge (processesOf (a .bits)) (afterAt log r) g ≡ move (systemIn table .loc) (recordAt (logAt (systemIn table) round) r .key) g
   target-is g r h y =
       ap₂ (λ (L : Processes) (x : Group). merge L x g)
       (letter .bits .same ∙ sym (ap (sys .loc) (reads-letter (sys .loc) (pileIn table i) g (recordAt records r) y)))
-      (limit-reads lent r h .after)
+      (round-reads lent r h .after)
 
-  pub target-over : (g : Group) (r : ℕ) → r < count → Over (processesOfTable t) g → readsAt (systemIn table .loc) (pileIn table i) g (recordAt (limit (systemIn table)) r) ≡ true
-      → Over (processesOfTable t) (move (systemIn table .loc) (recordAt (limit (systemIn table)) r .key) g)
+  pub target-over : (g : Group) (r : ℕ) → r < count → Over (processesOfTable t) g
+      → readsAt (systemIn table .loc) (pileIn table i) g (recordAt (logAt (systemIn table) round) r) ≡ true
+      → Over (processesOfTable t) (move (systemIn table .loc) (recordAt (logAt (systemIn table) round) r .key) g)
   target-over g r h o y = over-merge (processesOfTable t) (sys .loc (recordAt records r .key .letter)) (recordAt records r .key .after) g
       (rw (reads-letter (sys .loc) (pileIn table i) g (recordAt records r) y) (ground .letters i inside))
-      (ground .below r (omega (arith, lent .size))) o
+      (ground .below round r (omega (arith, lent .size))) o
 
-  module _ (s : List ℕ) (next : SetRight table t s (i + 1)) (g : Group) (o : Over (processesOfTable t) g) where
-    lead-is : (r : ℕ) → r < count → leads log (setAt s (i + 1)) a g r ≡ goesOn (systemIn table) (limit (systemIn table)) (pileIn table i) (drop (i + 1) (systemIn table .start .word)) g r
+  module _ (s : List ℕ) (next : SetRight table t round s (i + 1)) (g : Group) (o : Over (processesOfTable t) g) where
+    lead-is : (r : ℕ) → r < count → leads log (setAt s (i + 1)) a g r ≡ goesOn (systemIn table) (logAt (systemIn table) round) (pileIn table i) (drop (i + 1) (systemIn table .start .word)) g r
     lead-is r h = by-test (readsAt (sys .loc) (pileIn table i) g (recordAt records r))
-        (λ y. rw y (lead-reads log (setAt s (i + 1)) a g r (reads-is g r h ∙ y)
+        (λ y. rw y (lead-reads log (setAt s (i + 1)) a g r (reads-is g o r h ∙ y)
         ∙ ap (λ (x : Group). member (setAt s (i + 1)) (stateNumber x)) (target-is g r h y)
         ∙ next (move (sys .loc) (recordAt records r .key) g) (target-over g r h o y)))
-        (λ n. rw n (lead-not log (setAt s (i + 1)) a g r (reads-is g r h ∙ n)))
+        (λ n. rw n (lead-not log (setAt s (i + 1)) a g r (reads-is g o r h ∙ n)))
 
     pub first-is-lead : firstLead log count (setAt s (i + 1)) a g
-        ≡ firstFrom (goesOn (systemIn table) (limit (systemIn table)) (pileIn table i) (drop (i + 1) (systemIn table .start .word)) g) 0 (length (limit (systemIn table)))
+        ≡ firstFrom (goesOn (systemIn table) (logAt (systemIn table) round) (pileIn table i) (drop (i + 1) (systemIn table .start .word)) g) 0 (length (logAt (systemIn table) round))
     unfolding firstLead
     first-is-lead =
         first-agree (leads log (setAt s (i + 1)) a g) (goesOn sys records (pileIn table i) (drop (i + 1) (sys .start .word)) g) 0 count (λ r p q. lead-is r (omega arith))
         ∙ ap (λ (k : ℕ). firstFrom (goesOn sys records (pileIn table i) (drop (i + 1) (sys .start .word)) g) 0 k) (sym (lent .size))
 
-    pub lead-accepts : someLead log count (setAt s (i + 1)) a g ≡ acceptsFrom table i g
+    pub lead-accepts : someLead log count (setAt s (i + 1)) a g ≡ acceptsFrom table round i g
     lead-accepts =
         ap₂ (λ (r n : ℕ). ltb r n) first-is-lead (sym (lent .size))
         ∙ sym (ap (λ (w : List ℕ). accepts (sys .loc) (keys records) (sys .accepting) w g) word-from ∙ accepts-first sys records (pileIn table i) (drop (i + 1) (sys .start .word)) g)
@@ -141,15 +162,15 @@ module _ {table : List ℕ} {t : Table} {log : List ℕ} {count : ℕ} (lent : L
   own-states : (g : Group) → Over (processesOfTable t) g → Numbered (processesOf (a .bits)) g
   own-states g o j m = o .inside j (ground .letters i inside j (sym (ap (λ (L : Processes). has L j) (letter .bits .same)) ∙ m))
 
-  under-last : (g : Group) → Over (processesOfTable t) g → acceptsFrom table i g ≡ true → (j : Process) → at g j % 8 ≤ at (lastStates table) j % 8
+  under-last : (g : Group) → Over (processesOfTable t) g → acceptsFrom table round i g ≡ true → (j : Process) → at g j % 8 ≤ at (lastStates table) j % 8
   unfolding lastStates
   under-last g o y j = rw (at-build (λ j. statesIn table j - 1) j) (by-test (has (processesOfTable t) j)
-      (λ m. omega (arith, ground .accepted i g y j, ground .states j m .0, ground .states j m .1))
+      (λ m. omega (arith, ground .accepted round i g y j, ground .states j m .0, ground .states j m .1))
       (λ n. omega (arith, o .outside j n, ground .lacking j n)))
 
-  pub set-before : (s s′ : List ℕ) (f : Frame) → SetRight table t s (i + 1) → EmptySet s i → FrameTo (processesOf (a .bits)) (lastStates table) f
-      → Added log count (setAt s (i + 1)) a f (λ (z : ℕ). z < stateCount) i s s′ → SetRight table t s′ i
-  set-before s s′ f next empty to d g o = same-test (member (setAt s′ i) (stateNumber g)) (acceptsFrom table i g)
+  pub set-before : (s s′ : List ℕ) (f : Frame) → SetRight table t round s (i + 1) → EmptySet s i → FrameTo (processesOf (a .bits)) (lastStates table) f
+      → Added log count (setAt s (i + 1)) a f (λ (z : ℕ). z < stateCount) i s s′ → SetRight table t round s′ i
+  set-before s s′ f next empty to d g o = same-test (member (setAt s′ i) (stateNumber g)) (acceptsFrom table round i g)
       (λ y. sym (lead-accepts s next g o) ∙ ⊎-elim (λ m. absurd (true≢false (sym m ∙ empty (stateNumber g)))) (λ z. z) (d .sound g (own-states g o) y))
       (λ y. d .complete g (to .reaches g (own-states g o) (under-last g o y)) (own-below (processesOf (a .bits)) g) (lead-accepts s next g o ∙ y))
 
@@ -159,48 +180,55 @@ number-same L g h o q = same-test (eqb (stateNumber g) (stateNumber h)) (sameGro
     (λ t. sameGroup-of g h (number-injective L g h o q (eqb-true (stateNumber g) (stateNumber h) t)))
     (λ t. eq-eqb (stateNumber g) (stateNumber h) (ap stateNumber (sameGroup-true g h t)))
 
-pub set-last : {table : List ℕ} {t : Table} (ground : Grounds table t) → length (systemIn table .start .word) ≡ t .pile → (s s′ : List ℕ)
-    → Filled (isNumberOf (systemIn table .accepting)) (t .pile) s s′ → SetRight table t s′ (t .pile)
+pub set-last : {table : List ℕ} {t : Table} (ground : Grounds table t) → length (systemIn table .start .word) ≡ t .pile → (round : ℕ) (s s′ : List ℕ)
+    → Filled (isNumberOf (systemIn table .accepting)) (t .pile) s s′ → SetRight table t round s′ (t .pile)
 unfolding isNumberOf
-set-last {table} {t} ground size s s′ f g o =
+set-last {table} {t} ground size round s s′ f g o =
     f .members (stateNumber g) (stateNumber-below g)
     ∙ any-agree (λ (h : Group). eqb (stateNumber g) (stateNumber h)) (sameGroup g) (systemIn table .accepting)
     (each-map (Over (processesOfTable t)) (λ (h : Group). eqb (stateNumber g) (stateNumber h) ≡ sameGroup g h) (λ h q. number-same (processesOfTable t) g h o q) (systemIn table .accepting) (ground .accepting))
-    ∙ sym (ap (λ (w : List ℕ). accepts (systemIn table .loc) (keys (limit (systemIn table))) (systemIn table .accepting) w g)
+    ∙ sym (ap (λ (w : List ℕ). accepts (systemIn table .loc) (keys (logAt (systemIn table) round)) (systemIn table .accepting) w g)
     (drop-of-length-le (systemIn table .start .word) {i = t .pile} (omega arith)))
 
 -- ---- the sets from the back
-right-same : (table : List ℕ) (t : Table) (s s′ : List ℕ) (k : ℕ) → setAt s′ k ≡ setAt s k → SetRight table t s k → SetRight table t s′ k
-right-same table t s s′ k e r g o = ap (λ (l : List ℕ). member l (stateNumber g)) e ∙ r g o
+right-same : (table : List ℕ) (t : Table) (round : ℕ) (s s′ : List ℕ) (k : ℕ) → setAt s′ k ≡ setAt s k → SetRight table t round s k → SetRight table t round s′ k
+right-same table t round s s′ k e r g o = ap (λ (l : List ℕ). member l (stateNumber g)) e ∙ r g o
 
 -- a set behind one that has changed stays right
-pub right-behind : (table : List ℕ) (t : Table) {s s′ : List ℕ} (i k : ℕ) → i < k → k ≤ 64 → chainsPlace ≤ length s → OnlySet i s s′ → SetRight table t s k → SetRight table t s′ k
-right-behind table t {s} {s′} i k h l room w r = right-same table t s s′ k (set-same k (omega arith) (inr (omega arith)) w) r
+pub right-behind : (table : List ℕ) (t : Table) (round : ℕ) {s s′ : List ℕ} (i k : ℕ) → i < k → k ≤ 64 → ringsAt ≤ length s → OnlySet i s s′ → SetRight table t round s k
+    → SetRight table t round s′ k
+right-behind table t round {s} {s′} i k h l room w r = right-same table t round s s′ k (set-same k (omega arith) (inr (omega arith)) w) r
 
 -- every set stays right where only the bytes behind the sets change
-pub right-before : (table : List ℕ) (t : Table) {low high : ℕ} {s s′ : List ℕ} (k : ℕ) → k ≤ 64 → setsEnd ≤ low → chainsPlace ≤ length s → SameBut low high s s′ → SetRight table t s k → SetRight table t s′ k
-right-before table t {s = s} {s′ = s′} k l h room w r = right-same table t s s′ k (set-same k (omega arith) (inl (omega arith)) w) r
+pub right-before : (table : List ℕ) (t : Table) (round : ℕ) {low high : ℕ} {s s′ : List ℕ} (k : ℕ) → k ≤ 64 → setsEnd ≤ low → ringsAt ≤ length s → SameBut low high s s′
+    → SetRight table t round s k → SetRight table t round s′ k
+right-before table t round {s = s} {s′ = s′} k l h room w r = right-same table t round s s′ k (set-same k (omega arith) (inl (omega arith)) w) r
 
 -- the loop: the sets from i on are right
-pub record Backwards (table : List ℕ) (t : Table) (s : List ℕ) (i : ℕ) (s′ : List ℕ) : Type 0 where
+pub record Backwards (table : List ℕ) (t : Table) (log : List ℕ) (count n : ℕ) (s : List ℕ) (i : ℕ) (s′ : List ℕ) : Type 0 where
   pub few : i ≤ t .pile
-  pub same : SameBut 0 setsEnd s s′
-  pub right : (k : ℕ) → i ≤ k → k ≤ t .pile → SetRight table t s′ k
+  pub size : length s′ ≡ length s
+  pub linked : Linked log count n s′
+  pub right : (k : ℕ) → i ≤ k → k ≤ t .pile → RightForLog table t log count s′ k
 
-pub backwards-start : {table : List ℕ} {t : Table} (s : List ℕ) → SetRight table t s (t .pile) → Backwards table t s (t .pile) s
-backwards-start {table} {t} s r = record {
+pub backwards-start : {table : List ℕ} {t : Table} {log : List ℕ} {count n : ℕ} (s : List ℕ) → Linked log count n s → RightForLog table t log count s (t .pile)
+    → Backwards table t log count n s (t .pile) s
+backwards-start {table} {t} {log} {count} s linked r = record {
   few = omega arith;
-  same = same-none 0 setsEnd s;
-  right = λ k a b. let e : t .pile ≡ k = omega arith in subst (λ (j : ℕ). SetRight table t s j) e r;
+  size = refl;
+  linked = linked;
+  right = λ k a b. let e : t .pile ≡ k = omega arith in subst (λ (j : ℕ). RightForLog table t log count s j) e r;
 }
 
-pub backwards-turn : {table : List ℕ} {t : Table} {s s′ s″ : List ℕ} {i : ℕ} → 0 < i → t .pile ≤ 64 → chainsPlace ≤ length s → Backwards table t s i s′ → OnlySet (i - 1) s′ s″ → SetRight table t s″ (i - 1)
-    → Backwards table t s (i - 1) s″
-backwards-turn {table} {t} {s} {s′} {s″} {i} h small room b w r = record {
+pub backwards-turn : {table : List ℕ} {t : Table} {log : List ℕ} {count n : ℕ} {s s′ s″ : List ℕ} {i : ℕ} → 0 < i → t .pile ≤ 64 → Backwards table t log count n s i s′
+    → OnlySet (i - 1) s′ s″
+    → RightForLog table t log count s″ (i - 1) → Backwards table t log count n s (i - 1) s″
+backwards-turn {table} {t} {log} {count} {s″ = s″} {i = i} h small b w r = record {
   few = omega (arith, b .few);
-  same = same-join (b .same) (same-wider (omega arith) (omega (arith, b .few)) w);
+  size = w .size ∙ b .size;
+  linked = linked-same (omega (arith, b .few)) w (b .linked);
   right = λ k l m. elim (decLt (i - 1) k) [
-    | yes n ↦ right-behind table t (i - 1) k n (omega arith) (omega (arith, b .same .size)) w (b .right k (omega arith) m)
-    | no n ↦ let e : i - 1 ≡ k = omega arith in subst (λ (j : ℕ). SetRight table t s″ j) e r
+    | yes n ↦ λ round lent. right-behind table t round (i - 1) k n (omega arith) (omega (arith, b .linked .room .room)) w (b .right k (omega arith) m round lent)
+    | no n ↦ let e : i - 1 ≡ k = omega arith in subst (λ (j : ℕ). RightForLog table t log count s″ j) e r
   ];
 }

@@ -9,13 +9,9 @@ use lib.Seq.{length-take-le, take-at, drop-at, getD-take, getD-drop, getD-append
 use Rattle.model.specs.Calls.{zeros}
 use Rattle.automaton.specs.StateSets.{setLength, member, inserted}
 use Rattle.automaton.proofs.StateSets.{length-inserted, member-zeros}
-use Rattle.chains.specs.Buckets.{ChainRoom, Chained, SameOutside}
-use Rattle.chains.proofs.Buckets.{chained-scratch}
-use Rattle.table.specs.declared.Table.{Table}
-use Rattle.stack.specs.LimitLog.{LimitLog, scratchFor}
-use Rattle.stack.proofs.Limits.{limit-has}
-use Rattle.model.proofs.Tests.{by-zero}
-use Rattle.start.specs.Regions.{setPlace, setAt, withSet, withState, chainsPlace, Linked, SameBut, OnlySet}
+use Rattle.rings.proofs.Rings.{ringed-scratch}
+use Rattle.scratch.specs.Regions.{ringsAt}
+use Rattle.start.specs.Regions.{setPlace, setAt, withSet, withState, Linked, SameBut, OnlySet}
 use Rattle.start.specs.RestSets.{EmptySet}
 
 -- ---- what stays
@@ -29,29 +25,11 @@ same-join p q = record {
   behind = λ i h. q .behind i h ∙ p .behind i h;
 }
 
-pub same-wider : {low high low′ high′ : ℕ} {s t : List ℕ} → low′ ≤ low → high ≤ high′ → SameBut low high s t → SameBut low′ high′ s t
-same-wider a b p = record { size = p .size; before = λ i h. p .before i (omega arith); behind = λ i h. p .behind i (omega arith) }
-
--- the log of the limit has room for its chains
-pub chain-room : {table : List ℕ} {t : Table} {log : List ℕ} {count n : ℕ} {s : List ℕ} → LimitLog table t log count → count ≤ n → n ≤ 65535 → scratchFor n ≤ length s → ChainRoom log count n chainsPlace s
-chain-room {log = log} {count = count} w few short room = record {
-  fits = few;
-  short = short;
-  records = by-zero count (λ z. omega arith) (λ p. omega (arith, limit-has w (count - 1) (omega arith)));
-  room = omega arith;
-}
-
-pub linked-built : {log : List ℕ} {count n : ℕ} {s t : List ℕ} → ChainRoom log count n chainsPlace s → SameOutside n chainsPlace s t → Chained log count n chainsPlace t → Linked log count n t
-linked-built room same chained = record {
-  room = record { fits = room .fits; short = room .short; records = room .records; room = omega (arith, room .room, same .size) };
-  chained = chained;
-}
-
--- chains behind what has changed stay
-pub linked-same : {log : List ℕ} {count n low high : ℕ} {s t : List ℕ} → high ≤ chainsPlace → SameBut low high s t → Linked log count n s → Linked log count n t
+-- rings behind what has changed stay
+pub linked-same : {log : List ℕ} {count n low high : ℕ} {s t : List ℕ} → high ≤ ringsAt → SameBut low high s t → Linked log count n s → Linked log count n t
 linked-same {log} {count} {n} {low} {high} {s} {t} h p l = record {
   room = record { fits = l .room .fits; short = l .room .short; records = l .room .records; room = omega (arith, l .room .room, p .size) };
-  chained = chained-scratch log count n chainsPlace s t (l .room .fits) (λ i a b. p .behind i (omega arith)) (l .chained);
+  ringed = ringed-scratch log count n ringsAt s t (l .room .fits) (λ i a b. p .behind i (omega arith)) (l .ringed);
 }
 
 -- ---- sets
@@ -64,7 +42,8 @@ unfolding setAt
 byte-set s k i h = getD-take setLength (drop (setPlace k) s) i 0 h ∙ getD-drop (setPlace k) s i 0
 
 -- a set beside what has changed stays
-pub set-same : {low high : ℕ} {s t : List ℕ} (k : ℕ) → setPlace k + setLength ≤ length s → (setPlace k + setLength ≤ low) ⊎ (high ≤ setPlace k) → SameBut low high s t → setAt t k ≡ setAt s k
+pub set-same : {low high : ℕ} {s t : List ℕ} (k : ℕ) → setPlace k + setLength ≤ length s → (setPlace k + setLength ≤ low) ⊎ (high ≤ setPlace k) → SameBut low high s t
+    → setAt t k ≡ setAt s k
 set-same {low} {high} {s} {t} k h d p =
     let ls : length (setAt s k) ≡ setLength = length-set-at s k h in
     let lt : length (setAt t k) ≡ setLength = length-set-at t k (omega (arith, p .size)) in

@@ -53,7 +53,8 @@ module _ (loc : ℕ → Processes) (q : Process → ℕ) (i : Process) where
       (λ m. let same : at g i ≡ at (t .before) i = sym (at-restrict (loc (t .letter)) g i ∙ rw m) ∙ ap (λ (h : Group). at h i) (p .0) in subst (λ (n : ℕ). n < q i) (sym same) (e .0 i m))
       (λ m. let same : at (move loc t g) i ≡ at g i = at-merge (loc (t .letter)) (t .after) g i ∙ rw m in subst (λ (n : ℕ). n < q i) same (along-from ts (move loc t g) f (e .1) (p .1) l))
 
-  pub accepts-from : (ts : List Transition) (acc : List Group) (w : List ℕ) (g : Group) → Each (From loc q) ts → Each (λ (f : Group). at f i < q i) acc → accepts loc ts acc w g ≡ true → at g i < q i
+  pub accepts-from : (ts : List Transition) (acc : List Group) (w : List ℕ) (g : Group) → Each (From loc q) ts → Each (λ (f : Group). at f i < q i) acc
+      → accepts loc ts acc w g ≡ true → at g i < q i
   accepts-from ts acc w g e a y =
       let p = accepts-true loc ts acc w g y in
       along-from (p .path) g (p .end) (each-map (λ (t : Transition). List·Memᴰ t ts) (From loc q) (λ t m. each-get (From loc q) t ts e m) (p .path) (p .goods)) (p .along)

@@ -1,10 +1,11 @@
--- The scratch of the search: 65 sets of states, then the stack of record numbers, then the chains of the log's records.
+-- The scratch of the search: 65 sets of states, then the stack of record numbers, then the rings of the log's records.
 use mathlib.Core.Path.{_≡_}
 use mathlib.Core.List.{List, _++_}
 use Prim.Native.Nat.{ℕ, _+_, _*_, _<_, _≤_}
 use lib.ListN.{length, getD, take, drop}
 use Rattle.automaton.specs.StateSets.{setLength, inserted}
-use Rattle.chains.specs.Buckets.{ChainRoom, Chained}
+use Rattle.rings.specs.Rings.{RingRoom, Ringed}
+use Rattle.scratch.specs.Regions.{ringsAt}
 
 -- where set k begins
 abbrev pub setPlace : ℕ → ℕ
@@ -25,14 +26,10 @@ withSet s k members = take (setPlace k) s ++ (members ++ drop setLength (drop (s
 unfoldable pub withState : List ℕ → ℕ → ℕ → List ℕ
 withState s k x = withSet s k (inserted (setAt s k) x)
 
--- where the chains begin
-abbrev pub chainsPlace : ℕ
-chainsPlace = 34000
-
--- the log's first count records are chained in n buckets
+-- the log's first count records are in their rings, of n buckets
 pub record Linked (log : List ℕ) (count n : ℕ) (s : List ℕ) : Type 0 where
-  pub room : ChainRoom log count n chainsPlace s
-  pub chained : Chained log count n chainsPlace s
+  pub room : RingRoom log count n ringsAt s
+  pub ringed : Ringed log count n ringsAt s
 
 -- of the bytes s only those from low on and below high have changed
 pub record SameBut (low high : ℕ) (s t : List ℕ) : Type 0 where

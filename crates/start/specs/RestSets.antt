@@ -2,22 +2,24 @@
 use mathlib.Core.Path.{_≡_}
 use mathlib.Core.Bool.{Bool, false, _&&_}
 use mathlib.Core.List.{List}
-use Prim.Native.Nat.{ℕ, _<_}
+use Prim.Native.Nat.{ℕ, _<_, _≤_}
 use lib.Dec.{eqb, ltb}
 use lib.ListN.{drop}
 use Rattle.model.specs.declared.Group.{Group}
 use Rattle.model.specs.Groups.{Processes, processesOf, restrict, merge}
 use Rattle.model.specs.Lists.{anyOf}
-use Rattle.model.specs.Log.{keys, limit}
+use Rattle.model.specs.Log.{keys, logAt}
 use Rattle.model.specs.Systems.{accepts}
 use Rattle.automaton.specs.StateNumbers.{stateCount, stateNumber, Over}
 use Rattle.automaton.specs.StateSets.{member, firstFrom}
 use Rattle.model.specs.Records.{afterAt}
-use Rattle.chains.specs.Buckets.{recordReads}
+use Rattle.packs.specs.Packs.{packed}
+use Rattle.rings.specs.Rings.{recordReads}
 use Rattle.table.specs.declared.Table.{Table}
 use Rattle.table.specs.Reading.{systemIn, pileIn, BitsOf}
+use Rattle.stack.specs.RoundLogs.{EachRound}
 use Rattle.start.specs.declared.Letter.{Letter}
-use Rattle.start.specs.Regions.{setAt, OnlySet}
+use Rattle.start.specs.Regions.{setAt, Linked, OnlySet}
 
 -- the first n processes, and those of the table
 abbrev pub firstProcesses : ℕ → Processes
@@ -35,7 +37,7 @@ pub record LetterAt (table : List ℕ) (i : ℕ) (a : Letter) : Type 0 where
 -- record r reads the letter in the state g, and leads into the set
 unfoldable pub leads : List ℕ → List ℕ → Letter → Group → ℕ → Bool
 leads log members a g r =
-    recordReads log (a .number) (restrict (processesOf (a .bits)) g) r && member members (stateNumber (merge (processesOf (a .bits)) (afterAt log r) g))
+    recordReads log (a .number) (packed (restrict (processesOf (a .bits)) g)) r && member members (stateNumber (merge (processesOf (a .bits)) (afterAt log r) g))
 
 -- the lowest record that does, or count
 unfoldable pub firstLead : List ℕ → ℕ → List ℕ → Letter → Group → ℕ
@@ -59,8 +61,22 @@ unfoldable pub isNumberOf : List Group → ℕ → Bool
 isNumberOf groups x = anyOf (λ (g : Group). eqb x (stateNumber g)) groups
 
 -- ---- what a set means
-abbrev pub acceptsFrom : List ℕ → ℕ → Group → Bool
-acceptsFrom table k g = accepts (systemIn table .loc) (keys (limit (systemIn table))) (systemIn table .accepting) (drop k (systemIn table .start .word)) g
+-- the records up to a round accept the start word from letter k on from the state g
+abbrev pub acceptsFrom : List ℕ → ℕ → ℕ → Group → Bool
+acceptsFrom table round k g = accepts (systemIn table .loc) (keys (logAt (systemIn table) round)) (systemIn table .accepting) (drop k (systemIn table .start .word)) g
 
-abbrev pub SetRight : List ℕ → Table → List ℕ → ℕ → Type 0
-SetRight table t s k = (g : Group) → Over (processesOfTable t) g → member (setAt s k) (stateNumber g) ≡ acceptsFrom table k g
+abbrev pub SetRight : List ℕ → Table → ℕ → List ℕ → ℕ → Type 0
+SetRight table t round s k = (g : Group) → Over (processesOfTable t) g → member (setAt s k) (stateNumber g) ≡ acceptsFrom table round k g
+
+-- set k is right for every round whose log this is
+abbrev pub RightForLog : List ℕ → Table → List ℕ → ℕ → List ℕ → ℕ → Type 0
+RightForLog table t log count s k = EachRound table t log count (λ (round : ℕ). SetRight table t round s k)
+
+-- the log's first count records are in their rings, and every set is right
+pub record SetsReady (table : List ℕ) (t : Table) (log : List ℕ) (count n : ℕ) (s : List ℕ) : Type 0 where
+  pub linked : Linked log count n s
+  pub right : (k : ℕ) → k ≤ t .pile → RightForLog table t log count s k
+
+-- the start's state is in the first set
+abbrev pub startIn : List ℕ → List ℕ → Bool
+startIn table s = member (setAt s 0) (stateNumber (systemIn table .start .states))

@@ -1,5 +1,4 @@
 // The groups of a letter's processes in turn, and what the records with such a group before add to a set.
-use crate::CHAINS;
 use crate::Frame;
 use crate::Letter;
 use crate::SET_LENGTH;
@@ -7,12 +6,13 @@ use crate::STATES;
 use automaton::groups::merged;
 use automaton::states;
 use automaton::states::numbered;
-use chains::first_match;
-use chains::next_match;
 use model::Group;
-use numbers::four_at;
+use packs::after_at;
 use packs::mask_of;
-use records::RECORD_LENGTH;
+use packs::pack;
+use rings::first_match;
+use rings::next_match;
+use scratch::RINGS;
 use table::Table;
 use table::local_states;
 use wordsets::add_record;
@@ -78,7 +78,7 @@ fn own_after(log: &[u8], r: usize, mask: u32) -> usize
     requires { ⌜ HasRecord (now log) r ⌝ }
     ensures { λ y. ⌜ OwnAfter (now (log .entry)) r mask y ⌝ }
 {
-    packs::number(packs::merged(mask, four_at(log, r * RECORD_LENGTH + 5), 0))
+    packs::number(packs::merged(mask, after_at(log, r), 0))
 }
 
 // Puts the states whose own number is x, and from which a record of the letter leads into set k + 1, into set k. Once all of them are in, the other
@@ -96,8 +96,8 @@ fn add_group(
     requires { ⌜ Linked (now log) count n (now scratch) × (k < 64) × Framed (processesOf (a .bits)) f × (x < stateCount) × Under (f .own) x ⌝ }
     ensures { λ _. ⌜ Added (now (log .entry)) count (setAt (now (scratch .entry)) (k + 1)) a f (λ (z : ℕ). z ≡ x) k (now (scratch .entry)) (now (scratch .exit)) ⌝ }
 {
-    let before = numbered(a.bits, x);
-    let mut r = first_match(log, scratch, CHAINS, n, count, a.number, before);
+    let before = pack(numbered(a.bits, x));
+    let mut r = first_match(log, scratch, RINGS, n, count, a.number, before);
     while r < count {
         let y = own_after(log, r, f.mask);
         let common = add_record(
@@ -113,7 +113,7 @@ fn add_group(
         if common == f.rest {
             return;
         }
-        r = next_match(log, scratch, CHAINS, n, count, r, a.number, before);
+        r = next_match(log, scratch, RINGS, n, count, r, a.number, before);
     }
 }
 

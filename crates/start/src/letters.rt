@@ -1,16 +1,17 @@
 // The letters of the start word, and the records that read one.
-use crate::CHAINS;
 use crate::Letter;
 use crate::SET_LENGTH;
 use automaton::groups::merged;
 use automaton::groups::restricted;
 use automaton::sets::contains;
 use automaton::states::number;
-use chains::first_match;
-use chains::next_match;
 use model::Group;
 use numbers::wide;
+use packs::pack;
 use records::after_at;
+use rings::first_match;
+use rings::next_match;
+use scratch::RINGS;
 use table::Table;
 use table::letter_bits;
 use table::pile_letter;
@@ -60,13 +61,13 @@ pub fn first_lead(
     requires { ⌜ Linked (now log) count n (now scratch) × (k ≤ 64) ⌝ }
     ensures { λ r. ⌜ r ≡ firstLead (now (log .entry)) count (setAt (now (scratch .entry)) k) a g ⌝ }
 {
-    let before = restricted(a.bits, g);
-    let mut r = first_match(log, scratch, CHAINS, n, count, a.number, before);
+    let before = pack(restricted(a.bits, g));
+    let mut r = first_match(log, scratch, RINGS, n, count, a.number, before);
     while r < count {
         if enters(log, scratch, k, a.bits, g, r) {
             return r;
         }
-        r = next_match(log, scratch, CHAINS, n, count, r, a.number, before);
+        r = next_match(log, scratch, RINGS, n, count, r, a.number, before);
     }
     count
 }

@@ -3,6 +3,7 @@ use crate::Trace;
 use crate::letters::first_lead;
 use crate::letters::letter_at;
 use automaton::groups::merged;
+use records::STEPS_CAP;
 use records::after_at;
 use records::steps_at;
 use stack::put_number;
@@ -12,13 +13,9 @@ ghost use mathlib.Core.Path.{_≡_};
 ghost use mathlib.Core.Bool.{true};
 ghost use Prim.Native.Nat.{ℕ, _+_, _^_, _<_, _≤_, min};
 ghost use Rattle.model.specs.Log.{stepsCap};
-ghost use Rattle.table.specs.Reading.{systemIn};
-ghost use Rattle.stack.specs.LimitLog.{LimitLog};
-ghost use Rattle.start.specs.Regions.{Linked};
-ghost use Rattle.start.specs.RestSets.{acceptsFrom, SetRight};
-ghost use Rattle.start.specs.Search.{OnPath, Advanced, PathWritten};
-
-const STEPS_CAP: u32 = 1000001;
+ghost use Rattle.stack.specs.RoundLogs.{SomeRound, EachRound};
+ghost use Rattle.start.specs.RestSets.{SetsReady, startIn};
+ghost use Rattle.start.specs.Search.{Underway, Advanced, PathWritten};
 
 fn add_steps(a: u32, b: u32) -> u32
     requires { ⌜ (a ≤ stepsCap) × (b < 2 ^ 24) ⌝ }
@@ -39,8 +36,8 @@ fn advance(
     i: usize,
     c: Trace,
 ) -> Trace
-    requires { ⌜ LimitLog (now table) t (now log) count × Linked (now log) count n (now scratch) × (i < t .pile) × SetRight (now table) t (now scratch) (i + 1) × OnPath (now table) t i c ⌝ }
-    ensures { λ d. ⌜ Advanced (now (table .entry)) t i c (now (scratch .entry)) (now (scratch .exit)) d ⌝ }
+    requires { ⌜ Underway (now table) t (now log) count n (now scratch) i c ⌝ }
+    ensures { λ d. ⌜ Advanced (now (table .entry)) t (now (log .entry)) count i c (now (scratch .entry)) (now (scratch .exit)) d ⌝ }
 {
     let a = letter_at(table, t, i);
     let g = c.state;
@@ -62,8 +59,8 @@ pub fn write_path(
     n: usize,
     count: usize,
 ) -> u32
-    requires { ⌜ LimitLog (now table) t (now log) count × Linked (now log) count n (now scratch) × ((k : ℕ) → k ≤ t .pile → SetRight (now table) t (now scratch) k) × (acceptsFrom (now table) 0 (systemIn (now table) .start .states) ≡ true) ⌝ }
-    ensures { λ r. ⌜ PathWritten (now (table .entry)) t (now (scratch .entry)) (now (scratch .exit)) r ⌝ }
+    requires { ⌜ SomeRound (now table) t (now log) count × SetsReady (now table) t (now log) count n (now scratch) × (startIn (now table) (now scratch) ≡ true) ⌝ }
+    ensures { λ r. ⌜ EachRound (now (table .entry)) t (now (log .entry)) count (λ (round : ℕ). PathWritten (now (table .entry)) t round (now (scratch .exit)) r) ⌝ }
 {
     let state = start_group(table, t);
     let mut c = Trace { state, steps: 0 };

@@ -14,12 +14,13 @@ ghost use Prim.Native.Nat.{ℕ, _+_, _*_, _<_, _≤_};
 ghost use lib.ListN.{length};
 ghost use Rattle.automaton.specs.StateNumbers.{stateCount, stateNumber};
 ghost use Rattle.table.specs.Reading.{Holds, acceptingIn, systemIn};
-ghost use Rattle.stack.specs.LimitLog.{LimitLog};
-ghost use Rattle.start.specs.Regions.{setsEnd, withState, chainsPlace, Linked, SameBut, OnlySet};
-ghost use Rattle.start.specs.RestSets.{EmptySet, Filled, isNumberOf, SetRight};
+ghost use Rattle.stack.specs.RoundLogs.{SomeRound};
+ghost use Rattle.scratch.specs.Regions.{ringsAt};
+ghost use Rattle.start.specs.Regions.{withState, Linked, OnlySet};
+ghost use Rattle.start.specs.RestSets.{EmptySet, Filled, isNumberOf, SetRight, RightForLog, SetsReady};
 
 fn clear_set(scratch: &mut [u8], k: usize)
-    requires { ⌜ (k ≤ 64) × (chainsPlace ≤ length (now scratch)) ⌝ }
+    requires { ⌜ (k ≤ 64) × (ringsAt ≤ length (now scratch)) ⌝ }
     ensures { λ _. ⌜ OnlySet k (now (scratch .entry)) (now (scratch .exit)) × EmptySet (now (scratch .exit)) k ⌝ }
 {
     let at = SET_LENGTH * k;
@@ -27,7 +28,7 @@ fn clear_set(scratch: &mut [u8], k: usize)
 }
 
 fn insert_state(scratch: &mut [u8], k: usize, x: usize)
-    requires { ⌜ (k ≤ 64) × (x < stateCount) × (chainsPlace ≤ length (now scratch)) ⌝ }
+    requires { ⌜ (k ≤ 64) × (x < stateCount) × (ringsAt ≤ length (now scratch)) ⌝ }
     ensures { λ _. ⌜ now (scratch .exit) ≡ withState (now (scratch .entry)) k x ⌝ }
 {
     let at = SET_LENGTH * k;
@@ -44,8 +45,8 @@ fn fill_set(
     count: usize,
     i: usize,
 )
-    requires { ⌜ LimitLog (now table) t (now log) count × Linked (now log) count n (now scratch) × (i < t .pile) × SetRight (now table) t (now scratch) (i + 1) ⌝ }
-    ensures { λ _. ⌜ OnlySet i (now (scratch .entry)) (now (scratch .exit)) × SetRight (now (table .entry)) t (now (scratch .exit)) i ⌝ }
+    requires { ⌜ SomeRound (now table) t (now log) count × Linked (now log) count n (now scratch) × (i < t .pile) × RightForLog (now table) t (now log) count (now scratch) (i + 1) ⌝ }
+    ensures { λ _. ⌜ OnlySet i (now (scratch .entry)) (now (scratch .exit)) × RightForLog (now (table .entry)) t (now (log .entry)) count (now (scratch .exit)) i ⌝ }
 {
     let a = letter_at(table, t, i);
     clear_set(scratch, i);
@@ -54,11 +55,12 @@ fn fill_set(
     add_groups(log, scratch, n, count, i, a, f);
 }
 
-// The sets before the last one, from the back.
+// All sets, from the back.
 pub fn fill_sets(table: &[u8], t: Table, log: &[u8], scratch: &mut [u8], n: usize, count: usize)
-    requires { ⌜ LimitLog (now table) t (now log) count × Linked (now log) count n (now scratch) × SetRight (now table) t (now scratch) (t .pile) ⌝ }
-    ensures { λ _. ⌜ SameBut 0 setsEnd (now (scratch .entry)) (now (scratch .exit)) × ((k : ℕ) → k ≤ t .pile → SetRight (now (table .entry)) t (now (scratch .exit)) k) ⌝ }
+    requires { ⌜ SomeRound (now table) t (now log) count × Linked (now log) count n (now scratch) ⌝ }
+    ensures { λ _. ⌜ SetsReady (now (table .entry)) t (now (log .entry)) count n (now (scratch .exit)) ⌝ }
 {
+    fill_accepting(table, t, scratch);
     let mut i = t.pile;
     while 0 < i {
         i -= 1;
@@ -68,7 +70,7 @@ pub fn fill_sets(table: &[u8], t: Table, log: &[u8], scratch: &mut [u8], n: usiz
 
 // Puts accepting group j into the last set.
 fn add_accepting(table: &[u8], t: Table, scratch: &mut [u8], j: usize)
-    requires { ⌜ Holds (now table) t × (j < t .accepting) × (chainsPlace ≤ length (now scratch)) ⌝ }
+    requires { ⌜ Holds (now table) t × (j < t .accepting) × (ringsAt ≤ length (now scratch)) ⌝ }
     ensures { λ _. ⌜ now (scratch .exit) ≡ withState (now (scratch .entry)) (t .pile) (stateNumber (acceptingIn (now (table .entry)) j)) ⌝ }
 {
     let g = accepting_group(table, t, j);
@@ -76,7 +78,7 @@ fn add_accepting(table: &[u8], t: Table, scratch: &mut [u8], j: usize)
 }
 
 fn add_all_accepting(table: &[u8], t: Table, scratch: &mut [u8])
-    requires { ⌜ Holds (now table) t × (chainsPlace ≤ length (now scratch)) × EmptySet (now scratch) (t .pile) ⌝ }
+    requires { ⌜ Holds (now table) t × (ringsAt ≤ length (now scratch)) × EmptySet (now scratch) (t .pile) ⌝ }
     ensures { λ _. ⌜ Filled (isNumberOf (systemIn (now (table .entry)) .accepting)) (t .pile) (now (scratch .entry)) (now (scratch .exit)) ⌝ }
 {
     let mut j = t.accepting;
@@ -87,9 +89,9 @@ fn add_all_accepting(table: &[u8], t: Table, scratch: &mut [u8])
 }
 
 // The last set: the accepting groups.
-pub fn fill_accepting(table: &[u8], t: Table, scratch: &mut [u8])
-    requires { ⌜ Holds (now table) t × (chainsPlace ≤ length (now scratch)) ⌝ }
-    ensures { λ _. ⌜ OnlySet (t .pile) (now (scratch .entry)) (now (scratch .exit)) × SetRight (now (table .entry)) t (now (scratch .exit)) (t .pile) ⌝ }
+fn fill_accepting(table: &[u8], t: Table, scratch: &mut [u8])
+    requires { ⌜ Holds (now table) t × (ringsAt ≤ length (now scratch)) ⌝ }
+    ensures { λ _. ⌜ OnlySet (t .pile) (now (scratch .entry)) (now (scratch .exit)) × ((round : ℕ) → SetRight (now (table .entry)) t round (now (scratch .exit)) (t .pile)) ⌝ }
 {
     clear_set(scratch, t.pile);
     add_all_accepting(table, t, scratch);

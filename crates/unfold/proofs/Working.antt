@@ -22,9 +22,9 @@ use Rattle.table.specs.declared.Table.{Table}
 use Rattle.table.specs.Reading.{systemIn, ruleIn}
 use Rattle.table.proofs.Layouts.{table-modest, rules-count, pile-count, written-few}
 use Rattle.stack.specs.StackNumbers.{stackBase, numbersDown, stackOf}
-use Rattle.stack.specs.LimitLog.{LimitLog, scratchFor}
+use Rattle.stack.specs.RoundLogs.{LimitLog, scratchFor}
 use Rattle.stack.proofs.Numbers.{length-down, stack-top}
-use Rattle.stack.proofs.Limits.{holds-well-formed, holds-control, limit-fits, limit-reads, limit-has, limit-earlier}
+use Rattle.stack.proofs.RoundLogs.{holds-well-formed, holds-control, round-fits, round-reads, round-has, limit-earlier}
 use Rattle.unfold.specs.declared.Work.{Work}
 use Rattle.unfold.specs.Runs.{Unfoldable, Unfolded}
 use Rattle.unfold.specs.Turns.{places, StackRoom, topRecord, Replaceable, Workable, Worked}
@@ -69,10 +69,10 @@ module _ {table : List ℕ} {t : Table} {log : List ℕ} {count : ℕ} (lent : L
     inside = omega (arith, opened .inside .0, lent .size)
 
     reads : Reads log (topRecord s w) (recordAt (limit (systemIn table)) (topRecord s w))
-    reads = limit-reads lent x inside
+    reads = round-reads lent x inside
 
     fits : Fits (recordAt (limit (systemIn table)) (topRecord s w))
-    fits = limit-fits lent x inside
+    fits = round-fits lent x inside
 
     later : (roundAt log (topRecord s w) ≡ 0 → ⊥) → 0 < recordAt (limit (systemIn table)) (topRecord s w) .round
     later n = let m : recordAt records x .round ≡ 0 → ⊥ = λ z. n (reads .round ∙ z) in omega arith
@@ -107,7 +107,7 @@ module _ {table : List ℕ} {t : Table} {log : List ℕ} {count : ℕ} (lent : L
       holds = lent .holds;
       some = some;
       room = high (w .top) (stackOf s (w .top)) (length-down s stackBase (w .top)) (v .going .low);
-      has = limit-has lent x inside;
+      has = round-has lent x inside;
       replaceable = replaceable;
     }
 

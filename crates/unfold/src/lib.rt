@@ -2,6 +2,7 @@
 // its rule is written to the page, and its path takes its place.
 use model::WRITTEN_PLACES;
 use numbers::wide_two;
+use records::NO_NUMBER;
 use records::place_at;
 use records::round_at;
 use records::rule_at;
@@ -16,11 +17,9 @@ ghost use lib.ListN.{length};
 ghost use Rattle.records.specs.Entries.{HasRecord};
 ghost use Rattle.table.specs.Reading.{Holds, systemIn};
 ghost use Rattle.stack.specs.StackNumbers.{stackOf};
-ghost use Rattle.stack.specs.LimitLog.{LimitLog, scratchFor};
+ghost use Rattle.stack.specs.RoundLogs.{LimitLog, scratchFor};
 ghost use Rattle.unfold.specs.Runs.{Unfoldable, Unfolded};
 ghost use Rattle.unfold.specs.Turns.{placed, places, StackRoom, Pushed, Replaceable, Replaced, Workable, Worked};
-
-const NO_NUMBER: u16 = 65535;
 
 // The height of the stack; of the run so far its rules, the length of the word after it, and the greatest length.
 pub struct Work {

@@ -19,6 +19,7 @@ use Rattle.model.specs.Unfolding.{emitted, pathSteps}
 use Rattle.model.proofs.Reachability.{answer-steps}
 use Rattle.table.specs.declared.Table.{Table}
 use Rattle.table.specs.Reading.{systemIn}
+use Rattle.stack.specs.RoundLogs.{EachRound}
 use Rattle.stack.specs.StackNumbers.{stackOf}
 use Rattle.start.specs.declared.StartPath.{StartPath}
 use Rattle.start.specs.declared.StartPath.the-variants.{NoPath, Found}
@@ -33,10 +34,11 @@ unfolding stated
 stated-found log none = refl
 stated-found log (some p) = refl
 
-pub verdict-stated : {table : List ℕ} {t : Table} {log : List ℕ} {n count most : ℕ} {s : List ℕ} → Settled table t log n count most s → (answer : StartPath) (s′ : List ℕ) → Sought table t answer s′
+pub verdict-stated : {table : List ℕ} {t : Table} {log : List ℕ} {n count most : ℕ} {s : List ℕ} → Settled table t log n count most s → (answer : StartPath) (s′ : List ℕ)
+    → EachRound table t log count (λ (round : ℕ). Sought table t round answer s′)
     → stated answer count most ≡ verdict (limit (systemIn table)) (startPath (systemIn table))
 verdict-stated {table = table} w answer s′ f =
-    rw (f .given, sym (w .log-of .size), w .highest) (stated-found (limit (systemIn table)) (startPath (systemIn table)))
+    rw (f _ (w .log-of) .given, sym (w .log-of .size), w .highest) (stated-found (limit (systemIn table)) (startPath (systemIn table)))
 
 -- ---- whether a run is long
 pub long-page : (steps room : ℕ) → room < steps → isLong steps room ≡ true
@@ -101,8 +103,10 @@ module _ {table : List ℕ} {t : Table} {log : List ℕ} {count most steps : ℕ
     unfolding startRun
     run-is = ap (valueOr [] (λ (p : Path). emitted (limit (systemIn table)) (p .numbers))) (w .is)
 
-    pub run-written : (page₁ page₂ s₁ s₂ : List ℕ) (transitions used highest : ℕ) → Unfolded (systemIn table) (stackOf s (t .pile)) page page₁ highest → used ≡ steps → transitions ≡ count
-        → page₂ ≡ take used page₁ ++ replicate (length page₁ - used) 0 → length s₁ ≡ length s → s₂ ≡ zeros s₁ → RunLeft table s page (Ran.Reached transitions most steps highest) s₂ page₂
+    pub run-written : (page₁ page₂ s₁ s₂ : List ℕ) (transitions used highest : ℕ) → Unfolded (systemIn table) (stackOf s (t .pile)) page page₁ highest → used ≡ steps
+        → transitions ≡ count
+        → page₂ ≡ take used page₁ ++ replicate (length page₁ - used) 0 → length s₁ ≡ length s → s₂ ≡ zeros s₁
+        → RunLeft table s page (Ran.Reached transitions most steps highest) s₂ page₂
     unfolding pageAfter
     run-written page₁ page₂ s₁ s₂ transitions used highest u us tr f e z =
         let run : List ℕ = emitted (limit (systemIn table)) (w .path .numbers) in
@@ -131,7 +135,11 @@ path-found : (log : List Record) (o : Option Path) (steps : ℕ) → Found steps
 path-found log none steps e = let z : _≡_ {A = ℕ} 0 1 = cc in absurd (omega arith)
 path-found log (some p) steps e = record { path = p; is = refl; figure = cc }
 
-module _ {table : List ℕ} {t : Table} {log : List ℕ} {n count most : ℕ} {s : List ℕ} (w : Settled table t log n count most s) (answer : StartPath) (s₁ : List ℕ) (f : Sought table t answer s₁) (size : length s₁ ≡ length s) where
+module _ {table : List ℕ} {t : Table} {log : List ℕ} {n count most : ℕ} {s : List ℕ} (w : Settled table t log n count most s) (answer : StartPath) (s₁ : List ℕ)
+    (found : EachRound table t log count (λ (round : ℕ). Sought table t round answer s₁)) (size : length s₁ ≡ length s) where
+  f : Sought table t (saturatedAt (systemIn table)) answer s₁
+  f = found (saturatedAt (systemIn table)) (w .log-of)
+
   pub run-none : (page s₂ : List ℕ) → answer ≡ NoPath → s₂ ≡ zeros s₁ → RunLeft table s page (Ran.Refused 16 0) s₂ page
   unfolding pageAfter
   run-none page s₂ e z =
@@ -147,7 +155,7 @@ module _ {table : List ℕ} {t : Table} {log : List ℕ} {n count most : ℕ} {s
       let p = path-found (limit (systemIn table)) (startPath (systemIn table)) steps (sym e ∙ f .given) in
       record {
         log-of = w .log-of;
-        room = omega (arith, w .room, w .fits, size);
+        room = omega (arith, w .linked .room .room, w .linked .room .fits, size);
         highest = w .highest;
         path = p .path;
         is = p .is;

@@ -12,22 +12,22 @@ use Rattle.model.specs.Log.{Path, limit, rounds}
 use Rattle.model.specs.Unfolding.{emitted, pathSteps}
 use Rattle.table.specs.declared.Table.{Table}
 use Rattle.table.specs.Reading.{systemIn}
-use Rattle.stack.specs.LimitLog.{LimitLog, scratchFor}
+use Rattle.stack.specs.RoundLogs.{LimitLog, scratchFor}
 use Rattle.stack.specs.StackNumbers.{stackOf}
 use Rattle.start.specs.declared.StartPath.{StartPath}
 use Rattle.start.specs.declared.StartPath.the-variants.{NoPath, Found}
+use Rattle.start.specs.Regions.{Linked}
 
 -- document 01: "gives the verdict, transitions, rounds, steps", "Unreachable has no steps"
 unfoldable pub stated : StartPath → ℕ → ℕ → Answered
 stated NoPath transitions rounds = Answered.Unreachable transitions rounds
 stated (Found steps) transitions rounds = Answered.Reachable transitions rounds steps
 
--- document 01: "Rounds end when one adds nothing", "Rounds is the highest round held"; the log begins with the limit's records, `count` of the n that it has room for
+-- document 01: "Rounds end when one adds nothing", "Rounds is the highest round held"; the log begins with the limit's records, `count` of the n that it has room
+-- for, and they are in their rings
 pub record Settled (table : List ℕ) (t : Table) (log : List ℕ) (n count most : ℕ) (scratch : List ℕ) : Type 0 where
   pub log-of : LimitLog table t log count
-  pub fits : count ≤ n
-  pub short : n ≤ 65535
-  pub room : scratchFor n ≤ length scratch
+  pub linked : Linked log count n scratch
   pub highest : most ≡ rounds (limit (systemIn table))
 
 -- document 01: "The start's path: likewise the first accepting one in the limit"; its record numbers are the stack, the first letter's on top, and these are its steps

@@ -10,14 +10,18 @@ answer-table-requires c κs = record { reading = sym (c .before .before .before 
 
 returns : tie.Need-returns
 returns c =
-    let a = c .before .before .before .before .before .before .before .args in
-    let o = answers-refused (a .table .now) (a .log .now) (a .scratch .now) _ _ (sym (c .before .before .before .read .ensures) ∙ c .before .number .given .1) in
+    let at-read = c .before .before .before in
+    let entry = at-read .before .before .before .before in
+    let a = entry .args in
+    let o = answers-refused (a .table .now) (a .log .now) (a .scratch .now) _ _ (sym (at-read .read .ensures) ∙ c .before .number .given .1) in
     (o, (answer-holds (a .table .now) (a .log .now) (a .scratch .now) _ _ _ o, answer-demand (a .table .now) (a .log .now) (a .scratch .now) _ _ _ o))
 
 returns-2 : tie.Need-returns-2
 returns-2 c =
-    let a = c .before .before .before .before .before .before .before .before .before .before .before .before .before .before .args in
-    let o = c .before .before .before .before .answer-table .ensures in
+    let at-answer-table = c .before .before .before .before in
+    let entry = at-answer-table .before .before .before .before .before .before .before .before .before .before in
+    let a = entry .args in
+    let o = at-answer-table .answer-table .ensures in
     (o, (answer-holds (a .table .now) (a .log .now) (a .scratch .now) _ _ _ o, answer-demand (a .table .now) (a .log .now) (a .scratch .now) _ _ _ o))
 
 pub answer-spec : {M : Type 1} → statement M

@@ -1,3 +1,4 @@
+-- How many whole records a log can hold.
 use borrow.Author.Needs.{needs}
 use Rattle.reach.proofs.records_in.Statement.{statement}
 use Rattle.reach.proofs.records_in.Tie as tie

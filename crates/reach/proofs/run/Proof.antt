@@ -6,18 +6,25 @@ use Rattle.reach.proofs.run.Statement.{statement}
 use Rattle.reach.proofs.run.Tie as tie
 
 run-table-requires : tie.Need-run-table-requires
-run-table-requires c κs = record { reading = sym (c .before .before .before .before .before .before .read .ensures) ∙ c .before .before .before .before .t .given .1 }
+run-table-requires c κs =
+    let at-t = c .before .before .before .before in
+    let at-read = at-t .before .before in
+    record { reading = sym (at-read .read .ensures) ∙ at-t .t .given .1 }
 
 returns : tie.Need-returns
 returns c =
-    let a = c .before .before .before .before .before .before .before .before .args in
-    let o = runs-refused (a .table .now) (a .log .now) (a .scratch .now) _ _ (sym (c .before .before .before .read .ensures) ∙ c .before .number .given .1) (a .page .now) in
+    let at-read = c .before .before .before in
+    let entry = at-read .before .before .before .before .before in
+    let a = entry .args in
+    let o = runs-refused (a .table .now) (a .log .now) (a .scratch .now) _ _ (sym (at-read .read .ensures) ∙ c .before .number .given .1) (a .page .now) in
     (o, (run-holds (a .table .now) (a .log .now) (a .scratch .now) (a .page .now) _ _ _ _ o, run-demand (a .table .now) (a .log .now) (a .scratch .now) (a .page .now) _ _ _ _ o))
 
 returns-2 : tie.Need-returns-2
 returns-2 c =
-    let a = c .before .before .before .before .before .before .before .before .before .before .before .before .before .before .before .before .before .before .args in
-    let o = c .before .before .before .before .before .before .run-table .ensures in
+    let at-run-table = c .before .before .before .before .before .before in
+    let entry = at-run-table .before .before .before .before .before .before .before .before .before .before .before .before in
+    let a = entry .args in
+    let o = at-run-table .run-table .ensures in
     (o, (run-holds (a .table .now) (a .log .now) (a .scratch .now) (a .page .now) _ _ _ _ o, run-demand (a .table .now) (a .log .now) (a .scratch .now) (a .page .now) _ _ _ _ o))
 
 pub run-spec : {M : Type 1} → statement M

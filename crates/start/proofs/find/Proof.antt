@@ -1,3 +1,4 @@
+-- The sets tell whether there is a path; it is written where there is one.
 use mathlib.Core.Path.{sym, _∙_}
 use native.Mathlib.Omega.{arith}
 use borrow.Author.Needs.{needs}
@@ -7,22 +8,22 @@ use Rattle.start.proofs.find.Tie as tie
 
 is-accepted-requires : tie.Need-is-accepted-requires
 is-accepted-requires c κs =
-    let p = c .before .before .before .before .before .before .before .before .pre in
-    let e = c .before .before .before .prepare .ensures in
-    (p .0 .holds, omega (arith, e .0 .room .room), e .1 0 (omega arith))
+    let at-fill-sets = c .before .before .before in
+    let entry = at-fill-sets .before .before .before .before .before in
+    (entry .pre .0 .1 .holds, omega (arith, at-fill-sets .fill-sets .ensures .linked .room .room))
 
 write-path-requires : tie.Need-write-path-requires
 write-path-requires c κs =
-    let e = c .before .before .before .before .before .before .prepare .ensures in
-    (c .before .before .before .before .before .before .before .before .before .before .before .pre .0, e .0, e .1, sym (c .before .before .is-accepted .ensures) ∙ c .before .if1 .taken)
+    let at-is-accepted = c .before .before in
+    let at-fill-sets = at-is-accepted .before .before .before .before in
+    let entry = at-fill-sets .before .before .before .before .before in
+    (entry .pre .0, at-fill-sets .fill-sets .ensures, sym (at-is-accepted .is-accepted .ensures) ∙ c .before .if1 .taken)
 
 returns : tie.Need-returns
-returns c = sought-path (c .before .before .write-path .ensures)
+returns c = λ round lent. sought-path (c .before .before .write-path .ensures round lent)
 
 returns-2 : tie.Need-returns-2
-returns-2 c =
-    let a = c .before .before .before .before .before .before .before .before .before .before .args in
-    sought-none (a .table .now) (a .t) (c .before .before .before .before .before .prepare .last .1 .1 .1 .0) (sym (c .before .is-accepted .ensures) ∙ c .if1 .left)
+returns-2 c = sought-none _ (c .before .before .before .before .before .fill-sets .ensures .right 0 (omega arith)) (sym (c .before .is-accepted .ensures) ∙ c .if1 .left)
 
 pub find-spec : {M : Type 1} → statement M
 find-spec =

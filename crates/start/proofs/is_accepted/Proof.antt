@@ -1,22 +1,21 @@
+-- Whether the start's state is in the first set.
 use mathlib.Core.Path.{ap, ap₂, _∙_}
 use mathlib.Core.List.{List}
 use Prim.Native.Nat.{ℕ}
 use borrow.Author.Needs.{needs}
 use Rattle.automaton.specs.StateNumbers.{stateNumber}
 use Rattle.automaton.specs.StateSets.{member}
-use Rattle.table.specs.Reading.{systemIn}
 use Rattle.start.proofs.ScratchRegions.{set-part}
-use Rattle.start.proofs.Grounds.{grounds}
 use Rattle.start.proofs.is_accepted.Statement.{statement}
 use Rattle.start.proofs.is_accepted.Tie as tie
 
 returns : tie.Need-returns
 returns c =
-    let a = c .before .before .before .before .before .before .args in
-    let p = c .before .before .before .before .before .before .pre in
+    let at-start-group = c .before .before .before in
+    let entry = at-start-group .before .before .before in
+    let a = entry .args in
     c .contains .ensures
-    ∙ ap₂ (λ (l : List ℕ) (x : ℕ). member l x) (set-part (a .scratch .now) 0) (c .before .number .ensures .0 ∙ ap stateNumber (c .before .before .before .start-group .ensures))
-    ∙ p .2 (systemIn (a .table .now) .start .states) (grounds (a .table .now) (a .t) (p .0) .start)
+    ∙ ap₂ (λ (l : List ℕ) (x : ℕ). member l x) (set-part (a .scratch .now) 0) (c .before .number .ensures .0 ∙ ap stateNumber (at-start-group .start-group .ensures))
 
 pub is-accepted-spec : {M : Type 1} → statement M
 is-accepted-spec =

@@ -1,3 +1,4 @@
+-- Zeros behind the records of the log.
 use Prim.Native.Nat.{_*_}
 use Rattle.model.specs.Records.{recordLength}
 use Rattle.verdict.proofs.Clearing.{zeros-behind}

@@ -1,3 +1,4 @@
+-- The numbers of a page are cleared in turn.
 use mathlib.Core.Path.{_≡_, refl, _∙_}
 use mathlib.Core.List.{_++_}
 use Prim.Native.Nat.{_≤_, _-_}

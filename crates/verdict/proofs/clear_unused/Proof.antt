@@ -1,3 +1,4 @@
+-- Zeros behind the run on the page.
 use Rattle.verdict.proofs.Clearing.{zeros-behind}
 use borrow.Author.Needs.{needs}
 use Rattle.verdict.proofs.clear_unused.Statement.{statement}

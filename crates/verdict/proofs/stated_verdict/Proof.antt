@@ -1,3 +1,4 @@
+-- The verdict by what the search gave.
 use Rattle.verdict.specs.Verdicts.{stated}
 use mathlib.Core.Path.{ap, sym}
 use Rattle.start.specs.declared.StartPath.{StartPath}

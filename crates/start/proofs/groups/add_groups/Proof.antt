@@ -30,19 +30,22 @@ add-group-requires c κs =
 
 next-under-requires : tie.Need-next-under-requires Inv-loop μ-loop
 next-under-requires c κs =
-    let less = c .before .before .before .before .loop-test .taken in
-    (less, c .before .before .before .before .before .loop .inv .under less)
+    let at-loop-test = c .before .before .before .before in
+    let at-loop = at-loop-test .before in
+    let less = at-loop-test .loop-test .taken in
+    (less, at-loop .loop .inv .under less)
 
 loop-less : tie.Need-loop-less Inv-loop μ-loop
 loop-less c = omega (arith, c .next-under .ensures .later, c .before .before .before .before .before .loop-test .taken)
 
 loop-again : tie.Need-loop-again Inv-loop μ-loop
 loop-again c =
-    let added = c .before .before .before .add-group in
-    let at-loop = c .before .before .before .before .before .before in
-    let at-start = at-loop .before .before .before in
-    let a = at-start .args in
-    let p = at-start .pre in
+    let at-add-group = c .before .before .before in
+    let at-loop = at-add-group .before .before .before in
+    let entry = at-loop .before .before .before in
+    let added = at-add-group .add-group in
+    let a = entry .args in
+    let p = entry .pre in
     let x = at-loop .loop .x in
     going-turn (a .log .now) (a .count) (setAt (a .scratch .now) (a .k + 1)) (a .a) (a .f) (a .k) x (c .next-under .result) (a .scratch .now) (at-loop .loop .scratch) (added .last .1 .0) (c .next-under .ensures) (at-loop .loop .inv)
     (subst (λ (members : List ℕ). Added (a .log .now) (a .count) members (a .a) (a .f) (λ (z : ℕ). z ≡ x) (a .k) (at-loop .loop .scratch) (added .last .1 .0))

@@ -11,11 +11,16 @@ use Rattle.start.proofs.groups.frame_of.Tie as tie
 returns : tie.Need-returns
 unfolding ownNumber
 returns c =
-    let a = c .before .before .before .before .before .before .args in
+    let at-extent = c .before .before in
+    let at-number = at-extent .before in
+    let at-merged = at-number .before in
+    let at-mask-of = at-merged .before in
+    let entry = at-mask-of .before in
+    let a = entry .args in
     frame-made (processesOf (a .bits)) (a .last) _ (record {
-      mask = c .before .before .before .before .before .mask-of .ensures;
-      own = c .before .before .before .number .ensures .0 ∙ ap stateNumber (c .before .before .before .before .merged .ensures);
-      rows = c .before .before .extent .ensures;
+      mask = at-mask-of .mask-of .ensures;
+      own = at-number .number .ensures .0 ∙ ap stateNumber (at-merged .merged .ensures);
+      rows = at-extent .extent .ensures;
       words = c .before .extent2 .ensures;
       rest = c .rest-bits .ensures;
     })

@@ -1,3 +1,4 @@
+-- Whether a record leads into a set, by the number of its target.
 use mathlib.Core.Path.{ap, ap₂, _∙_}
 use mathlib.Core.List.{List}
 use Prim.Native.Nat.{ℕ}
@@ -12,10 +13,14 @@ use Rattle.start.proofs.letters.enters.Tie as tie
 
 returns : tie.Need-returns
 returns c =
-    let a = c .before .before .before .before .before .before .before .args in
+    let at-number = c .before .before in
+    let at-merged = at-number .before in
+    let at-after-at = at-merged .before in
+    let entry = at-after-at .before .before .before in
+    let a = entry .args in
     c .contains .ensures
     ∙ ap₂ (λ (l : List ℕ) (x : ℕ). member l x) (set-part (a .scratch .now) (a .k))
-    (c .before .before .number .ensures .0 ∙ ap stateNumber (c .before .before .before .merged .ensures ∙ ap (λ (h : Group). merge (processesOf (a .bits)) h (a .g)) (c .before .before .before .before .after-at .ensures)))
+    (at-number .number .ensures .0 ∙ ap stateNumber (at-merged .merged .ensures ∙ ap (λ (h : Group). merge (processesOf (a .bits)) h (a .g)) (at-after-at .after-at .ensures)))
 
 pub enters-spec : {M : Type 1} → statement M
 enters-spec =

@@ -1,76 +1,58 @@
-use mathlib.Core.Bool.{false}
-use mathlib.Core.Path.{_≡_, ap, sym, _∙_}
-use Prim.Native.Nat.{_+_, _-_, _<_}
+-- The records that read the letter in the state in turn, until one leads into the set.
+use mathlib.Core.Path.{ap, sym, _∙_}
+use Prim.Native.Nat.{_-_}
 use native.Mathlib.Omega.{arith}
-use Rattle.model.specs.declared.Group.{Group}
-use Rattle.model.specs.Groups.{processesOf, restrict}
-use Rattle.start.specs.RestSets.{leads}
-use Rattle.chains.specs.Buckets.{recordReads}
-use Rattle.automaton.specs.StateSets.{firstFrom}
+use borrow.Author.Needs.{needs}
+use Rattle.packs.specs.Packs.{packed}
 use Rattle.start.specs.Regions.{setAt}
-use Rattle.start.proofs.Leading.{Seeking, lead-reads, seeking-start, seeking-turn, seeking-later, seeking-found, seeking-none}
+use Rattle.start.proofs.Leading.{Seeking, seeking-start, seeking-leads, seeking-turn, seeking-found, seeking-none, reads-later}
 use Rattle.start.proofs.letters.first_lead.Statement.{statement}
 use Rattle.start.proofs.letters.first_lead.Tie as tie
 
 abbrev Inv-loop : tie.InvT-loop
-Inv-loop log scratch n count k a g before r₀ r = Seeking log (setAt scratch k) a g count r
+Inv-loop log scratch n count k a g before r₀ r = Seeking log (setAt scratch k) a g before count r
 
 abbrev μ-loop : tie.MeasureT-loop
 μ-loop log scratch n count k a g before r₀ r = count - r
 
-restricted-requires : tie.Need-restricted-requires Inv-loop μ-loop
-restricted-requires c κs = tt
-
 first-match-requires : tie.Need-first-match-requires Inv-loop μ-loop
-first-match-requires c κs = (c .before .before .before .pre .0 .room, c .before .before .before .pre .0 .chained)
+first-match-requires c κs = let p = c .before .before .before .before .pre in (p .0 .room, p .0 .ringed)
 
 loop-holds : tie.Need-loop-holds Inv-loop μ-loop
 loop-holds c =
-    let a = c .before .before .before .before .args in
-    seeking-start (a .log .now) (setAt (a .scratch .now) (a .k)) (a .a) (a .g) (a .count) (c .first-match .result)
-    (c .first-match .ensures ∙ ap (λ (h : Group). firstFrom (recordReads (a .log .now) (a .a .number) h) 0 (a .count)) (c .before .restricted .ensures))
+    let a = c .before .before .before .before .before .args in
+    let before = c .before .pack in
+    seeking-start (a .log .now) (setAt (a .scratch .now) (a .k)) (a .a) (a .g) (before .result) (a .count) (c .first-match .result)
+    (before .ensures .0 ∙ ap packed (c .before .before .restricted .ensures)) (c .first-match .ensures)
 
 enters-requires : tie.Need-enters-requires Inv-loop μ-loop
-enters-requires c κs = omega (arith, c .before .before .before .before .before .before .pre .0 .room .records, c .before .before .before .before .before .before .pre .0 .room .room, c .before .before .before .before .before .before .pre .1)
+enters-requires c κs = let p = c .before .before .before .before .before .before .before .pre in omega (arith, p .0 .room .records, p .0 .room .room, p .1)
 
 returns : tie.Need-returns Inv-loop μ-loop
 returns c =
-    let a = c .before .before .before .before .before .before .before .before .args in
     let m = c .before .before .before .loop in
-    seeking-found (a .log .now) (setAt (a .scratch .now) (a .k)) (a .a) (a .g) (a .count) (m .r) (m .inv)
-    (lead-reads (a .log .now) (setAt (a .scratch .now) (a .k)) (a .a) (a .g) (m .r) (m .inv .reading (c .before .before .loop-test .taken)) ∙ sym (c .before .enters .ensures) ∙ c .if1 .taken)
+    seeking-found _ _ _ _ (m .inv) (seeking-leads _ _ _ _ (m .inv) (c .before .before .loop-test .taken) ∙ sym (c .before .enters .ensures) ∙ c .if1 .taken)
 
 next-match-requires : tie.Need-next-match-requires Inv-loop μ-loop
 next-match-requires c κs =
-    let p = c .before .before .before .before .before .before .before .before .pre in
-    let m = c .before .before .before .loop in
-    (p .0 .room, p .0 .chained, c .before .before .loop-test .taken, rw (c .before .before .before .before .before .restricted .ensures) (m .inv .reading (c .before .before .loop-test .taken)))
+    let at-loop-test = c .before .before in
+    let at-loop = at-loop-test .before in
+    let entry = at-loop .before .before .before .before .before .before in
+    let p = entry .pre in
+    let less = at-loop-test .loop-test .taken in
+    (p .0 .room, p .0 .ringed, less, at-loop .loop .inv .reading less)
 
 loop-less : tie.Need-loop-less Inv-loop μ-loop
-loop-less c =
-    let a = c .before .before .before .before .before .before .before .before .before .args in
-    let m = c .before .before .before .before .loop in
-    let q : c .next-match .result ≡ firstFrom (recordReads (a .log .now) (a .a .number) (restrict (processesOf (a .a .bits)) (a .g))) (m .r + 1) (a .count - (m .r + 1)) =
-    c .next-match .ensures ∙ ap (λ (h : Group). firstFrom (recordReads (a .log .now) (a .a .number) h) (m .r + 1) (a .count - (m .r + 1))) (c .before .before .before .before .before .before .restricted .ensures) in
-    let l : m .r < c .next-match .result = seeking-later (a .log .now) (setAt (a .scratch .now) (a .k)) (a .a) (a .g) (a .count) (m .r) (c .next-match .result) q in
-    omega arith
+loop-less c = omega (arith, reads-later _ _ _ _ _ _ (c .next-match .ensures), c .before .before .before .loop-test .taken)
 
 loop-again : tie.Need-loop-again Inv-loop μ-loop
 loop-again c =
-    let a = c .before .before .before .before .before .before .before .before .before .args in
     let m = c .before .before .before .before .loop in
-    let q : c .next-match .result ≡ firstFrom (recordReads (a .log .now) (a .a .number) (restrict (processesOf (a .a .bits)) (a .g))) (m .r + 1) (a .count - (m .r + 1)) =
-    c .next-match .ensures ∙ ap (λ (h : Group). firstFrom (recordReads (a .log .now) (a .a .number) h) (m .r + 1) (a .count - (m .r + 1))) (c .before .before .before .before .before .before .restricted .ensures) in
-    let t : m .r < a .count = c .before .before .before .loop-test .taken in
-    let none : leads (a .log .now) (setAt (a .scratch .now) (a .k)) (a .a) (a .g) (m .r) ≡ false =
-    lead-reads (a .log .now) (setAt (a .scratch .now) (a .k)) (a .a) (a .g) (m .r) (m .inv .reading t) ∙ sym (c .before .before .enters .ensures) ∙ c .before .if1 .left in
-    seeking-turn (a .log .now) (setAt (a .scratch .now) (a .k)) (a .a) (a .g) (a .count) (m .r) (c .next-match .result) (m .inv) t none q
+    let less = c .before .before .before .loop-test .taken in
+    seeking-turn _ _ _ _ (m .inv) (c .next-match .result) (seeking-leads _ _ _ _ (m .inv) less ∙ sym (c .before .before .enters .ensures) ∙ c .before .if1 .left) (c .next-match .ensures) less
 
 returns-2 : tie.Need-returns-2 Inv-loop μ-loop
-returns-2 c =
-    let a = c .before .before .before .before .before .before .args in
-    let m = c .before .loop in
-    seeking-none (a .log .now) (setAt (a .scratch .now) (a .k)) (a .a) (a .g) (a .count) (m .r) (m .inv) (c .loop-test .left)
+returns-2 c = seeking-none _ _ _ _ (c .before .loop .inv) (c .loop-test .left)
 
 pub first-lead-spec : {M : Type 1} → statement M
 first-lead-spec =
@@ -78,7 +60,8 @@ first-lead-spec =
     (tie.spec
     Inv-loop
     μ-loop
-    restricted-requires
+    (λ c κs. search needs)
+    (λ c κs. search needs)
     first-match-requires
     loop-holds
     enters-requires

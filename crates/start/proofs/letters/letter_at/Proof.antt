@@ -1,3 +1,4 @@
+-- A letter of the start word, with its processes.
 use mathlib.Core.Path.{subst, _∙_}
 use Prim.Native.Nat.{ℕ}
 use native.Mathlib.Omega.{arith}

@@ -1,3 +1,4 @@
+-- Steps are added up to the cap.
 use borrow.Author.Needs.{needs}
 use Rattle.start.proofs.paths.add_steps.Statement.{statement}
 use Rattle.start.proofs.paths.add_steps.Tie as tie

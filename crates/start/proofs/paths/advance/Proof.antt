@@ -1,87 +1,76 @@
-use mathlib.Core.Path.{_≡_, ap, _∙_}
-use Prim.Native.Nat.{ℕ, _+_, _<_, min}
+-- The record for a letter is the next one of the path.
+use mathlib.Core.Path.{ap, _∙_}
+use Prim.Native.Nat.{ℕ, _+_, min}
 use native.Mathlib.Omega.{arith}
 use borrow.Author.Needs.{needs}
 use Rattle.model.specs.declared.Group.{Group}
 use Rattle.model.specs.Groups.{processesOf, merge}
-use Rattle.model.specs.Log.{recordAt, stepsCap, limit}
-use Rattle.model.specs.Records.{afterAt}
-use Rattle.table.specs.Reading.{systemIn}
+use Rattle.model.specs.Log.{stepsCap}
 use Rattle.table.proofs.Layouts.{table-modest}
-use Rattle.stack.proofs.Limits.{limit-fits, limit-reads, limit-has}
-use Rattle.start.proofs.Tracing.{lead-inside, next-record}
+use Rattle.stack.proofs.RoundLogs.{round-has}
+use Rattle.start.proofs.Tracing.{step-inside, step-steps, advanced}
 use Rattle.start.proofs.paths.advance.Statement.{statement}
 use Rattle.start.proofs.paths.advance.Tie as tie
 
 first-lead-requires : tie.Need-first-lead-requires
 first-lead-requires c κs =
-    let a = c .before .before .before .before .before .before .args in
-    let p = c .before .before .before .before .before .before .pre in
-    (p .1, omega (arith, p .2, table-modest (a .table .now) (a .t) (p .0 .holds) .pile))
+    let entry = c .before .before .before .before .before .before in
+    let a = entry .args in
+    let u = entry .pre in
+    (u .linked, omega (arith, u .inside, table-modest (a .table .now) (a .t) (u .some .1 .holds) .pile))
 
 cast-put-number : tie.Need-cast-put-number
 cast-put-number c =
-    let a = c .before .before .before .before .before .before .before .before .before .args in
-    let p = c .before .before .before .before .before .before .before .before .before .pre in
-    let r = c .before .before .first-lead .result in
-    let less : r < a .count =
-    lead-inside (p .0) (a .i) (p .2) (c .before .before .before .before .before .letter-at .result) (c .before .before .before .before .before .letter-at .ensures) (a .scratch .now) (p .3) (a .c .state) (p .4 .over) (p .4 .accepted) r (c .before .before .first-lead .ensures) in
-    omega (arith, p .0 .short)
+    let at-first-lead = c .before .before in
+    let at-letter-at = at-first-lead .before .before .before in
+    let entry = at-letter-at .before .before .before .before in
+    let u = entry .pre in
+    omega (arith, step-inside u (at-letter-at .letter-at .ensures) (at-first-lead .first-lead .ensures), u .some .1 .short)
 
 put-number-requires : tie.Need-put-number-requires
 put-number-requires c κs =
-    let a = c .before .before .before .before .before .before .before .before .before .args in
-    let p = c .before .before .before .before .before .before .before .before .before .pre in
-    omega (arith, p .1 .room .room, p .2, table-modest (a .table .now) (a .t) (p .0 .holds) .pile)
+    let entry = c .before .before .before .before .before .before .before .before .before in
+    let a = entry .args in
+    let u = entry .pre in
+    omega (arith, u .linked .room .room, u .inside, table-modest (a .table .now) (a .t) (u .some .1 .holds) .pile)
 
 after-at-requires : tie.Need-after-at-requires
 after-at-requires c κs =
-    let a = c .before .before .before .before .before .before .before .before .before .before .before .before .args in
-    let p = c .before .before .before .before .before .before .before .before .before .before .before .before .pre in
-    let r = c .before .before .before .before .before .first-lead .result in
-    let less : r < a .count =
-    lead-inside (p .0) (a .i) (p .2) (c .before .before .before .before .before .before .before .before .letter-at .result) (c .before .before .before .before .before .before .before .before .letter-at .ensures) (a .scratch .now) (p .3) (a .c .state) (p .4 .over) (p .4 .accepted) r (c .before .before .before .before .before .first-lead .ensures) in
-    limit-has (p .0) r less
+    let at-first-lead = c .before .before .before .before .before in
+    let at-letter-at = at-first-lead .before .before .before in
+    let entry = at-letter-at .before .before .before .before in
+    let u = entry .pre in
+    round-has (u .some .1) _ (step-inside u (at-letter-at .letter-at .ensures) (at-first-lead .first-lead .ensures))
 
 steps-at-requires : tie.Need-steps-at-requires
 steps-at-requires c κs =
-    let a = c .before .before .before .before .before .before .before .before .before .before .before .before .before .before .args in
-    let p = c .before .before .before .before .before .before .before .before .before .before .before .before .before .before .pre in
-    let r = c .before .before .before .before .before .before .before .first-lead .result in
-    let less : r < a .count =
-    lead-inside (p .0) (a .i) (p .2) (c .before .before .before .before .before .before .before .before .before .before .letter-at .result) (c .before .before .before .before .before .before .before .before .before .before .letter-at .ensures) (a .scratch .now) (p .3) (a .c .state) (p .4 .over) (p .4 .accepted) r (c .before .before .before .before .before .before .before .first-lead .ensures) in
-    limit-has (p .0) r less
+    let at-first-lead = c .before .before .before .before .before .before .before in
+    let at-letter-at = at-first-lead .before .before .before in
+    let entry = at-letter-at .before .before .before .before in
+    let u = entry .pre in
+    round-has (u .some .1) _ (step-inside u (at-letter-at .letter-at .ensures) (at-first-lead .first-lead .ensures))
 
 add-steps-requires : tie.Need-add-steps-requires
 add-steps-requires c κs =
-    let a = c .before .before .before .before .before .before .before .before .before .before .before .before .before .before .before .args in
-    let p = c .before .before .before .before .before .before .before .before .before .before .before .before .before .before .before .pre in
-    let r = c .before .before .before .before .before .before .before .before .first-lead .result in
-    let less : r < a .count =
-    lead-inside (p .0) (a .i) (p .2) (c .before .before .before .before .before .before .before .before .before .before .before .letter-at .result) (c .before .before .before .before .before .before .before .before .before .before .before .letter-at .ensures) (a .scratch .now) (p .3) (a .c .state) (p .4 .over) (p .4 .accepted) r (c .before .before .before .before .before .before .before .before .first-lead .ensures) in
-    (p .4 .steps, omega (arith, c .steps-at .ensures, limit-reads (p .0) r less .steps, limit-fits (p .0) r less .steps))
+    let at-first-lead = c .before .before .before .before .before .before .before .before in
+    let at-letter-at = at-first-lead .before .before .before in
+    let entry = at-letter-at .before .before .before .before in
+    let u = entry .pre in
+    (u .on-path .steps, omega (arith, c .steps-at .ensures, step-steps u (at-letter-at .letter-at .ensures) (at-first-lead .first-lead .ensures)))
 
 returns : tie.Need-returns
 returns c =
-    let a = c .before .before .before .before .before .before .before .before .before .before .before .before .before .before .before .before .args in
-    let p = c .before .before .before .before .before .before .before .before .before .before .before .before .before .before .before .before .pre in
-    let r = c .before .before .before .before .before .before .before .before .before .first-lead .result in
-    let less : r < a .count =
-    lead-inside (p .0) (a .i) (p .2) (c .before .before .before .before .before .before .before .before .before .before .before .before .letter-at .result) (c .before .before .before .before .before .before .before .before .before .before .before .before .letter-at .ensures) (a .scratch .now) (p .3) (a .c .state) (p .4 .over) (p .4 .accepted) r (c .before .before .before .before .before .before .before .before .before .first-lead .ensures) in
-    let state : c .before .before .merged .result ≡ merge (processesOf (c .before .before .before .before .before .before .before .before .before .before .before .before .letter-at .result .bits)) (afterAt (a .log .now) r) (a .c .state) =
-    c .before .before .merged .ensures ∙ ap (λ (h : Group). merge (processesOf (c .before .before .before .before .before .before .before .before .before .before .before .before .letter-at .result .bits)) h (a .c .state)) (c .before .before .before .after-at .ensures) in
-    let next = next-record (p .0) (a .i) (p .2) (c .before .before .before .before .before .before .before .before .before .before .before .before .letter-at .result) (c .before .before .before .before .before .before .before .before .before .before .before .before .letter-at .ensures) (a .scratch .now) (p .3) (a .c .state) (p .4 .over) (p .4 .accepted) r (c .before .before .before .before .before .before .before .before .before .first-lead .ensures)
-    (c .before .before .merged .result) state in
-    let steps : c .add-steps .result ≡ min (a .c .steps + recordAt (limit (systemIn (a .table .now))) r .steps) stepsCap =
-    c .add-steps .ensures ∙ ap (λ (k : ℕ). min (a .c .steps + k) stepsCap) (c .before .steps-at .ensures ∙ limit-reads (p .0) r less .steps) in
-    record {
-      number = r;
-      small = omega (arith, p .0 .short);
-      first = next .first;
-      on-path = record { over = next .over; accepted = next .accepted; steps = omega arith };
-      written = c .before .before .before .before .before .before .put-number .ensures;
-      steps = steps;
-    }
+    let at-merged = c .before .before in
+    let at-after-at = at-merged .before in
+    let at-put-number = at-after-at .before .before .before in
+    let at-first-lead = at-put-number .before .before .before in
+    let at-letter-at = at-first-lead .before .before .before in
+    let entry = at-letter-at .before .before .before .before in
+    let a = entry .args in
+    let letter = at-letter-at .letter-at in
+    advanced (entry .pre) (letter .ensures) (at-first-lead .first-lead .ensures) _ _ (at-put-number .put-number .ensures)
+    (at-merged .merged .ensures ∙ ap (λ (h : Group). merge (processesOf (letter .result .bits)) h (a .c .state)) (at-after-at .after-at .ensures))
+    (c .add-steps .ensures ∙ ap (λ (k : ℕ). min (a .c .steps + k) stepsCap) (c .before .steps-at .ensures))
 
 pub advance-spec : {M : Type 1} → statement M
 advance-spec =

@@ -1,57 +1,53 @@
+-- Each letter's record in turn gives the start's path.
 use mathlib.Core.Path.{refl}
-use Prim.Native.Nat.{_+_, _-_, _<_, _≤_}
+use Prim.Native.Nat.{_-_}
 use native.Mathlib.Omega.{arith}
 use Rattle.table.proofs.Layouts.{table-modest, pile-count}
-use Rattle.start.proofs.ScratchRegions.{linked-same}
-use Rattle.start.proofs.Grounds.{grounds}
-use Rattle.start.proofs.RestRight.{right-before}
-use Rattle.start.proofs.Tracing.{Tracing, tracing-start, tracing-turn, tracing-end}
+use Rattle.start.proofs.Tracing.{Tracing, tracing-start, tracing-underway, tracing-turn, tracing-end}
 use Rattle.start.proofs.paths.write_path.Statement.{statement}
 use Rattle.start.proofs.paths.write_path.Tie as tie
 
 abbrev Inv-loop : tie.InvT-loop
-Inv-loop table t log scratch₀ n count c₀ i₀ scratch c i = Tracing table t scratch₀ i scratch c
+Inv-loop table t log scratch₀ n count c₀ i₀ scratch c i = Tracing table t log count scratch₀ i scratch c
 
 abbrev μ-loop : tie.MeasureT-loop
 μ-loop table t log scratch₀ n count c₀ i₀ scratch c i = t .pile - i
 
 start-group-requires : tie.Need-start-group-requires Inv-loop μ-loop
-start-group-requires c κs = c .before .before .before .pre .0 .holds
+start-group-requires c κs = c .before .before .before .pre .0 .1 .holds
 
 loop-holds : tie.Need-loop-holds Inv-loop μ-loop
 loop-holds c =
-    let a = c .before .before .before .before .args in
-    let p = c .before .before .before .before .pre in
-    tracing-start (a .table .now) (a .t) (a .scratch .now) _ (c .start-group .ensures) refl (grounds (a .table .now) (a .t) (p .0 .holds) .start) (p .3)
+    let entry = c .before .before .before .before in
+    let a = entry .args in
+    let p = entry .pre in
+    tracing-start (a .table .now) (a .t) (a .log .now) (a .count) (a .scratch .now) _ (p .0 .1 .holds) (p .1 .right 0 (omega arith)) (p .2) (c .start-group .ensures) refl
 
 advance-requires : tie.Need-advance-requires Inv-loop μ-loop
 advance-requires c κs =
-    let a = c .before .before .before .before .before .before .before .before .args in
-    let p = c .before .before .before .before .before .before .before .before .pre in
-    let m = c .before .before .before .loop in
-    let less : m .i < a .t .pile = c .before .if1 .taken in
-    let small : a .t .pile ≤ 64 = table-modest (a .table .now) (a .t) (p .0 .holds) .pile in (
-      p .0,
-      linked-same (omega arith) (m .inv .same) (p .1),
-      less,
-      right-before (a .table .now) (a .t) (m .i + 1) (omega arith) (omega arith) (omega (arith, p .1 .room .room)) (m .inv .same) (p .2 (m .i + 1) (omega arith)),
-      m .inv .on-path,
-    )
+    let at-loop = c .before .before .before in
+    let p = at-loop .before .before .before .before .before .pre in
+    tracing-underway (p .0) (p .1) (at-loop .loop .inv) (c .before .if1 .taken)
 
 loop-again : tie.Need-loop-again Inv-loop μ-loop
 loop-again c =
-    let a = c .before .before .before .before .before .before .before .before .before .before .before .args in
-    let p = c .before .before .before .before .before .before .before .before .before .before .before .pre in
-    tracing-turn (table-modest (a .table .now) (a .t) (p .0 .holds) .pile) (omega (arith, p .1 .room .room)) (c .before .before .before .before .if1 .taken) (c .before .before .before .before .before .before .loop .inv) (c .before .before .advance .ensures)
+    let at-advance = c .before .before in
+    let at-if1 = at-advance .before .before in
+    let at-loop = at-if1 .before .before in
+    let entry = at-loop .before .before .before .before .before in
+    let a = entry .args in
+    let p = entry .pre in
+    tracing-turn (table-modest (a .table .now) (a .t) (p .0 .1 .holds) .pile) (omega (arith, p .1 .linked .room .room)) (at-if1 .if1 .taken) (at-loop .loop .inv) (at-advance .advance .ensures)
 
 same-length : tie.Need-same-length Inv-loop μ-loop
 same-length c = c .before .before .loop .inv .same .size
 
 returns : tie.Need-returns Inv-loop μ-loop
 returns c =
-    let a = c .before .before .before .before .before .before .before .args in
-    let p = c .before .before .before .before .before .before .before .pre in
-    tracing-end (pile-count (a .table .now) (a .t) (p .0 .holds)) (c .if1 .left) (c .before .before .loop .inv)
+    let at-loop = c .before .before in
+    let entry = at-loop .before .before .before .before .before in
+    let a = entry .args in
+    tracing-end (pile-count (a .table .now) (a .t) (entry .pre .0 .1 .holds)) (c .if1 .left) (at-loop .loop .inv)
 
 pub write-path-spec : {M : Type 1} → statement M
 write-path-spec =

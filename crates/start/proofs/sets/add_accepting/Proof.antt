@@ -1,3 +1,4 @@
+-- An accepting group is put into the last set.
 use mathlib.Core.Path.{ap, _∙_}
 use Prim.Native.Nat.{ℕ}
 use borrow.Author.Needs.{needs}
@@ -9,13 +10,18 @@ use Rattle.start.proofs.sets.add_accepting.Tie as tie
 
 insert-state-requires : tie.Need-insert-state-requires
 insert-state-requires c κs =
-    let a = c .before .before .before .before .before .args in
-    (table-modest (a .table .now) (a .t) (c .before .before .before .before .before .pre .0) .pile, c .number .ensures .1, c .before .before .before .before .before .pre .2)
+    let entry = c .before .before .before .before .before in
+    let a = entry .args in
+    (table-modest (a .table .now) (a .t) (entry .pre .0) .pile, c .number .ensures .1, entry .pre .2)
 
 returns : tie.Need-returns
 returns c =
-    let a = c .before .before .before .before .before .before .before .before .args in
-    c .before .before .insert-state .ensures ∙ ap (λ (x : ℕ). withState (a .scratch .now) (a .t .pile) x) (c .before .before .before .number .ensures .0 ∙ ap stateNumber (c .before .before .before .before .before .accepting-group .ensures))
+    let at-insert-state = c .before .before in
+    let at-number = at-insert-state .before in
+    let at-accepting-group = at-number .before .before in
+    let entry = at-accepting-group .before .before .before in
+    let a = entry .args in
+    at-insert-state .insert-state .ensures ∙ ap (λ (x : ℕ). withState (a .scratch .now) (a .t .pile) x) (at-number .number .ensures .0 ∙ ap stateNumber (at-accepting-group .accepting-group .ensures))
 
 pub add-accepting-spec : {M : Type 1} → statement M
 add-accepting-spec =

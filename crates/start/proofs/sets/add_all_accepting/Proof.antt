@@ -1,3 +1,4 @@
+-- The accepting groups in turn.
 use mathlib.Core.Path.{sym}
 use Prim.Native.Nat.{_+_, _-_, _≤_}
 use lib.ListN.{length}
@@ -27,19 +28,25 @@ loop-holds c =
 
 add-accepting-requires : tie.Need-add-accepting-requires Inv-loop μ-loop
 add-accepting-requires c κs =
-    let a = c .before .before .before .before .before .args in
-    let p = c .before .before .before .before .before .pre in
-    let m = c .before .before .loop in
+    let at-loop = c .before .before in
+    let entry = at-loop .before .before .before in
+    let a = entry .args in
+    let p = entry .pre in
+    let m = at-loop .loop in
     (p .0, omega (arith, m .inv .few, accepting-count (a .table .now) (a .t) (p .0), c .before .loop-test .taken), omega (arith, p .1, m .inv .same .size))
 
 loop-again : tie.Need-loop-again Inv-loop μ-loop
 loop-again c =
-    let a = c .before .before .before .before .before .before .before .before .args in
-    let p = c .before .before .before .before .before .before .before .before .pre in
-    let m = c .before .before .before .before .before .loop in
+    let at-add-accepting = c .before .before in
+    let at-loop-test = at-add-accepting .before .before in
+    let at-loop = at-loop-test .before in
+    let entry = at-loop .before .before .before in
+    let a = entry .args in
+    let p = entry .pre in
+    let m = at-loop .loop in
     let room : setPlace (a .t .pile) + setLength ≤ length (a .scratch .now) = omega (arith, p .1, table-modest (a .table .now) (a .t) (p .0) .pile) in
-    rw (c .before .before .add-accepting .ensures)
-    (numbering-turn (systemIn (a .table .now) .accepting) (groupOf [] 0) (a .t .pile) (m .j) (a .scratch .now) (m .scratch) room (c .before .before .before .before .loop-test .taken)
+    rw (at-add-accepting .add-accepting .ensures)
+    (numbering-turn (systemIn (a .table .now) .accepting) (groupOf [] 0) (a .t .pile) (m .j) (a .scratch .now) (m .scratch) room (at-loop-test .loop-test .taken)
     (stateNumber-below (acceptingIn (a .table .now) (m .j - 1))) (m .inv))
 
 same-length : tie.Need-same-length Inv-loop μ-loop

@@ -1,3 +1,4 @@
+-- A set is cleared.
 use native.Mathlib.Omega.{arith}
 use borrow.Author.Needs.{needs}
 use Rattle.start.proofs.ScratchRegions.{set-cleared}
@@ -6,8 +7,10 @@ use Rattle.start.proofs.sets.clear_set.Tie as tie
 
 returns : tie.Need-returns
 returns c =
-    let a = c .before .before .before .before .before .args in
-    set-cleared (a .scratch .now) (a .k) (c .before .before .clear .last .0) (omega (arith, c .before .before .before .before .before .pre)) (c .before .before .clear .ensures)
+    let at-clear = c .before .before in
+    let entry = at-clear .before .before .before in
+    let a = entry .args in
+    set-cleared (a .scratch .now) (a .k) (at-clear .clear .last .0) (omega (arith, entry .pre)) (at-clear .clear .ensures)
 
 pub clear-set-spec : {M : Type 1} → statement M
 clear-set-spec =

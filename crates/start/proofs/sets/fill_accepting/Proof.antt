@@ -1,3 +1,4 @@
+-- The last set has the accepting groups.
 use borrow.Author.Needs.{needs}
 use Rattle.table.proofs.Layouts.{table-modest, pile-count}
 use Rattle.start.proofs.ScratchRegions.{same-join}
@@ -13,12 +14,15 @@ clear-set-requires c κs =
 
 returns : tie.Need-returns
 returns c =
-    let a = c .before .before .before .before .before .before .before .before .before .before .args in
-    let holds = c .before .before .before .before .before .before .before .before .before .before .pre .0 in
-    let e = c .before .before .before .before .before .before .clear-set in
-    let f = c .before .before .add-all-accepting in (
+    let at-add-all-accepting = c .before .before in
+    let at-clear-set = at-add-all-accepting .before .before .before .before in
+    let entry = at-clear-set .before .before .before .before in
+    let a = entry .args in
+    let holds = entry .pre .0 in
+    let e = at-clear-set .clear-set in
+    let f = at-add-all-accepting .add-all-accepting in (
       same-join (e .ensures .0) (f .ensures .same),
-      set-last (grounds (a .table .now) (a .t) holds) (pile-count (a .table .now) (a .t) holds) (e .last .0) (f .last .1 .1 .0) (f .ensures),
+      λ round. set-last (grounds (a .table .now) (a .t) holds) (pile-count (a .table .now) (a .t) holds) round (e .last .0) (f .last .1 .1 .0) (f .ensures),
     )
 
 pub fill-accepting-spec : {M : Type 1} → statement M

@@ -1,3 +1,4 @@
+-- A state is put into a set.
 use mathlib.Core.Path.{ap, _∙_}
 use mathlib.Core.List.{List}
 use Prim.Native.Nat.{ℕ}

@@ -1,9 +1,8 @@
--- What the log of the limit gives: its records are read from its bytes, and the table's system meets what the theorems ask.
-use mathlib.Core.Path.{_≡_, refl, ap, sym, _∙_}
+-- What the log of a round gives: its records are read from its bytes, and the table's system meets what the theorems ask.
 use mathlib.Core.List.{List}
 use Prim.Native.Nat.{ℕ, _<_}
 use native.Mathlib.Omega.{arith}
-use Rattle.model.specs.Log.{recordAt, limit, saturatedAt}
+use Rattle.model.specs.Log.{recordAt, logAt, limit, saturatedAt}
 use Rattle.model.proofs.Emission.{Earlier}
 use Rattle.model.proofs.Reachability.{WellFormed}
 use Rattle.model.proofs.Soundness.{Control}
@@ -14,7 +13,7 @@ use Rattle.records.proofs.Entries.{log-reads, log-has}
 use Rattle.table.specs.declared.Table.{Table}
 use Rattle.table.specs.Reading.{Holds, itemsIn, systemIn}
 use Rattle.table.proofs.Readings.{holds-complete}
-use Rattle.stack.specs.LimitLog.{LimitLog}
+use Rattle.stack.specs.RoundLogs.{RoundLog}
 
 -- ---- the table
 pub holds-well-formed : (bytes : List ℕ) (t : Table) → Holds bytes t → WellFormed (systemIn bytes)
@@ -26,15 +25,15 @@ unfolding systemIn
 holds-control bytes t h = accepted-control (itemsIn bytes) (holds-complete bytes t h)
 
 -- ---- the log
-module _ {table : List ℕ} {t : Table} {log : List ℕ} {count : ℕ} (w : LimitLog table t log count) where
-  pub limit-fits : (r : ℕ) → r < count → Fits (recordAt (limit (systemIn table)) r)
-  limit-fits r h = each-at Fits (limit (systemIn table)) (w .fits) r (omega (arith, w .size))
+module _ {table : List ℕ} {t : Table} {round : ℕ} {log : List ℕ} {count : ℕ} (w : RoundLog table t round log count) where
+  pub round-fits : (r : ℕ) → r < count → Fits (recordAt (logAt (systemIn table) round) r)
+  round-fits r h = each-at Fits (logAt (systemIn table) round) (w .fits) r (omega (arith, w .size))
 
-  pub limit-reads : (r : ℕ) → r < count → Reads log r (recordAt (limit (systemIn table)) r)
-  limit-reads r h = log-reads (limit (systemIn table)) (w .rest) log r (w .logged) (omega (arith, w .size)) (limit-fits r h)
+  pub round-reads : (r : ℕ) → r < count → Reads log r (recordAt (logAt (systemIn table) round) r)
+  round-reads r h = log-reads (logAt (systemIn table) round) (w .rest) log r (w .logged) (omega (arith, w .size)) (round-fits r h)
 
-  pub limit-has : (r : ℕ) → r < count → HasRecord log r
-  limit-has r h = log-has (limit (systemIn table)) (w .rest) log r (w .logged) (omega (arith, w .size))
+  pub round-has : (r : ℕ) → r < count → HasRecord log r
+  round-has r h = log-has (logAt (systemIn table) round) (w .rest) log r (w .logged) (omega (arith, w .size))
 
 pub limit-earlier : (table : List ℕ) → Earlier (limit (systemIn table))
 limit-earlier table = log-earlier (systemIn table) (saturatedAt (systemIn table))
