@@ -1,7 +1,7 @@
 //! Benchmark tables: large limits, many rounds, a full start pile, long runs, deep reasons, and
 //! every kind at its ceiling.
 
-use crate::model::{Group, NO_PART, Table, drop_twin, group};
+use crate::model::{Group, NO_PART, Process, Table, drop_twin, group};
 use crate::named;
 use crate::rng::Rng;
 
@@ -134,12 +134,35 @@ pub fn slow(keys: usize, tail: usize) -> Table {
     table
 }
 
+/// One record in each of 200 rounds: each of 200 keys (letter, state before) copies the key
+/// before it, by one rule.
+pub fn chain() -> Table {
+    let mut table = Table::new(1, 8, 8);
+    let letters: Vec<u8> = (0..25).map(|_| table.letter(1)).collect();
+    let key = |number: usize| (letters[number / 8], [(number % 8) as u8; 4]);
+    table.rule(letters[0], [0; 4], [0; 4], &[]);
+    for number in 1..200 {
+        let (letter, before) = key(number);
+        let (copied, after) = key(number - 1);
+        table.rule(letter, before, after, &[copied]);
+    }
+    table.start = group(&[7]);
+    table.pile.push(letters[24]);
+    table.accepting.push(group(&[0]));
+    table
+}
+
 /// One record in almost every round, with reasons as deep as there are rounds: `states` to the
 /// power of 4, times `keys`, rounds by four processes. As `slow`, but the end states count
 /// through all global states, process 3 fastest. Needs `states` from 2 to 8, `keys` up to 25.
 pub fn odometer(states: u8, keys: usize) -> Table {
-    let mut table = Table::new(4, states, states);
-    let top = states - 1;
+    wheels([states; 4], keys)
+}
+
+/// As `odometer`, with as many states for each process as `states` has.
+pub fn wheels(states: Group, keys: usize) -> Table {
+    let mut table = with_states(states);
+    let top = states.map(|count| count - 1);
     let letters: Vec<u8> = (0..keys).map(|_| table.letter(ALL)).collect();
     table.rule(letters[0], [0; 4], [0; 4], &[]);
     for number in 1..keys {
@@ -150,18 +173,49 @@ pub fn odometer(states: u8, keys: usize) -> Table {
         let lower = ALL << (process + 1) & ALL;
         if lower != 0 {
             let reset = table.letter(lower);
-            table.rule(reset, [top; 4], [0; 4], &[]);
+            table.rule(reset, top, [0; 4], &[]);
             written.push(reset);
         }
         let step = table.letter(1 << process);
-        for state in 0..top {
+        for state in 0..top[process] {
             table.rule(step, [state; 4], [state + 1; 4], &[]);
         }
         written.push(step);
         table.rule(letters[0], [0; 4], [0; 4], &written);
     }
     table.pile.push(letters[keys - 1]);
-    table.accepting.push([top; 4]);
+    table.accepting.push(top);
+    table
+}
+
+/// A table of four processes that have line states alone, as many as `states` has.
+fn with_states(states: Group) -> Table {
+    let mut table = Table::new(4, 1, 1);
+    table.processes = states.map(|count| Process { line: count, all: count }).to_vec();
+    table
+}
+
+/// One key with one new end in each of 1,536 rounds, by 90 rules: processes 2 and 3 count to 64,
+/// and processes 0 and 1 count how often (to 24). Each step has a rule of its own.
+pub fn counter() -> Table {
+    let mut table = with_states([3, 8, 8, 8]);
+    let count = table.letter(ALL);
+    let low = table.letter(0b1100);
+    let high = table.letter(0b0011);
+    let reset = table.letter(0b1100);
+    table.rule(count, [0; 4], [0; 4], &[]);
+    table.rule(count, [0; 4], [0; 4], &[count, low]);
+    table.rule(count, [0; 4], [0; 4], &[count, reset, high]);
+    table.rule(reset, [7; 4], [0; 4], &[]);
+    let pair = |number: u8| [number / 8, number % 8, number / 8, number % 8];
+    for number in 0..63 {
+        table.rule(low, pair(number), pair(number + 1), &[]);
+    }
+    for number in 0..23 {
+        table.rule(high, pair(number), pair(number + 1), &[]);
+    }
+    table.pile.push(count);
+    table.accepting.push([2, 7, 7, 7]);
     table
 }
 
@@ -183,6 +237,46 @@ pub fn full_pile() -> Table {
     table.pile.push(joint);
     table.pile.extend((0..63).map(|place| singles[place % 4]));
     table.accepting.push([7; 4]);
+    table
+}
+
+/// A start pile of 64 letters, each of which leads from any of eight states to any other: 8 to
+/// the power of 64 paths. The first is a copy of the others from half of the states.
+pub fn many_paths() -> Table {
+    let mut table = Table::new(1, 8, 8);
+    let any = table.letter(1);
+    let copy = table.letter(1);
+    for before in 0..8 {
+        for after in 0..8 {
+            table.rule(any, [before; 4], [after; 4], &[]);
+        }
+    }
+    for before in 0..4 {
+        table.rule(copy, [before; 4], [before; 4], &[any]);
+    }
+    table.pile.push(copy);
+    table.pile.extend([any; 63]);
+    table.accepting.push(group(&[7]));
+    table
+}
+
+/// 200 watch transitions on one letter, from ten global states of two processes to twenty, and
+/// one rule that writes the letter.
+pub fn one_rule() -> Table {
+    let mut table = Table::new(2, 3, 8);
+    table.processes[0].line = 4;
+    let watched = table.letter(0b11);
+    let copy = table.letter(0b11);
+    for before in 0..10 {
+        for after in 0..20 {
+            let before = group(&[before / 8, before % 8]);
+            let after = group(&[4 + after / 5, 3 + after % 5]);
+            table.transition(watched, before, after);
+        }
+    }
+    table.rule(copy, [0; 4], [0; 4], &[watched]);
+    table.pile.push(copy);
+    table.accepting.push(group(&[7, 7]));
     table
 }
 
@@ -244,5 +338,9 @@ pub fn all() -> Vec<(&'static str, Table)> {
         ("run of 1,000,000 steps", long_run(1_000_000)),
         ("run of 1,000,001 steps", long_run(1_000_001)),
         ("every kind at its ceiling", full_table()),
+        ("counter of 1,536 ends, 90 rules", counter()),
+        ("8 to the 64 paths from the start", many_paths()),
+        ("chain of 200 rules", chain()),
+        ("200 transitions, one rule", one_rule()),
     ]
 }
