@@ -1,7 +1,7 @@
 //! Benchmark tables: large limits, many rounds, a full start pile, long runs, deep reasons, and
 //! every kind at its ceiling.
 
-use crate::model::{Group, NO_PART, Process, Table, drop_twin, group};
+use crate::model::{Group, NO_PART, Process, Rule, Table, drop_twin, group};
 use crate::named;
 use crate::rng::Rng;
 
@@ -15,18 +15,38 @@ pub fn wide(records: usize, rounds: usize) -> Table {
     let mut table = Table::new(4, 2, 8);
     let singles = add_singles(&mut table);
     let delay = add_delay(&mut table, singles[0], rounds - 2);
-    let mut missing = records - 4 * 8 - delay;
-    for (bits, most) in [(ALL, 16), (0b0111, 8), (0b0011, 4), (0b1100, 4)] {
+    let missing = records - 4 * 8 - delay;
+    let kinds = [(ALL, 16), (0b0111, 8), (0b0011, 4), (0b1100, 4)];
+    add_limit(&mut table, singles, &kinds, missing);
+    add_ends(&mut table);
+    table
+}
+
+/// As `wide` with 65,535 records in 2 rounds, but with a letter of its own for each rule on four
+/// processes.
+pub fn products() -> Table {
+    let mut table = Table::new(4, 2, 8);
+    let singles = add_singles(&mut table);
+    add_delay(&mut table, singles[0], 0);
+    let mut kinds = vec![(ALL, 1); 15];
+    kinds.extend([(0b0111, 8), (0b0011, 4), (0b1100, 4)]);
+    add_limit(&mut table, singles, &kinds, 65_535 - 4 * 8);
+    add_ends(&mut table);
+    table
+}
+
+/// Adds `missing` records: for each kind (processes, most rules) a letter with as many rules as
+/// fit, and watch transitions for the rest.
+fn add_limit(table: &mut Table, singles: [u8; 4], kinds: &[(u8, usize)], mut missing: usize) {
+    for &(bits, most) in kinds {
         let letters = processes(bits).map(|process| singles[process]);
         let letters: Vec<u8> = letters.collect();
         let each = 8usize.pow(bits.count_ones());
         let rules = (missing / each).min(most);
-        add_products(&mut table, bits, &letters, rules);
+        add_products(table, bits, &letters, rules);
         missing -= rules * each;
     }
-    add_filler(&mut table, missing);
-    add_ends(&mut table);
-    table
+    add_filler(table, missing);
 }
 
 /// Starts before the last rule that writes the most letters; each of its processes shall end
@@ -34,8 +54,8 @@ pub fn wide(records: usize, rounds: usize) -> Table {
 fn add_ends(table: &mut Table) {
     let widest = table.rules.iter().max_by_key(|rule| rule.written.len());
     if let Some(rule) = widest {
-        table.start = joined(rule.before);
-        let goal = joined(rule.before.map(|state| state | 1));
+        table.start = joined([0; 4], rule.before);
+        let goal = joined([0; 4], rule.before.map(|state| state | 1));
         table.accepting.push(goal);
         table.pile.push(rule.letter);
     }
@@ -82,9 +102,12 @@ fn add_products(table: &mut Table, bits: u8, singles: &[u8], rules: usize) {
     }
 }
 
-/// The group of all processes with state 0 where `part` has none.
-fn joined(part: Group) -> Group {
-    part.map(|state| if state == NO_PART { 0 } else { state })
+/// The states of `part`, and those of `all` where it has none.
+fn joined(all: Group, part: Group) -> Group {
+    std::array::from_fn(|process| match part[process] {
+        NO_PART => all[process],
+        state => state,
+    })
 }
 
 /// `count` watch transitions on a letter of its own.
@@ -191,7 +214,12 @@ pub fn wheels(states: Group, keys: usize) -> Table {
 /// A table of four processes that have line states alone, as many as `states` has.
 fn with_states(states: Group) -> Table {
     let mut table = Table::new(4, 1, 1);
-    table.processes = states.map(|count| Process { line: count, all: count }).to_vec();
+    table.processes = states
+        .map(|count| Process {
+            line: count,
+            all: count,
+        })
+        .to_vec();
     table
 }
 
@@ -324,6 +352,80 @@ pub fn full_table() -> Table {
     table
 }
 
+/// 200 rules on a letter for each of the fifteen sets of processes, `watch` watch transitions and
+/// a start pile of `pile` letters, drawn from a seed.
+pub fn mixed(seed: u64, watch: usize, pile: usize) -> Table {
+    let rng = &mut Rng::new(seed);
+    let mut table = Table::new(4, 3, 8);
+    for bits in 1..16 {
+        table.letter(bits);
+    }
+    while table.rules.len() < 200 {
+        add_mixed_rule(&mut table, rng);
+    }
+    while table.watch.len() < watch {
+        let letter = rng.below(15) as u8;
+        table.transition(letter, states(rng, 0, 7), states(rng, 3, 7));
+        drop_twin(&mut table.watch);
+    }
+    add_readable_pile(&mut table, rng, pile);
+    table
+}
+
+/// Adds a rule that writes up to three letters, with no process that its own letter has not.
+fn add_mixed_rule(table: &mut Table, rng: &mut Rng) {
+    let letter = rng.below(15) as u8;
+    let bits = table.letters[usize::from(letter)];
+    let within = |other: &u8| table.letters[usize::from(*other)] & !bits == 0;
+    let letters: Vec<u8> = (0..15).filter(within).collect();
+    let count = rng.below(4);
+    let written: Vec<u8> = (0..count).map(|_| *rng.pick(&letters)).collect();
+    table.rule(letter, states(rng, 0, 2), states(rng, 0, 2), &written);
+    drop_twin(&mut table.rules);
+}
+
+/// A state from `low` to `high` for each of four processes.
+fn states(rng: &mut Rng, low: usize, high: usize) -> Group {
+    std::array::from_fn(|_| rng.between(low, high) as u8)
+}
+
+/// Adds a start pile that rules without written letters take away one by one, and the states that
+/// they lead to as a goal.
+fn add_readable_pile(table: &mut Table, rng: &mut Rng, length: usize) {
+    let plain = table.rules.iter().filter(|rule| rule.written.is_empty());
+    let plain: Vec<&Rule> = plain.collect();
+    let mut at = table.start;
+    for _ in 0..length {
+        let fitting = plain.iter().filter(|rule| joined(at, rule.before) == at);
+        let fitting: Vec<&&Rule> = fitting.collect();
+        let rule = rng.pick(&fitting);
+        at = joined(at, rule.after);
+        table.pile.push(rule.letter);
+    }
+    table.accepting.push(at);
+}
+
+/// Tables of 1,023 to 65,535 records in 2 rounds, each with about twice the records of the one
+/// before. They differ in the number of rules on three and on four processes alone.
+pub fn more_records() -> Vec<Table> {
+    (10..=16).map(|power| wide((1 << power) - 1, 2)).collect()
+}
+
+/// Tables of 100, 200, 400, 800, 1,600, 3,200 and 4,000 rounds with one record in almost each.
+/// They differ in the states that the processes count through.
+pub fn more_rounds() -> Vec<Table> {
+    let states = [
+        [1, 1, 2, 2],
+        [1, 2, 2, 2],
+        [2, 2, 2, 2],
+        [2, 2, 2, 4],
+        [2, 2, 4, 4],
+        [2, 4, 4, 4],
+        [2, 4, 4, 5],
+    ];
+    states.map(|states| wheels(states, 25)).to_vec()
+}
+
 /// All benchmark tables with their names.
 pub fn all() -> Vec<(&'static str, Table)> {
     vec![
@@ -339,6 +441,9 @@ pub fn all() -> Vec<(&'static str, Table)> {
         ("run of 1,000,001 steps", long_run(1_000_001)),
         ("every kind at its ceiling", full_table()),
         ("counter of 1,536 ends, 90 rules", counter()),
+        ("products, one head of 4,096 ends each", products()),
+        ("200 rules on letters of all kinds", mixed(30_302, 0, 1)),
+        ("the same, 200 transitions, pile of 64", mixed(0, 200, 64)),
         ("8 to the 64 paths from the start", many_paths()),
         ("chain of 200 rules", chain()),
         ("200 transitions, one rule", one_rule()),
