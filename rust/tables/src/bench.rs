@@ -353,7 +353,8 @@ pub fn full_table() -> Table {
 }
 
 /// 200 rules on a letter for each of the fifteen sets of processes, `watch` watch transitions and
-/// a start pile of `pile` letters, drawn from a seed.
+/// a start pile of `pile` letters, drawn from a seed. The two benchmark tables have rules of
+/// different draws: the seeds are such that the records and rounds come out as wanted.
 pub fn mixed(seed: u64, watch: usize, pile: usize) -> Table {
     let rng = &mut Rng::new(seed);
     let mut table = Table::new(4, 3, 8);
@@ -443,7 +444,10 @@ pub fn all() -> Vec<(&'static str, Table)> {
         ("counter of 1,536 ends, 90 rules", counter()),
         ("products, one head of 4,096 ends each", products()),
         ("200 rules on letters of all kinds", mixed(30_302, 0, 1)),
-        ("the same, 200 transitions, pile of 64", mixed(0, 200, 64)),
+        (
+            "the same, 200 transitions, pile of 64",
+            mixed(44_284, 200, 64),
+        ),
         ("8 to the 64 paths from the start", many_paths()),
         ("chain of 200 rules", chain()),
         ("200 transitions, one rule", one_rule()),

@@ -216,6 +216,20 @@ fn many_rounds() {
 }
 
 #[test]
+fn benchmark_tables() {
+    assert_eq!(check(&bench::counter()), reachable(1_623, 1_536, 3_094));
+    assert_eq!(check(&bench::products()), reachable(65_535, 2, 5));
+    assert_eq!(check(&bench::many_paths()), reachable(96, 2, 65));
+    assert_eq!(check(&bench::chain()), reachable(200, 200, 200));
+    assert_eq!(check(&bench::one_rule()), reachable(220, 1, 1));
+    assert_eq!(check(&bench::mixed(30_302, 0, 1)), reachable(821, 6, 1));
+    assert_eq!(
+        check(&bench::mixed(44_284, 200, 64)),
+        reachable(2_990, 8, 66)
+    );
+}
+
+#[test]
 fn deep_reasons() {
     let bytes = bench::odometer(8, 15).bytes();
     let (run, _, page) = ran(&bytes, FULL, 66_046);
