@@ -1,5 +1,5 @@
 //! Benchmark tables: large limits, many rounds, a full start pile, long runs, deep reasons, and
-//! every kind at its ceiling.
+//! every kind at its ceiling; and families of tables that grow in one figure.
 
 use crate::model::{Group, NO_PART, Process, Rule, Table, drop_twin, group};
 use crate::named;
@@ -15,38 +15,43 @@ pub fn wide(records: usize, rounds: usize) -> Table {
     let mut table = Table::new(4, 2, 8);
     let singles = add_singles(&mut table);
     let delay = add_delay(&mut table, singles[0], rounds - 2);
-    let missing = records - 4 * 8 - delay;
-    let kinds = [(ALL, 16), (0b0111, 8), (0b0011, 4), (0b1100, 4)];
-    add_limit(&mut table, singles, &kinds, missing);
-    add_ends(&mut table);
-    table
-}
-
-/// As `wide` with 65,535 records in 2 rounds, but with a letter of its own for each rule on four
-/// processes.
-pub fn products() -> Table {
-    let mut table = Table::new(4, 2, 8);
-    let singles = add_singles(&mut table);
-    add_delay(&mut table, singles[0], 0);
-    let mut kinds = vec![(ALL, 1); 15];
-    kinds.extend([(0b0111, 8), (0b0011, 4), (0b1100, 4)]);
-    add_limit(&mut table, singles, &kinds, 65_535 - 4 * 8);
-    add_ends(&mut table);
-    table
-}
-
-/// Adds `missing` records: for each kind (processes, most rules) a letter with as many rules as
-/// fit, and watch transitions for the rest.
-fn add_limit(table: &mut Table, singles: [u8; 4], kinds: &[(u8, usize)], mut missing: usize) {
-    for &(bits, most) in kinds {
+    let mut missing = records - 4 * 8 - delay;
+    for (bits, most) in [(ALL, 16), (0b0111, 8), (0b0011, 4), (0b1100, 4)] {
         let letters = processes(bits).map(|process| singles[process]);
         let letters: Vec<u8> = letters.collect();
         let each = 8usize.pow(bits.count_ones());
         let rules = (missing / each).min(most);
-        add_products(table, bits, &letters, rules);
+        add_products(&mut table, bits, &letters, rules);
         missing -= rules * each;
     }
-    add_filler(table, missing);
+    add_filler(&mut table, missing);
+    add_ends(&mut table);
+    table
+}
+
+/// 65,535 records in 2 rounds by rules alone: letters x0 to x3 lead each process from 0 to any
+/// state, and fifteen letters have one head each, with a rule that writes x0 to x3 and so has
+/// 4,096 ends. Heads of 512, 64, 8 and 1 ends make up the number.
+pub fn products() -> Table {
+    let mut table = Table::new(4, 8, 8);
+    let singles = [0, 1, 2, 3].map(|process| table.letter(1 << process));
+    for single in singles {
+        for state in 0..8 {
+            table.rule(single, [0; 4], [state; 4], &[]);
+        }
+    }
+    for _ in 0..15 {
+        let letter = table.letter(ALL);
+        table.rule(letter, [0; 4], [0; 4], &singles);
+    }
+    for (written, heads) in [(3, 7), (2, 7), (1, 3), (0, 7)] {
+        let letter = table.letter(ALL);
+        for state in 0..heads {
+            table.rule(letter, [state; 4], [0; 4], &singles[..written]);
+        }
+    }
+    add_ends(&mut table);
+    table
 }
 
 /// Starts before the last rule that writes the most letters; each of its processes shall end
@@ -353,8 +358,8 @@ pub fn full_table() -> Table {
 }
 
 /// 200 rules on a letter for each of the fifteen sets of processes, `watch` watch transitions and
-/// a start pile of `pile` letters, drawn from a seed. The two benchmark tables have rules of
-/// different draws: the seeds are such that the records and rounds come out as wanted.
+/// a start pile of `pile` letters, drawn from a seed. The seeds of the two benchmark tables are
+/// such that they have the records and rounds wanted; so their rules are not the same.
 pub fn mixed(seed: u64, watch: usize, pile: usize) -> Table {
     let rng = &mut Rng::new(seed);
     let mut table = Table::new(4, 3, 8);
@@ -445,7 +450,7 @@ pub fn all() -> Vec<(&'static str, Table)> {
         ("products, one head of 4,096 ends each", products()),
         ("200 rules on letters of all kinds", mixed(30_302, 0, 1)),
         (
-            "the same, 200 transitions, pile of 64",
+            "200 rules, 200 transitions, pile of 64",
             mixed(44_284, 200, 64),
         ),
         ("8 to the 64 paths from the start", many_paths()),
