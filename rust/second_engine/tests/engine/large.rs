@@ -230,6 +230,25 @@ fn benchmark_tables() {
 }
 
 #[test]
+fn growing_tables() {
+    let figures = |table: Table| match answered(&table.bytes(), FULL).0 {
+        Answer::Reachable {
+            transitions,
+            rounds,
+            ..
+        } => (transitions, rounds),
+        given => panic!("{given:?}"),
+    };
+    let records = bench::more_records().into_iter().map(figures);
+    let expected = (10..=16).map(|power| ((1 << power) - 1, 2));
+    assert!(records.eq(expected));
+    let rounds = bench::more_rounds()
+        .into_iter()
+        .map(|table| figures(table).1);
+    assert!(rounds.eq([100, 200, 400, 800, 1_600, 3_200, 4_000]));
+}
+
+#[test]
 fn deep_reasons() {
     let bytes = bench::odometer(8, 15).bytes();
     let (run, _, page) = ran(&bytes, FULL, 66_046);
