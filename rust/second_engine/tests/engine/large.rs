@@ -216,6 +216,39 @@ fn many_rounds() {
 }
 
 #[test]
+fn benchmark_tables() {
+    assert_eq!(check(&bench::counter()), reachable(1_623, 1_536, 3_094));
+    assert_eq!(check(&bench::products()), reachable(65_535, 2, 5));
+    assert_eq!(check(&bench::many_paths()), reachable(96, 2, 65));
+    assert_eq!(check(&bench::chain()), reachable(200, 200, 200));
+    assert_eq!(check(&bench::one_rule()), reachable(220, 1, 1));
+    assert_eq!(check(&bench::mixed(30_302, 0, 1)), reachable(821, 6, 1));
+    assert_eq!(
+        check(&bench::mixed(44_284, 200, 64)),
+        reachable(2_990, 8, 66)
+    );
+}
+
+#[test]
+fn growing_tables() {
+    let figures = |table: Table| match answered(&table.bytes(), FULL).0 {
+        Answer::Reachable {
+            transitions,
+            rounds,
+            ..
+        } => (transitions, rounds),
+        given => panic!("{given:?}"),
+    };
+    let records = bench::more_records().into_iter().map(figures);
+    let expected = (10..=16).map(|power| ((1 << power) - 1, 2));
+    assert!(records.eq(expected));
+    let rounds = bench::more_rounds()
+        .into_iter()
+        .map(|table| figures(table).1);
+    assert!(rounds.eq([100, 200, 400, 800, 1_600, 3_200, 4_000]));
+}
+
+#[test]
 fn deep_reasons() {
     let bytes = bench::odometer(8, 15).bytes();
     let (run, _, page) = ran(&bytes, FULL, 66_046);

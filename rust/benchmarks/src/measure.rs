@@ -1,0 +1,184 @@
+//! The time and the instructions of one call on a table, in buffers just long enough and dirty.
+
+use second_engine::Run;
+use std::io::{self, Read, Write};
+use std::process::{Command, Stdio};
+use std::time::{Duration, Instant};
+use std::{env, iter};
+use tables::{Rng, Table};
+
+/// How many calls a median is taken of.
+pub const CALLS: usize = 9;
+/// The first argument of this program when valgrind counts its instructions.
+pub const COUNT: &str = "count";
+/// Lets the C library fill and copy without instructions that repeat, which valgrind would count
+/// once for each byte.
+const NO_REPEATS: &str = "glibc.cpu.x86_rep_stosb_threshold=100000000:\
+                          glibc.cpu.x86_rep_movsb_threshold=100000000";
+
+/// What is said of the buffers.
+pub const LENT: &str =
+    "log and page just long enough; no buffer is cleared before a call: all are dirty";
+
+/// A call of an engine on a table and buffers.
+pub type Call = fn(&[u8], &mut Buffers);
+
+/// A call of the proved engine and the same of the second engine, each with the name by which
+/// valgrind's run is told of it.
+pub type Both = [(&'static str, Call); 2];
+
+pub const RUN: Both = [("run", run_ours), ("second-run", run_second)];
+pub const ANSWER: Both = [("answer", answer_ours), ("second-answer", answer_second)];
+
+fn run_ours(table: &[u8], lent: &mut Buffers) {
+    roskavel::run(table, &mut lent.log, &mut lent.scratch, &mut lent.page);
+}
+
+fn run_second(table: &[u8], lent: &mut Buffers) {
+    second_engine::run(table, &mut lent.log, &mut lent.scratch, &mut lent.page);
+}
+
+fn answer_ours(table: &[u8], lent: &mut Buffers) {
+    roskavel::answer(table, &mut lent.log, &mut lent.scratch);
+}
+
+fn answer_second(table: &[u8], lent: &mut Buffers) {
+    second_engine::answer(table, &mut lent.log, &mut lent.scratch);
+}
+
+/// A table that has a run, with its figures.
+pub struct Bench {
+    table: Vec<u8>,
+    pub records: usize,
+    pub rounds: usize,
+    steps: usize,
+}
+
+impl Bench {
+    /// None if the table has no run.
+    pub fn new(table: &Table) -> Option<Self> {
+        let table = table.bytes();
+        let mut lent = Buffers::new(roskavel::RECORD_CEILING, roskavel::STEP_CEILING);
+        let given = second_engine::run(&table, &mut lent.log, &mut lent.scratch, &mut lent.page);
+        let Run::Reachable {
+            transitions,
+            rounds,
+            steps,
+            ..
+        } = given
+        else {
+            return None;
+        };
+        Some(Bench {
+            table,
+            records: transitions as usize,
+            rounds: rounds as usize,
+            steps: steps as usize,
+        })
+    }
+}
+
+pub struct Buffers {
+    log: Vec<u8>,
+    scratch: Vec<u8>,
+    page: Vec<u16>,
+    /// What the log and the scratch hold before each call.
+    dirt: Vec<u8>,
+}
+
+impl Buffers {
+    fn new(records: usize, steps: usize) -> Self {
+        let log = vec![0; roskavel::log_bytes(records)];
+        let scratch = vec![0; roskavel::scratch_bytes(log.len())];
+        let mut dirt = vec![0; log.len() + scratch.len()];
+        Rng::new(1).fill(&mut dirt);
+        Buffers {
+            log,
+            scratch,
+            page: vec![0; steps],
+            dirt,
+        }
+    }
+
+    fn make_dirty(&mut self) {
+        let (log, scratch) = self.dirt.split_at(self.log.len());
+        self.log.copy_from_slice(log);
+        self.scratch.copy_from_slice(scratch);
+        self.page.fill(0xA5A5);
+    }
+}
+
+/// The median time of a call, in dirty buffers.
+pub fn milliseconds(bench: &Bench, call: Call) -> f64 {
+    let mut lent = Buffers::new(bench.records, bench.steps);
+    median_of(|| {
+        lent.make_dirty();
+        time_of(|| call(&bench.table, &mut lent))
+    })
+}
+
+pub fn time_of(call: impl FnOnce()) -> Duration {
+    let begin = Instant::now();
+    call();
+    begin.elapsed()
+}
+
+/// The median of times, in milliseconds.
+pub fn median_of(time: impl FnMut() -> Duration) -> f64 {
+    let mut times: Vec<Duration> = iter::repeat_with(time).take(CALLS).collect();
+    times.sort();
+    times[CALLS / 2].as_secs_f64() * 1_000.0
+}
+
+/// The instructions of one call of each engine; none without valgrind.
+pub fn instructions_of_both(bench: &Bench, both: &Both) -> Option<[u64; 2]> {
+    let [(ours, _), (second, _)] = both;
+    Some([instructions(bench, ours)?, instructions(bench, second)?])
+}
+
+/// The instructions of one call: those of this program with two calls, less those with one.
+fn instructions(bench: &Bench, call: &str) -> Option<u64> {
+    instructions_with(bench, call, 2)?.checked_sub(instructions_with(bench, call, 1)?)
+}
+
+/// The instructions of this program with some calls. It gets the table by its standard input.
+fn instructions_with(bench: &Bench, call: &str, calls: usize) -> Option<u64> {
+    let numbers = [bench.records, bench.steps, calls];
+    let mut counted = Command::new("valgrind")
+        .env("GLIBC_TUNABLES", NO_REPEATS)
+        .args(["--tool=callgrind", "--callgrind-out-file=/dev/null"])
+        .arg(env::current_exe().ok()?)
+        .args([COUNT, call])
+        .args(numbers.map(|number| number.to_string()))
+        .stdin(Stdio::piped())
+        .stderr(Stdio::piped())
+        .spawn()
+        .ok()?;
+    counted.stdin.take()?.write_all(&bench.table).ok()?;
+    let output = counted.wait_with_output().ok()?;
+    let text = String::from_utf8(output.stderr).ok()?;
+    let (_, after) = text.split_once("Collected : ")?;
+    after.split_whitespace().next()?.parse().ok()
+}
+
+/// What valgrind counts: buffers made dirty twice, and one call or two.
+pub fn be_counted(call: &str, numbers: &[&str]) {
+    let numbers = numbers
+        .iter()
+        .map(|number| number.parse().expect("a number"));
+    let [records, steps, calls] = numbers.collect::<Vec<usize>>()[..] else {
+        panic!("three numbers are counted by");
+    };
+    let all = [RUN, ANSWER].concat();
+    let call = all.iter().find(|(name, _)| *name == call);
+    let (_, call) = call.expect("a call");
+    let mut table = Vec::new();
+    io::stdin().read_to_end(&mut table).expect("a table");
+    let mut lent = Buffers::new(records, steps);
+    for turn in 0..2 {
+        lent.make_dirty();
+        if turn < calls {
+            call(&table, &mut lent);
+        }
+    }
+}
