@@ -1,10 +1,14 @@
 // The accepted test (document 01: watched). The word is read letter by letter with the set of the states that the letters so far lead
-// to: bytes 0 to 511 of the scratch. The states that one letter more leads to are collected in bytes 512 to 1,023.
+// to; those that one letter more leads to are collected in a second set.
 use automaton::groups;
 use automaton::sets;
 use automaton::states;
 use model::Group;
 use numbers::wide;
+use scratch::HERE;
+use scratch::SET_BYTES;
+use scratch::THERE;
+use scratch::THERE_END;
 use shapes::move_front;
 use shapes::present;
 use table::Table;
@@ -81,8 +85,8 @@ fn read_member(table: &[u8], t: Table, letter: u8, n: usize, scratch: &mut [u8])
     ensures { λ r. ⌜ (here (now (scratch .exit)) ≡ here (now (scratch .entry))) × (r ≡ nextMember (here (now (scratch .entry))) (n + 1)) × Extends (systemIn (now (table .entry))) (presentIn t) (there (now (scratch .entry))) (there (now (scratch .exit))) (λ w. acceptsFrom (systemIn (now (table .entry))) (letter ∷ w) (groupNumbered (presentIn t) n)) ⌝ }
 {
     let g = states::numbered(present(t), n);
-    follow_all(table, t, letter, g, &mut scratch[512..1024]);
-    sets::next_member(&scratch[0..512], n + 1)
+    follow_all(table, t, letter, g, &mut scratch[THERE..THERE_END]);
+    sets::next_member(&scratch[HERE..THERE], n + 1)
 }
 
 // Puts in the states that the letter leads to from the states of the set.
@@ -90,7 +94,7 @@ fn read_members(table: &[u8], t: Table, letter: u8, scratch: &mut [u8])
     requires { ⌜ Holds (now table) t × (1024 ≤ length (now scratch)) ⌝ }
     ensures { λ _. ⌜ Extends (systemIn (now (table .entry))) (presentIn t) (there (now (scratch .entry))) (there (now (scratch .exit))) (λ w. someAccepts (systemIn (now (table .entry))) (presentIn t) (here (now (scratch .entry))) (letter ∷ w)) ⌝ }
 {
-    let mut n = sets::next_member(&scratch[0..512], 0);
+    let mut n = sets::next_member(&scratch[HERE..THERE], 0);
     while n < 4096 {
         n = read_member(table, t, letter, n, scratch);
     }
@@ -101,9 +105,9 @@ fn read_letter(table: &[u8], t: Table, letter: u8, scratch: &mut [u8])
     requires { ⌜ Holds (now table) t × (1024 ≤ length (now scratch)) ⌝ }
     ensures { λ _. ⌜ ((w : List ℕ) → someAccepts (systemIn (now (table .entry))) (presentIn t) (here (now (scratch .exit))) w ≡ someAccepts (systemIn (now (table .entry))) (presentIn t) (here (now (scratch .entry))) (letter ∷ w)) ⌝ }
 {
-    sets::clear(&mut scratch[512..1024]);
+    sets::clear(&mut scratch[THERE..THERE_END]);
     read_members(table, t, letter, scratch);
-    move_front(scratch, 512, 512);
+    move_front(scratch, THERE, SET_BYTES);
 }
 
 // Reads the whole word.
@@ -162,9 +166,9 @@ pub fn is_accepted(table: &[u8], t: Table, word: &[u8], states: Group, scratch: 
     requires { ⌜ Holds (now table) t × Over (presentIn t) states × (1024 ≤ length (now scratch)) ⌝ }
     ensures { λ r. ⌜ (r ≡ acceptsFrom (systemIn (now (table .entry))) (now (word .entry)) states) × (now (scratch .exit) ≡ zeros (now (scratch .entry))) ⌝ }
 {
-    put_start(states, &mut scratch[0..512]);
+    put_start(states, &mut scratch[HERE..THERE]);
     read_word(table, t, word, scratch);
-    let accepted = has_accepting(table, t, &scratch[0..512]);
+    let accepted = has_accepting(table, t, &scratch[HERE..THERE]);
     sets::clear(scratch);
     accepted
 }

@@ -5,6 +5,8 @@ use model::Ran;
 use records::RECORD_LENGTH;
 use saturate::Saturated;
 use saturate::saturate;
+use scratch::NEEDED;
+use scratch::NEEDED_PER_RECORD;
 use table::Parsed;
 use table::Table;
 use table::read;
@@ -23,11 +25,6 @@ ghost use Rattle.table.specs.Reading.{Holds};
 ghost use Rattle.reach.specs.Outcomes.{Roomy, LogLeft, Answers, Runs};
 
 const MOST_RECORDS: usize = 65535;
-
-// What check 15 asks of the scratch: so many bytes, and more for each record that the log can hold.
-const SCRATCH_BASE: usize = 34000;
-
-const SCRATCH_PER_RECORD: usize = 6;
 
 // The number of whole records that a log of this length can hold, at most 65,535.
 fn records_in(size: usize) -> usize
@@ -64,7 +61,7 @@ fn answer_table(table: &[u8], t: Table, log: &mut [u8], scratch: &mut [u8]) -> A
     ensures { λ r. ⌜ Answers (answerCall (now (table .entry)) (now (log .entry)) (now (scratch .entry))) r (now (log .exit)) (now (scratch .exit)) ⌝ }
 {
     let n = records_in(log.len());
-    if scratch.len() < SCRATCH_BASE + SCRATCH_PER_RECORD * n {
+    if scratch.len() < NEEDED + NEEDED_PER_RECORD * n {
         return Answered::Refused {
             number: 15,
             place: 0,
@@ -93,7 +90,7 @@ fn run_table(table: &[u8], t: Table, log: &mut [u8], scratch: &mut [u8], page: &
     ensures { λ r. ⌜ Runs (runCall (now (table .entry)) (now (log .entry)) (now (scratch .entry)) (now (page .entry))) r (now (log .exit)) (now (scratch .exit)) (now (page .exit)) ⌝ }
 {
     let n = records_in(log.len());
-    if scratch.len() < SCRATCH_BASE + SCRATCH_PER_RECORD * n {
+    if scratch.len() < NEEDED + NEEDED_PER_RECORD * n {
         return Ran::Refused {
             number: 15,
             place: 0,

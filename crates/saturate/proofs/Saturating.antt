@@ -21,13 +21,13 @@ use Rattle.model.proofs.Tests.{and-left, and-right, by-test}
 use Rattle.saturate.specs.declared.Saturated.{Saturated}
 use Rattle.saturate.specs.declared.Saturated.the-variants.{Limit, Full}
 use Rattle.table.specs.declared.Table.{Table}
-use Rattle.scratch.specs.Regions.{ringsAt}
+use Rattle.scratch.specs.Regions.{ringsAt, transitionCodesAt}
 use Rattle.rings.specs.Rings.{RingRoom, Ringed}
 use Rattle.heads.specs.Rounds.{Prepared}
 use Rattle.saturate.specs.Limits.{SaturatedDone, SaturatedFull, SaturatedLimit}
 use Rattle.saturate.specs.Rounds.{Logged, RoundAdded, RoundBegins, ScratchReady}
 use Rattle.sorting.specs.Sorting.{keyPlace}
-use Rattle.initial.specs.Initial.{codesAt, initialLog, withInitial}
+use Rattle.initial.specs.Initial.{initialLog, withInitial}
 use Rattle.table.specs.Reading.{Holds, itemsIn, systemIn}
 use Rattle.logs.proofs.Rules.{transitions-distinct}
 use Rattle.model.proofs.RecordBytes.{length-log}
@@ -180,7 +180,7 @@ module _ (table : List ℕ) (t : Table) (n : ℕ) (holds : Holds table t) where
   initial-size = initial-length (systemIn table) (transitions-distinct table t holds) ∙ transitions-count table t holds
 
   -- the codes of the transitions have room
-  pub codes-room : (s : List ℕ) → ringsAt + 6 * n ≤ length s → keyPlace codesAt (t .transitions + t .transitions) ≤ length s
+  pub codes-room : (s : List ℕ) → ringsAt + 6 * n ≤ length s → keyPlace transitionCodesAt (t .transitions + t .transitions) ≤ length s
   codes-room s scratch = omega (arith, table-modest table t holds .transitions)
 
   module _ (log s log′ s′ : List ℕ) (kept : length s′ ≡ length s) (e : log′ ≡ initialLog (systemIn table) log (t .transitions) n) where

@@ -10,6 +10,7 @@ use rules::activate_all;
 use rules::mark_writers;
 use rules::next_active;
 use rules::order_rules;
+use scratch::DEPTH_BYTES;
 use scratch::PASSED;
 use scratch::RINGS;
 use table::Table;
@@ -33,7 +34,7 @@ pub fn prepare(table: &[u8], t: Table, log: &[u8], scratch: &mut [u8], n: usize)
 {
     order_rules(table, t, scratch);
     mark_writers(table, t, scratch);
-    clear_part(scratch, PASSED, PASSED + 1024);
+    clear_part(scratch, PASSED, PASSED + DEPTH_BYTES);
     rings::clear(log, scratch, RINGS, n);
 }
 

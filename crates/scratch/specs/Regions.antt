@@ -1,6 +1,7 @@
 -- The regions of the scratch by their offsets, as the code has them. A set of state numbers at an offset is bits of the scratch.
 use mathlib.Core.Bool.{Bool, cond}
-use Prim.Native.Nat.{ℕ, _+_, _*_}
+use mathlib.Core.List.{List, [], _∷_}
+use Prim.Native.Nat.{ℕ, _+_, _*_, _≤_}
 
 -- how many bytes and numbers a set has
 abbrev pub setBytes : ℕ
@@ -9,6 +10,12 @@ setBytes = 512
 abbrev pub setNumbers : ℕ
 setNumbers = 4096
 
+-- ---- round 0
+-- the codes of the transitions
+abbrev pub transitionCodesAt : ℕ
+transitionCodesAt = 0
+
+-- ---- rounds
 abbrev pub seenAt : ℕ
 seenAt = 0
 
@@ -46,12 +53,63 @@ writersAt = 1400
 abbrev pub passedAt : ℕ
 passedAt = 2424
 
-abbrev pub codesAt : ℕ
-codesAt = 2424
-
 -- the bit of the state m at a depth, come by with a record of the last round or without one
 abbrev pub passedBit : ℕ → Bool → ℕ → ℕ
 passedBit level found m = 8 * passedAt + (2 * level + cond found 1 0) * setNumbers + m
 
+abbrev pub ruleCodesAt : ℕ
+ruleCodesAt = 2424
+
+-- the rings of the records
 abbrev pub ringsAt : ℕ
 ringsAt = 34000
+
+-- ---- the start's path
+-- the sets of states, one for each letter of the longest start word and the last one
+abbrev pub setsAt : ℕ
+setsAt = 0
+
+-- the stack of record numbers
+abbrev pub stackAt : ℕ
+stackAt = 33872
+
+-- ---- a walk
+-- the states that the letters read so far lead to, and those that one letter more leads to
+abbrev pub hereAt : ℕ
+hereAt = 0
+
+abbrev pub thereAt : ℕ
+thereAt = 512
+
+-- ---- regions that do not meet
+-- a region: its first byte and its length
+pub record Region : Type 0 where
+  pub at : ℕ
+  pub size : ℕ
+
+-- each region ends before the next one begins, and the last one before a byte
+abbrev pub Apart : List Region → ℕ → Type 0
+Apart [] end = Unit {0}
+Apart (r ∷ []) end = r .at + r .size ≤ end
+Apart (r ∷ q ∷ rs) end = (r .at + r .size ≤ q .at) × Apart (q ∷ rs) end
+
+abbrev pub region : ℕ → ℕ → Region
+region at size = record { at = at; size = size }
+
+-- while the rules are sorted and their writers marked
+abbrev pub ruleRegions : List Region
+ruleRegions = region orderAt 200 ∷ region activeAt 32 ∷ region writersAt (32 * 32) ∷ region ruleCodesAt (8 * 200) ∷ []
+
+-- in a round; what saturation uses beside the rings ends before byte 9,000
+abbrev pub roundRegions : List Region
+roundRegions =
+    region seenAt setBytes ∷ region newAt setBytes ∷ region countsAt 128 ∷ region orderAt 200 ∷ region activeAt 32 ∷ region writersAt (32 * 32)
+    ∷ region passedAt (12 * setBytes) ∷ []
+
+-- while the start's path is looked for, in a log of n records
+abbrev pub startRegions : ℕ → List Region
+startRegions n = region setsAt (65 * setBytes) ∷ region stackAt 128 ∷ region ringsAt (6 * n) ∷ []
+
+-- while a walk tells whether a configuration is accepted
+abbrev pub walkRegions : List Region
+walkRegions = region hereAt setBytes ∷ region thereAt setBytes ∷ []

@@ -1,7 +1,22 @@
-// Where everything stands in the scratch. Saturation uses the first 9,000 bytes and the rings; the start's path the 65 sets, the stack and the rings.
+// Where everything stands in the scratch, phase by phase. Saturation uses the first 9,000 bytes and the rings; the start's path 65 sets, the stack and the
+// rings. specs/Regions.antt has the same regions for proofs, and the law that those of one phase do not meet.
+
+// The bytes of a set of state numbers.
+pub const SET_BYTES: usize = 512;
+
+// ---- what is asked of the scratch (document 01, check 15): so many bytes and more for each record that the log can hold; so many for a walk
+pub const NEEDED: usize = 34000;
+
+pub const NEEDED_PER_RECORD: usize = 6;
+
+pub const NEEDED_BY_WALK: usize = 2048;
+
+// ---- round 0
+// The codes of the transitions while they are sorted, with room for as many behind them: 8 bytes for each of 200.
+pub const TRANSITION_CODES: usize = 0;
 
 // ---- rounds
-// The ends that the search of a head came by: a set of state numbers, 512 bytes.
+// The ends that the search of a head came by: a set.
 pub const SEEN: usize = 0;
 
 // The ends of a head's new records, a set too, and for each 64 numbers of it a count of 16 bits.
@@ -17,11 +32,26 @@ pub const ACTIVE: usize = 1368;
 
 pub const WRITERS: usize = 1400;
 
-// The states that a search has gone through, for each depth a set of those come by without a record of the last round and one of those with: 12 times
-// 512 bytes. Before the first round the codes of the rules are sorted there.
+// The states that a search has gone through: for each of 6 depths a set of those come by without a record of the last round, and one of those with.
+// Before the first round the codes of the rules are sorted there, 8 bytes for each of 200.
 pub const PASSED: usize = 2424;
+
+pub const DEPTH_BYTES: usize = 2 * SET_BYTES;
 
 pub const RULE_CODES: usize = 2424;
 
-// The rings of the records.
+// ---- rounds and the start's path
+// The rings of the records, 6 bytes for each.
 pub const RINGS: usize = 34000;
+
+// ---- the start's path and its unfolding
+// The stack of record numbers, 16 bits each: 64 for the start's path, and then over the rings, which the unfolding does not need.
+pub const STACK: usize = 33872;
+
+// ---- a walk
+// The states that the letters read so far lead to, and those that one letter more leads to: two sets.
+pub const HERE: usize = 0;
+
+pub const THERE: usize = 512;
+
+pub const THERE_END: usize = 1024;

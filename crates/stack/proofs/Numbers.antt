@@ -9,7 +9,8 @@ use lib.ListN.{length, getD}
 use Rattle.model.specs.Records.{numberAt}
 use Rattle.numbers.specs.NumberBytes.{withNumber}
 use Rattle.numbers.proofs.NumberBytes.{number-kept, number-same, number-written}
-use Rattle.stack.specs.StackNumbers.{stackBase, stackPlace, numbersDown, stackOf}
+use Rattle.scratch.specs.Regions.{stackAt}
+use Rattle.stack.specs.StackNumbers.{stackPlace, numbersDown, stackOf}
 
 pub length-down : (s : List ℕ) (at k : ℕ) → length (numbersDown s at k) ≡ k
 unfolding numbersDown
@@ -57,4 +58,4 @@ stack-top s top h = let e : top ≡ suc (top - 1) = omega arith in ap (λ (k : �
 -- a number put on top
 pub stack-push : (s : List ℕ) (top x : ℕ) → stackPlace top + 2 ≤ length s → x < 65536 → stackOf (withNumber 2 s (stackPlace top) x) (top + 1) ≡ x ∷ stackOf s top
 unfolding numbersDown
-stack-push s top x h f = rw add-one (ap₂ (λ (y : ℕ) (l : List ℕ). y ∷ l) (number-written 2 s (stackPlace top) x h f) (down-above s stackBase top (stackPlace top) x (omega arith)))
+stack-push s top x h f = rw add-one (ap₂ (λ (y : ℕ) (l : List ℕ). y ∷ l) (number-written 2 s (stackPlace top) x h f) (down-above s stackAt top (stackPlace top) x (omega arith)))

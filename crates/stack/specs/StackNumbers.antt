@@ -2,14 +2,11 @@
 use mathlib.Core.List.{List, [], _∷_}
 use Prim.Native.Nat.{ℕ, zero, suc, _+_, _*_}
 use Rattle.model.specs.Records.{numberAt}
-
--- where the stack begins: 128 bytes for the start's path, and then the 6 bytes that the scratch has for each record
-abbrev pub stackBase : ℕ
-stackBase = 33872
+use Rattle.scratch.specs.Regions.{stackAt}
 
 -- where number k stands
 abbrev pub stackPlace : ℕ → ℕ
-stackPlace k = stackBase + 2 * k
+stackPlace k = stackAt + 2 * k
 
 -- k numbers from the offset `at` on, the last first
 unfoldable pub numbersDown : List ℕ → ℕ → ℕ → List ℕ
@@ -18,4 +15,4 @@ numbersDown s at (suc k) = numberAt 2 s (at + 2 * k) ∷ numbersDown s at k
 
 -- a stack of so many numbers, the top first
 abbrev pub stackOf : List ℕ → ℕ → List ℕ
-stackOf s top = numbersDown s stackBase top
+stackOf s top = numbersDown s stackAt top

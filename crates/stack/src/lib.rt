@@ -2,6 +2,7 @@
 use numbers::put_two;
 use numbers::two_at;
 use numbers::wide_two;
+use scratch::STACK;
 ghost use mathlib.Core.Path.{_≡_};
 ghost use Prim.Native.Nat.{_+_, _≤_};
 ghost use lib.ListN.{length};
@@ -9,18 +10,16 @@ ghost use Rattle.model.specs.Records.{numberAt};
 ghost use Rattle.numbers.specs.NumberBytes.{withNumber};
 ghost use Rattle.stack.specs.StackNumbers.{stackPlace};
 
-const STACK_BASE: usize = 33872;
-
 pub fn number_at(scratch: &[u8], k: usize) -> usize
     requires { ⌜ stackPlace k + 2 ≤ length (now scratch) ⌝ }
     ensures { λ r. ⌜ r ≡ numberAt 2 (now (scratch .entry)) (stackPlace k) ⌝ }
 {
-    wide_two(two_at(scratch, STACK_BASE + 2 * k))
+    wide_two(two_at(scratch, STACK + 2 * k))
 }
 
 pub fn put_number(scratch: &mut [u8], k: usize, x: u16)
     requires { ⌜ stackPlace k + 2 ≤ length (now scratch) ⌝ }
     ensures { λ _. ⌜ now (scratch .exit) ≡ withNumber 2 (now (scratch .entry)) (stackPlace k) x ⌝ }
 {
-    put_two(scratch, STACK_BASE + 2 * k, x);
+    put_two(scratch, STACK + 2 * k, x);
 }

@@ -29,14 +29,14 @@ use Rattle.numbers.proofs.NumberBytes.{byte-kept, length-number}
 use Rattle.table.specs.declared.Table.{Table}
 use Rattle.table.specs.Reading.{Holds, systemIn, pileIn}
 use Rattle.table.proofs.Layouts.{table-modest}
-use Rattle.stack.specs.StackNumbers.{stackBase, stackPlace, numbersDown, stackOf}
+use Rattle.stack.specs.StackNumbers.{stackPlace, numbersDown, stackOf}
 use Rattle.stack.specs.RoundLogs.{RoundLog, SomeRound, EachRound}
 use Rattle.stack.proofs.Numbers.{down-more}
 use Rattle.stack.proofs.RoundLogs.{round-fits, round-reads}
 use Rattle.start.specs.declared.Letter.{Letter}
 use Rattle.start.specs.declared.StartPath.the-variants.{NoPath, Found}
 use Rattle.start.specs.declared.Trace.{Trace}
-use Rattle.scratch.specs.Regions.{ringsAt}
+use Rattle.scratch.specs.Regions.{ringsAt, stackAt}
 use Rattle.start.specs.Regions.{setAt, SameBut}
 use Rattle.start.specs.RestSets.{processesOfTable, LetterAt, firstLead, acceptsFrom, SetRight, RightForLog, SetsReady, startIn}
 use Rattle.start.specs.Search.{pathFrom, roundPath, OnPath, Underway, Advanced, PathWritten, startFound, Sought}
@@ -148,7 +148,7 @@ soFar t i s = numbersDown s (stackPlace (t .pile - i)) i
 
 pub record Tracing (table : List ℕ) (t : Table) (log : List ℕ) (count : ℕ) (s : List ℕ) (i : ℕ) (s′ : List ℕ) (c : Trace) : Type 0 where
   pub few : i ≤ t .pile
-  pub same : SameBut stackBase ringsAt s s′
+  pub same : SameBut stackAt ringsAt s s′
   pub on-path : OnPath table t log count i c
   pub path : EachRound table t log count (λ (round : ℕ). roundPath table round ≡ Option·map (prepend (soFar t i s′)) (pathFrom table round i (c .state)))
   pub figure : EachRound table t log count (λ (round : ℕ). c .steps ≡ pathSteps (logAt (systemIn table) round) (soFar t i s′))
@@ -163,7 +163,7 @@ pub tracing-start : (table : List ℕ) (t : Table) (log : List ℕ) (count : ℕ
 unfolding numbersDown
 tracing-start table t log count s c holds right good e z = record {
   few = omega arith;
-  same = same-none stackBase ringsAt s;
+  same = same-none stackAt ringsAt s;
   on-path = record {
     over = subst (Over (processesOfTable t)) (sym e) (grounds table t holds .start);
     accepted = λ round lent. ap (acceptsFrom table round 0) e ∙ sym (start-right s right round lent) ∙ good;
@@ -185,7 +185,7 @@ tracing-underway {table} {t} {i = i} lent sets w inside =
       on-path = w .on-path;
     }
 
-word-only : (s : List ℕ) (at x : ℕ) → stackBase ≤ at → at + 2 ≤ ringsAt → SameBut stackBase ringsAt s (withNumber 2 s at x)
+word-only : (s : List ℕ) (at x : ℕ) → stackAt ≤ at → at + 2 ≤ ringsAt → SameBut stackAt ringsAt s (withNumber 2 s at x)
 word-only s at x h l = record {
   size = length-number 2 s at x;
   before = λ i b. byte-kept 2 s at x i (inl (omega arith));
@@ -209,7 +209,7 @@ module _ {table : List ℕ} {t : Table} {log : List ℕ} {count : ℕ} {s s′ s
   pub tracing-turn : Tracing table t log count s (i + 1) s″ d
   tracing-turn = record {
     few = omega arith;
-    same = same-join (w .same) (subst (SameBut stackBase ringsAt s′) (sym (v .written)) (word-only s′ place (v .number) (omega arith) (omega arith)));
+    same = same-join (w .same) (subst (SameBut stackAt ringsAt s′) (sym (v .written)) (word-only s′ place (v .number) (omega arith) (omega arith)));
     on-path = v .on-path;
     path = λ round lent. w .path round lent ∙ ap (λ (o : Option Path). Option·map (prepend (soFar t i s′)) o) (v .first round lent)
         ∙ prepend-more (soFar t i s′) (v .number) (pathFrom table round (i + 1) (d .state))
@@ -234,7 +234,7 @@ pub tracing-end : {table : List ℕ} {t : Table} {log : List ℕ} {count : ℕ} 
     → Tracing table t log count s i s′ c → EachRound table t log count (λ (round : ℕ). PathWritten table t round s′ (c .steps))
 tracing-end {table} {t} {s′ = s′} {i = i} {c = c} size h w round lent =
     let e : i ≡ t .pile = omega (arith, w .few) in
-    let base : stackPlace (t .pile - i) ≡ stackBase = omega arith in
+    let base : stackPlace (t .pile - i) ≡ stackAt = omega arith in
     let all : stackOf s′ (t .pile) ≡ soFar t i s′ = sym (ap₂ (λ (b k : ℕ). numbersDown s′ b k) base e) in
     let last = path-end (systemIn table) (logAt (systemIn table) round) (drop i (systemIn table .start .word)) (c .state)
     (drop-of-length-le (systemIn table .start .word) {i = i} (omega arith)) (w .on-path .accepted round lent) in

@@ -14,7 +14,8 @@ use Rattle.model.specs.Records.{placeAt}
 use Rattle.records.specs.Entries.{pathPlace}
 use Rattle.numbers.specs.NumberBytes.{withNumber}
 use Rattle.numbers.proofs.NumberBytes.{length-number}
-use Rattle.stack.specs.StackNumbers.{stackBase, stackPlace, stackOf}
+use Rattle.scratch.specs.Regions.{stackAt}
+use Rattle.stack.specs.StackNumbers.{stackPlace, stackOf}
 use Rattle.stack.proofs.Numbers.{length-down, stack-push}
 use Rattle.unfold.specs.Turns.{placed, placesFrom, places, StackRoom, Pushed}
 
@@ -80,8 +81,8 @@ pub pushing-room : {log s : List ℕ} {top x j : ℕ} {s′ : List ℕ} {height 
     → StackRoom s′ (height + length (placed (placeAt log x (j - 1)) []))
 pushing-room {log} {s} {top} {x} {j} {s′} {height} h room p =
     let tall : height ≡ length (placesFrom log x j (4 - j)) + top =
-    sym (length-down s′ stackBase height) ∙ ap length (p .pushed .stack) ∙ length-append (placesFrom log x j (4 - j)) (stackOf s top)
-    ∙ ap (λ (k : ℕ). length (placesFrom log x j (4 - j)) + k) (length-down s stackBase top) in
+    sym (length-down s′ stackAt height) ∙ ap length (p .pushed .stack) ∙ length-append (placesFrom log x j (4 - j)) (stackOf s top)
+    ∙ ap (λ (k : ℕ). length (placesFrom log x j (4 - j)) + k) (length-down s stackAt top) in
     let all : length (placesFrom log x (j - 1 + 0) (4 - (j - 1))) ≤ length (placesFrom log x 0 (j - 1 + (4 - (j - 1)))) = places-fewer log x (j - 1) 0 (4 - (j - 1)) in
     let whole : length (placesFrom log x 0 (j - 1 + (4 - (j - 1)))) ≡ length (places log x) = ap (λ (k : ℕ). length (placesFrom log x 0 k)) (omega (arith, p .left)) in
     let same : length (placesFrom log x (j - 1 + 0) (4 - (j - 1))) ≡ length (placesFrom log x (j - 1) (4 - (j - 1))) = ap (λ (k : ℕ). length (placesFrom log x k (4 - (j - 1)))) (omega arith) in

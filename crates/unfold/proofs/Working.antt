@@ -21,7 +21,8 @@ use Rattle.records.specs.Entries.{Reads, Fits}
 use Rattle.table.specs.declared.Table.{Table}
 use Rattle.table.specs.Reading.{systemIn, ruleIn}
 use Rattle.table.proofs.Layouts.{table-modest, rules-count, pile-count, written-few}
-use Rattle.stack.specs.StackNumbers.{stackBase, numbersDown, stackOf}
+use Rattle.scratch.specs.Regions.{stackAt}
+use Rattle.stack.specs.StackNumbers.{numbersDown, stackOf}
 use Rattle.stack.specs.RoundLogs.{LimitLog, scratchFor}
 use Rattle.stack.proofs.Numbers.{length-down, stack-top}
 use Rattle.stack.proofs.RoundLogs.{holds-well-formed, holds-control, round-fits, round-reads, round-has, limit-earlier}
@@ -93,7 +94,7 @@ module _ {table : List ℕ} {t : Table} {log : List ℕ} {count : ℕ} (lent : L
         let rule : ruleAt log x ≡ recordAt records x .rule = reads .rule in
         record {
           room = high (w .top - 1 + length (places log x)) (recordAt records x .path ++ xs)
-              (length-append (recordAt records x .path) xs ∙ omega (arith, ap length (path-is n), length-down s stackBase (w .top - 1)))
+              (length-append (recordAt records x .path) xs ∙ omega (arith, ap length (path-is n), length-down s stackAt (w .top - 1)))
               (path-low sys records (limit-earlier table) located (stackOf s₀ top) page₀ x xs page (w .rules) (w .length) (w .highest) z opened few);
           page-room = page-room sys records (limit-earlier table) located (stackOf s₀ top) page₀ x xs page (w .rules) (w .length) (w .highest) z opened (ready .fits);
           rule = omega (arith, rule-inside sys records (limit-earlier table) located (stackOf s₀ top) page₀ x xs page (w .rules) (w .length) (w .highest) z opened, rules-count table t (lent .holds));
@@ -106,7 +107,7 @@ module _ {table : List ℕ} {t : Table} {log : List ℕ} {count : ℕ} (lent : L
     working-workable = record {
       holds = lent .holds;
       some = some;
-      room = high (w .top) (stackOf s (w .top)) (length-down s stackBase (w .top)) (v .going .low);
+      room = high (w .top) (stackOf s (w .top)) (length-down s stackAt (w .top)) (v .going .low);
       has = round-has lent x inside;
       replaceable = replaceable;
     }
@@ -148,7 +149,7 @@ module _ {table : List ℕ} {t : Table} {log : List ℕ} {count : ℕ} (lent : L
           let q = d .replaced n in
           let few : length (places log x) ≤ 4 = subst (λ (l : List ℕ). length l ≤ 4) (sym (path-is n)) (fits .short) in
           let tall : r .top ≡ length (places log x) + (w .top - 1) =
-          sym (length-down s′ stackBase (r .top)) ∙ ap length (q .pushed .stack) ∙ length-append (places log x) xs ∙ ap (λ (k : ℕ). length (places log x) + k) (length-down s stackBase (w .top - 1)) in
+          sym (length-down s′ stackAt (r .top)) ∙ ap length (q .pushed .stack) ∙ length-append (places log x) xs ∙ ap (λ (k : ℕ). length (places log x) + k) (length-down s stackAt (w .top - 1)) in
           let room : w .rules < length page = replaceable n .page-room in
           omega (arith, q .rules, opened .size)
     ]

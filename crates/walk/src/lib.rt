@@ -6,6 +6,7 @@ use firing::Placed;
 use firing::fire;
 use model::Walked;
 use numbers::wide_two;
+use scratch::NEEDED_BY_WALK;
 use shapes::move_front;
 use table::Parsed;
 use table::Table;
@@ -192,7 +193,7 @@ fn walk_accepted(
     requires { ⌜ Holds (now table) t ⌝ }
     ensures { λ r. ⌜ Halts (walkCall (now (table .entry)) (now (list .entry)) (now (pile .entry)) (now (scratch .entry))) (now (list .entry)) r (now (pile .exit)) (now (scratch .exit)) ⌝ }
 {
-    if scratch.len() < 2048 {
+    if scratch.len() < NEEDED_BY_WALK {
         return halt_before(15, 0, list);
     }
     let count = t.pile;

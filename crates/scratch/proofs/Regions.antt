@@ -1,0 +1,20 @@
+-- The regions of one phase do not meet.
+use mathlib.Core.List.{[], _∷_}
+use Prim.Native.Nat.{ℕ, _+_, _*_}
+use native.Mathlib.Omega.{arith}
+use Rattle.scratch.specs.Regions.{Apart, region, ringsAt, roundRegions, ruleRegions, startRegions, transitionCodesAt, walkRegions}
+
+pub initial-fits : Apart (region transitionCodesAt (8 * 200) ∷ []) 9000
+initial-fits = omega arith
+
+pub rules-apart : Apart ruleRegions 9000
+rules-apart = (omega arith, (omega arith, (omega arith, omega arith)))
+
+pub rounds-apart : Apart roundRegions 9000
+rounds-apart = (omega arith, (omega arith, (omega arith, (omega arith, (omega arith, (omega arith, omega arith))))))
+
+pub start-apart : (n : ℕ) → Apart (startRegions n) (ringsAt + 6 * n)
+start-apart n = (omega arith, (omega arith, omega arith))
+
+pub walk-apart : Apart walkRegions 2048
+walk-apart = (omega arith, omega arith)
