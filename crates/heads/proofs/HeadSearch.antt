@@ -133,234 +133,202 @@ module _ (table : List ℕ) (t : Table) (holds : Holds table t) where
       ap₂ (λ (x y : ℕ). eqb (ruleIn table k .letter) x && eqb (packed (ruleIn table k .before)) y) (o .letter) (o .before)
       ∙ ap (λ (v : Bool). eqb (ruleIn table k .letter) (ruleIn table h .letter) && v) (same-bits (ruleIn table k .before) (ruleIn table h .before) (bytes-before k b) (bytes-before h a))
 
-  module _ (round : Round) (head : Head) (from count : ℕ) (log₀ s₀ : List ℕ) (here : InRound table t round log₀ s₀) (within : from < t .rules) (lead : inSet s₀ activeAt from ≡ true) (first : Leading table s₀ from)
-      (of : HeadOf table (orderedRule s₀ from) head) (low : round .base ≤ count) (fits : count ≤ round .n) where
-    abbrev R : List Record
-    R = earlierLog table (round .number)
+-- ---- the search, with what the function was called with
+-- what the m positions from `from` on have for the head of the first
+abbrev searchedAt : List ℕ → Round → List ℕ → ℕ → ℕ → List Candidate
+searchedAt table round s from m = runOffers (systemIn table .loc) (earlierLog table (round .number)) (lookedAt round (letterOf table s from) (beforeOf table s from)) (systemIn table .rules) (ruleOf []) (orderedRule s) from m
 
-    abbrev ok : Rule → Bool
-    ok = lookedAt round (letterOf table s₀ from) (beforeOf table s₀ from)
-
-    abbrev found : ℕ → List Candidate
-    found m = runOffers (systemIn table .loc) R ok (systemIn table .rules) (ruleOf []) (orderedRule s₀) from m
-
-    few : t .rules ≤ 200
-    few = table-modest table t holds .rules
-
-    ruled : (p : ℕ) → p < t .rules → orderedRule s₀ p < t .rules
-    ruled p l = here .prepared .ordered .below p l
-
-    -- the rule at an active position is looked at if it has the head; at another position none is
-    active-rule : (p : ℕ) → p < t .rules → inSet s₀ activeAt p ≡ isActive round (ruleIn table (orderedRule s₀ p))
-    active-rule p l = here .active p (omega (arith, few)) ∙ rw (lt-ltb p (t .rules) l)
-
-    idle-none : (p : ℕ) → p < t .rules → inSet s₀ activeAt p ≡ false → offersOf (systemIn table .loc) R ok (systemIn table .rules) (ruleOf []) (orderedRule s₀ p) ≡ []
-    idle-none p l f = rw (sym (active-rule p l) ∙ f)
-
-    looked-offers : (p : ℕ) → p < t .rules → inSet s₀ activeAt p ≡ true → headAt table s₀ p ≡ headAt table s₀ from
-        → offersOf (systemIn table .loc) R ok (systemIn table .rules) (ruleOf []) (orderedRule s₀ p) ≡ ruleCandidates table (round .number) (orderedRule s₀ p)
-    looked-offers p l y e = rw (sym (active-rule p l) ∙ y, isHead-of (letterOf table s₀ from) (beforeOf table s₀ from) (ruleIn table (orderedRule s₀ p)) e)
-
-    -- the m positions from `from` on have been searched, and no position behind them and below `position` is active
-    pub record Searching (log s : List ℕ) (position total : ℕ) : Type 0 where
-      pub m : ℕ
-      pub behind : from + m ≤ position
-      pub begins : m ≡ 0 → position ≡ from
-      pub ruled : from + m ≤ t .rules
-      pub same : (q : ℕ) → from ≤ q → q < from + m → headAt table s₀ q ≡ headAt table s₀ from
-      pub idle : (q : ℕ) → from + m ≤ q → q < position → inSet s₀ activeAt q ≡ false
-      pub active : position < positionCeiling → inSet s₀ activeAt position ≡ true
-      pub inside : position ≤ positionCeiling
-      pub arrived : Arrived table round (filter (isOffered round) (found m)) count log₀ s₀ total log s
-
-    pub searching-start : Searching log₀ s₀ from count
-    searching-start = record {
-      m = 0;
-      behind = omega arith;
-      begins = λ e. refl;
-      ruled = omega arith;
-      same = λ q a b. absurd (omega arith);
-      idle = λ q a b. absurd (omega arith);
-      active = λ l. lead;
-      inside = omega (arith, few);
-      arrived = arrived-none table round count log₀ s₀ (omega arith);
-    }
-
-    module _ (log s : List ℕ) (position total : ℕ) (o : Searching log s position total) where
-      pub searching-round : InRound table t round log s
-      searching-round = arrived-round table t round (filter (isOffered round) (found (o .m))) count log₀ s₀ here low total log s (o .arrived)
-
-      pub searching-count : (round .base ≤ total) × (total ≤ round .n + 1)
-      searching-count = arrived-count table t round (filter (isOffered round) (found (o .m))) count log₀ s₀ here low total log s (o .arrived)
-
-      pub searching-length : length log ≡ length log₀
-      searching-length = arrived-length table t round (filter (isOffered round) (found (o .m))) count log₀ s₀ here low total log s (o .arrived)
-
-      order-same : (p : ℕ) → p < t .rules → orderedRule s p ≡ orderedRule s₀ p
-      order-same p l = order-kept table t holds s₀ s (λ i a b. o .arrived .kept i (omega arith) b) p l
-
-      active-same : (p : ℕ) → p < positionCeiling → inSet s activeAt p ≡ inSet s₀ activeAt p
-      active-same p l = active-kept table t holds s₀ s (λ i a b. o .arrived .kept i (omega arith) b) p l
-
-      -- the test of the loop
-      has-is : position < t .rules → hasHead table head (orderedRule s position) ≡ isHead (letterOf table s₀ from) (beforeOf table s₀ from) (ruleIn table (orderedRule s₀ position))
-      has-is l = ap (hasHead table head) (order-same position l) ∙ head-test head (orderedRule s₀ from) (orderedRule s₀ position) of (ruled from within) (ruled position l)
-
-      module _ (test : (ltb position (t .rules) && hasHead table head (orderedRule s position)) ≡ true) where
-        pub searching-within : position < t .rules
-        searching-within = ltb-true position (t .rules) (and-left (ltb position (t .rules)) (hasHead table head (orderedRule s position)) test)
-
-        is-head : isHead (letterOf table s₀ from) (beforeOf table s₀ from) (ruleIn table (orderedRule s₀ position)) ≡ true
-        is-head = sym (has-is searching-within) ∙ and-right (ltb position (t .rules)) (hasHead table head (orderedRule s position)) test
-
-        same-head : headAt table s₀ position ≡ headAt table s₀ from
-        same-head = isHead-true (letterOf table s₀ from) (beforeOf table s₀ from) (ruleIn table (orderedRule s₀ position)) is-head
-
-        pub searching-rule : orderedRule s position < t .rules
-        searching-rule = rw (order-same position searching-within) (ruled position searching-within)
-
-        pub searching-head : HeadOf table (orderedRule s position) head
-        searching-head = rw (order-same position searching-within) (
-            let parts = head-parts (letterOf table s₀ from) (beforeOf table s₀ from) (ruleIn table (orderedRule s₀ position)) is-head in
-            record {
-              letter = of .letter ∙ sym (parts .0);
-              bits = subst (λ (a : ℕ). BitsOf (systemIn table .loc a) (head .bits)) (sym (parts .0)) (of .bits);
-              before = of .before ∙ ap packed (sym (parts .1));
-            })
-
-        pub searching-turn : (total′ : ℕ) (log′ s′ : List ℕ) (next : ℕ) → Arrived table round (ruleOffers table round (orderedRule s position)) total log s total′ log′ s′
-            → next ≡ firstFrom (inSet s′ activeAt) (position + 1) (positionCeiling - (position + 1)) → Searching log′ s′ next total′
-        searching-turn total′ log′ s′ next d e = record {
-          m = position + 1 - from;
-          behind = omega (arith, next-at .low, o .behind);
-          begins = λ z. absurd (omega (arith, o .behind));
-          ruled = omega (arith, searching-within, o .behind);
-          same = λ q a b. same-between table (t .rules) s₀ (here .prepared .ordered) from position q a (omega (arith, o .behind)) searching-within (sym same-head);
-          idle = λ q a b. sym (active-now q (omega (arith, next-at .high))) ∙ next-at .fails q (omega (arith, o .behind)) b;
-          active = λ l. sym (active-now next l) ∙ next-at .passes (omega (arith, searching-within, few));
-          inside = omega (arith, next-at .high, searching-within, few);
-          arrived = subst (λ (cs : List Candidate). Arrived table round cs count log₀ s₀ total′ log′ s′) (sym candidates-are) all-arrived;
-        }
-          where
-            all-arrived : Arrived table round (filter (isOffered round) (found (o .m)) ++ ruleOffers table round (orderedRule s position)) count log₀ s₀ total′ log′ s′
-            all-arrived = arrived-both table round (filter (isOffered round) (found (o .m))) (ruleOffers table round (orderedRule s position)) count log₀ s₀ total log s total′ log′ s′ (o .arrived) d
-
-            active-now : (p : ℕ) → p < positionCeiling → inSet s′ activeAt p ≡ inSet s₀ activeAt p
-            active-now p l = active-kept table t holds s₀ s′ (λ i a b. all-arrived .kept i (omega arith) b) p l
-
-            next-at : First (inSet s′ activeAt) (position + 1) (positionCeiling - (position + 1)) next
-            next-at = first-at (inSet s′ activeAt) (position + 1) (positionCeiling - (position + 1)) next e
-
-            candidates-are : filter (isOffered round) (found (position + 1 - from)) ≡ filter (isOffered round) (found (o .m)) ++ ruleOffers table round (orderedRule s position)
-            candidates-are =
-                ap (filter (isOffered round)) (run-on (systemIn table .loc) R ok (systemIn table .rules) (ruleOf []) (orderedRule s₀) from (o .m) position (o .behind) (λ q a b. idle-none q (omega (arith, searching-within)) (o .idle q a b))
-                ∙ ap (λ (cs : List Candidate). found (o .m) ++ cs) (looked-offers position searching-within (o .active (omega (arith, searching-within, few))) same-head))
-                ∙ filter-append (isOffered round) (found (o .m)) (ruleCandidates table (round .number) (orderedRule s₀ position))
-                ∙ ap (λ (k : ℕ). filter (isOffered round) (found (o .m)) ++ ruleOffers table round k) (sym (order-same position searching-within))
-
-      module _ (test : (ltb position (t .rules) && hasHead table head (orderedRule s position)) ≡ false) where
-        other-head : position < t .rules → headAt table s₀ position ≡ headAt table s₀ from → ⊥
-        other-head l e = true≢false (sym (has-is l ∙ isHead-of (letterOf table s₀ from) (beforeOf table s₀ from) (ruleIn table (orderedRule s₀ position)) e) ∙ rw (lt-ltb position (t .rules) l) at test)
-
-        is-later : from < position
-        is-later = elim (ℕ-discrete (o .m) 0) [
-          | yes e ↦
-              let is : position ≡ from = o .begins e in
-              absurd (other-head (omega arith) (ap (headAt table s₀) is))
-          | no e ↦ omega (arith, o .behind, e)
-        ]
-
-        -- a rule that is looked at stands at one of the positions searched
-        looked-inside : (q : ℕ) → q < t .rules → ok (ruleIn table (orderedRule s₀ q)) ≡ true → (from ≤ q) × (q < from + o .m)
-        looked-inside q l y = (
-          elim (decLt q from) [ yes h ↦ absurd (first q h lit same) | no h ↦ omega arith ],
-          elim (decLt q (from + o .m)) [
-            | yes h ↦ h
-            | no h ↦ absurd (elim (decLt q position) [
-              | yes b ↦ true≢false (sym lit ∙ o .idle q (omega arith) b)
-              | no b ↦ other-head (omega arith) (same-between table (t .rules) s₀ (here .prepared .ordered) from q position (omega (arith, is-later)) (omega arith) l (sym same))
-            ])
-          ],
-        )
-          where
-            lit : inSet s₀ activeAt q ≡ true
-            lit = active-rule q l ∙ and-left (isActive round (ruleIn table (orderedRule s₀ q))) (isHead (letterOf table s₀ from) (beforeOf table s₀ from) (ruleIn table (orderedRule s₀ q))) y
-
-            same : headAt table s₀ q ≡ headAt table s₀ from
-            same = isHead-true (letterOf table s₀ from) (beforeOf table s₀ from) (ruleIn table (orderedRule s₀ q))
-                (and-right (isActive round (ruleIn table (orderedRule s₀ q))) (isHead (letterOf table s₀ from) (beforeOf table s₀ from) (ruleIn table (orderedRule s₀ q))) y)
-
-        pub searching-end : HeadSearched table t round from count log₀ s₀ (record { position = position; count = total }) log s
-        searching-end = record {
-          next = record {
-            later = is-later;
-            active = λ l. o .active (omega (arith, few));
-            same = λ r a b l y. elim (decLt r (from + o .m)) [ yes h ↦ o .same r a h | no h ↦ absurd (true≢false (sym y ∙ o .idle r (omega arith) b)) ];
-            other = other-head;
-          };
-          arrived = subst (λ (cs : List Candidate). Arrived table round (filter (isOffered round) cs) count log₀ s₀ total log s)
-              (sym (head-candidates table t holds s₀ (here .prepared .ordered) (systemIn table .loc) R ok from (o .m) (o .ruled) (o .same) looked-inside)) (o .arrived);
-        }
-
--- ---- the loop, with what the function was called with
-pub record Loop (table : List ℕ) (t : Table) (round : Round) (head : Head) (from count : ℕ) (log₀ s₀ log s : List ℕ) (position total : ℕ) : Type 0 where
+-- they have been searched, and no position behind them and below `position` is active
+pub record Searching (table : List ℕ) (t : Table) (round : Round) (head : Head) (from count : ℕ) (log₀ s₀ log s : List ℕ) (position total : ℕ) : Type 0 where
   pub here : InRound table t round log₀ s₀
   pub within : from < t .rules
-  pub lead : inSet s₀ activeAt from ≡ true
   pub first : Leading table s₀ from
   pub of : HeadOf table (orderedRule s₀ from) head
   pub low : round .base ≤ count
-  pub fits : count ≤ round .n
-  pub searching : Searching table t (here .holds) round head from count log₀ s₀ here within lead first of low fits log s position total
+  pub m : ℕ
+  pub behind : from + m ≤ position
+  pub begins : m ≡ 0 → position ≡ from
+  pub ruled : from + m ≤ t .rules
+  pub same : (q : ℕ) → from ≤ q → q < from + m → headAt table s₀ q ≡ headAt table s₀ from
+  pub idle : (q : ℕ) → from + m ≤ q → q < position → inSet s₀ activeAt q ≡ false
+  pub active : position < positionCeiling → inSet s₀ activeAt position ≡ true
+  pub inside : position ≤ positionCeiling
+  pub arrived : Arrived table round (filter (isOffered round) (searchedAt table round s₀ from m)) count log₀ s₀ total log s
 
-pub loop-start : (table : List ℕ) (t : Table) (round : Round) (head : Head) (from count : ℕ) (log s : List ℕ) → InRound table t round log s → from < t .rules → inSet s activeAt from ≡ true → Leading table s from
-    → HeadOf table (orderedRule s from) head → round .base ≤ count → count ≤ round .n → Loop table t round head from count log s log s from count
-loop-start table t round head from count log s here within lead first of low fits = record {
+pub searching-start : (table : List ℕ) (t : Table) (round : Round) (head : Head) (from count : ℕ) (log s : List ℕ) → InRound table t round log s → from < t .rules → inSet s activeAt from ≡ true
+    → Leading table s from → HeadOf table (orderedRule s from) head → round .base ≤ count → count ≤ round .n → Searching table t round head from count log s log s from count
+searching-start table t round head from count log s here within lead first of low fits = record {
   here = here;
   within = within;
-  lead = lead;
   first = first;
   of = of;
   low = low;
-  fits = fits;
-  searching = searching-start table t (here .holds) round head from count log s here within lead first of low fits;
+  m = 0;
+  behind = omega arith;
+  begins = λ e. refl;
+  ruled = omega arith;
+  same = λ q a b. absurd (omega arith);
+  idle = λ q a b. absurd (omega arith);
+  active = λ l. lead;
+  inside = omega (arith, table-modest table t (here .holds) .rules);
+  arrived = arrived-none table round count log s (omega arith);
 }
 
-module _ {table : List ℕ} {t : Table} {round : Round} {head : Head} {from count : ℕ} {log₀ s₀ log s : List ℕ} {position total : ℕ} (o : Loop table t round head from count log₀ s₀ log s position total) where
-  pub loop-round : InRound table t round log s
-  loop-round = searching-round table t (o .here .holds) round head from count log₀ s₀ (o .here) (o .within) (o .lead) (o .first) (o .of) (o .low) (o .fits) log s position total (o .searching)
+module _ {table : List ℕ} {t : Table} {round : Round} {head : Head} {from count : ℕ} {log₀ s₀ log s : List ℕ} {position total : ℕ} (o : Searching table t round head from count log₀ s₀ log s position total) where
+  abbrev here : InRound table t round log₀ s₀
+  here = o .here
 
-  pub loop-count : (round .base ≤ total) × (total ≤ round .n + 1)
-  loop-count = searching-count table t (o .here .holds) round head from count log₀ s₀ (o .here) (o .within) (o .lead) (o .first) (o .of) (o .low) (o .fits) log s position total (o .searching)
+  abbrev holds : Holds table t
+  holds = o .here .holds
 
-  pub loop-length : length log ≡ length log₀
-  loop-length = searching-length table t (o .here .holds) round head from count log₀ s₀ (o .here) (o .within) (o .lead) (o .first) (o .of) (o .low) (o .fits) log s position total (o .searching)
+  abbrev a : ℕ
+  a = letterOf table s₀ from
 
-  module _ (test : (ltb position (t .rules) && hasHead table head (orderedRule s position)) ≡ true) where
-    pub loop-within : position < t .rules
-    loop-within = searching-within table t (o .here .holds) round head from count log₀ s₀ (o .here) (o .within) (o .lead) (o .first) (o .of) (o .low) (o .fits) log s position total (o .searching) test
+  abbrev g : Group
+  g = beforeOf table s₀ from
 
-    pub loop-small : position < 200
-    loop-small = omega (arith, loop-within, table-modest table t (o .here .holds) .rules)
+  abbrev ok : Rule → Bool
+  ok = lookedAt round a g
 
-    pub loop-rule : orderedRule s position < t .rules
-    loop-rule = searching-rule table t (o .here .holds) round head from count log₀ s₀ (o .here) (o .within) (o .lead) (o .first) (o .of) (o .low) (o .fits) log s position total (o .searching) test
+  abbrev offered : ℕ → List Candidate
+  offered m = filter (isOffered round) (searchedAt table round s₀ from m)
 
-    pub loop-head : HeadOf table (orderedRule s position) head
-    loop-head = searching-head table t (o .here .holds) round head from count log₀ s₀ (o .here) (o .within) (o .lead) (o .first) (o .of) (o .low) (o .fits) log s position total (o .searching) test
+  abbrev offersAt : ℕ → List Candidate
+  offersAt p = offersOf (systemIn table .loc) (earlierLog table (round .number)) ok (systemIn table .rules) (ruleOf []) (orderedRule s₀ p)
 
-    pub loop-turn : (total′ : ℕ) (log′ s′ : List ℕ) (next : ℕ) → Arrived table round (ruleOffers table round (orderedRule s position)) total log s total′ log′ s′
-        → next ≡ firstFrom (inSet s′ activeAt) (position + 1) (positionCeiling - (position + 1)) → Loop table t round head from count log₀ s₀ log′ s′ next total′
-    loop-turn total′ log′ s′ next d e = record {
-      here = o .here;
+  few : t .rules ≤ 200
+  few = table-modest table t holds .rules
+
+  ruled-at : (p : ℕ) → p < t .rules → orderedRule s₀ p < t .rules
+  ruled-at p l = here .prepared .ordered .below p l
+
+  -- the rule at an active position is looked at if it has the head; at another position none is
+  active-rule : (p : ℕ) → p < t .rules → inSet s₀ activeAt p ≡ isActive round (ruleIn table (orderedRule s₀ p))
+  active-rule p l = here .active p (omega (arith, few)) ∙ rw (lt-ltb p (t .rules) l)
+
+  idle-none : (p : ℕ) → p < t .rules → inSet s₀ activeAt p ≡ false → offersAt p ≡ []
+  idle-none p l f = rw (sym (active-rule p l) ∙ f)
+
+  looked-offers : (p : ℕ) → p < t .rules → inSet s₀ activeAt p ≡ true → headAt table s₀ p ≡ headAt table s₀ from → offersAt p ≡ ruleCandidates table (round .number) (orderedRule s₀ p)
+  looked-offers p l y e = rw (sym (active-rule p l) ∙ y, isHead-of a g (ruleIn table (orderedRule s₀ p)) e)
+
+  pub searching-round : InRound table t round log s
+  searching-round = arrived-round table t round (offered (o .m)) count log₀ s₀ here (o .low) total log s (o .arrived)
+
+  pub searching-count : (round .base ≤ total) × (total ≤ round .n + 1)
+  searching-count = arrived-count table t round (offered (o .m)) count log₀ s₀ here (o .low) total log s (o .arrived)
+
+  pub searching-length : length log ≡ length log₀
+  searching-length = arrived-length table t round (offered (o .m)) count log₀ s₀ here (o .low) total log s (o .arrived)
+
+  order-same : (p : ℕ) → p < t .rules → orderedRule s p ≡ orderedRule s₀ p
+  order-same p l = order-kept table t holds s₀ s (λ i a b. o .arrived .kept i (omega arith) b) p l
+
+  -- the test of the loop
+  abbrev test : Bool
+  test = ltb position (t .rules) && hasHead table head (orderedRule s position)
+
+  has-is : position < t .rules → hasHead table head (orderedRule s position) ≡ isHead a g (ruleIn table (orderedRule s₀ position))
+  has-is l = ap (hasHead table head) (order-same position l) ∙ head-test table t holds head (orderedRule s₀ from) (orderedRule s₀ position) (o .of) (ruled-at from (o .within)) (ruled-at position l)
+
+  module _ (passes : test ≡ true) where
+    below : position < t .rules
+    below = ltb-true position (t .rules) (and-left (ltb position (t .rules)) (hasHead table head (orderedRule s position)) passes)
+
+    is-head : isHead a g (ruleIn table (orderedRule s₀ position)) ≡ true
+    is-head = sym (has-is below) ∙ and-right (ltb position (t .rules)) (hasHead table head (orderedRule s position)) passes
+
+    same-head : headAt table s₀ position ≡ headAt table s₀ from
+    same-head = isHead-true a g (ruleIn table (orderedRule s₀ position)) is-head
+
+    pub searching-small : position < 200
+    searching-small = omega (arith, below, few)
+
+    pub searching-rule : orderedRule s position < t .rules
+    searching-rule = rw (order-same position below) (ruled-at position below)
+
+    pub searching-head : HeadOf table (orderedRule s position) head
+    searching-head = rw (order-same position below) (
+        let parts = head-parts a g (ruleIn table (orderedRule s₀ position)) is-head in
+        record {
+          letter = o .of .letter ∙ sym (parts .0);
+          bits = subst (λ (x : ℕ). BitsOf (systemIn table .loc x) (head .bits)) (sym (parts .0)) (o .of .bits);
+          before = o .of .before ∙ ap packed (sym (parts .1));
+        })
+
+    pub searching-turn : (total′ : ℕ) (log′ s′ : List ℕ) (next : ℕ) → Arrived table round (ruleOffers table round (orderedRule s position)) total log s total′ log′ s′
+        → next ≡ firstFrom (inSet s′ activeAt) (position + 1) (positionCeiling - (position + 1)) → Searching table t round head from count log₀ s₀ log′ s′ next total′
+    searching-turn total′ log′ s′ next d e = record {
+      here = here;
       within = o .within;
-      lead = o .lead;
       first = o .first;
       of = o .of;
       low = o .low;
-      fits = o .fits;
-      searching = searching-turn table t (o .here .holds) round head from count log₀ s₀ (o .here) (o .within) (o .lead) (o .first) (o .of) (o .low) (o .fits) log s position total (o .searching) test total′ log′ s′ next d e;
+      m = position + 1 - from;
+      behind = omega (arith, next-at .low, o .behind);
+      begins = λ z. absurd (omega (arith, o .behind));
+      ruled = omega (arith, below, o .behind);
+      same = λ q a b. same-between table (t .rules) s₀ (here .prepared .ordered) from position q a (omega (arith, o .behind)) below (sym same-head);
+      idle = λ q a b. sym (active-now q (omega (arith, next-at .high))) ∙ next-at .fails q (omega (arith, o .behind)) b;
+      active = λ l. sym (active-now next l) ∙ next-at .passes (omega (arith, below, few));
+      inside = omega (arith, next-at .high, below, few);
+      arrived = subst (λ (cs : List Candidate). Arrived table round cs count log₀ s₀ total′ log′ s′) (sym candidates-are) all-arrived;
     }
+      where
+        all-arrived : Arrived table round (offered (o .m) ++ ruleOffers table round (orderedRule s position)) count log₀ s₀ total′ log′ s′
+        all-arrived = arrived-both table round (offered (o .m)) (ruleOffers table round (orderedRule s position)) count log₀ s₀ total log s total′ log′ s′ (o .arrived) d
 
-  pub loop-end : (ltb position (t .rules) && hasHead table head (orderedRule s position)) ≡ false → HeadSearched table t round from count log₀ s₀ (record { position = position; count = total }) log s
-  loop-end test = searching-end table t (o .here .holds) round head from count log₀ s₀ (o .here) (o .within) (o .lead) (o .first) (o .of) (o .low) (o .fits) log s position total (o .searching) test
+        active-now : (p : ℕ) → p < positionCeiling → inSet s′ activeAt p ≡ inSet s₀ activeAt p
+        active-now p l = active-kept table t holds s₀ s′ (λ i a b. all-arrived .kept i (omega arith) b) p l
+
+        next-at : First (inSet s′ activeAt) (position + 1) (positionCeiling - (position + 1)) next
+        next-at = first-at (inSet s′ activeAt) (position + 1) (positionCeiling - (position + 1)) next e
+
+        candidates-are : offered (position + 1 - from) ≡ offered (o .m) ++ ruleOffers table round (orderedRule s position)
+        candidates-are =
+            ap (filter (isOffered round)) (run-on (systemIn table .loc) (earlierLog table (round .number)) ok (systemIn table .rules) (ruleOf []) (orderedRule s₀) from (o .m) position (o .behind)
+            (λ q a b. idle-none q (omega (arith, below)) (o .idle q a b))
+            ∙ ap (λ (cs : List Candidate). searchedAt table round s₀ from (o .m) ++ cs) (looked-offers position below (o .active (omega (arith, below, few))) same-head))
+            ∙ filter-append (isOffered round) (searchedAt table round s₀ from (o .m)) (ruleCandidates table (round .number) (orderedRule s₀ position))
+            ∙ ap (λ (k : ℕ). offered (o .m) ++ ruleOffers table round k) (sym (order-same position below))
+
+  module _ (fails : test ≡ false) where
+    other-head : position < t .rules → headAt table s₀ position ≡ headAt table s₀ from → ⊥
+    other-head l e = true≢false (sym (has-is l ∙ isHead-of a g (ruleIn table (orderedRule s₀ position)) e) ∙ rw (lt-ltb position (t .rules) l) at fails)
+
+    is-later : from < position
+    is-later = elim (ℕ-discrete (o .m) 0) [
+      | yes e ↦ let is : position ≡ from = o .begins e in absurd (other-head (omega (arith, o .within)) (ap (headAt table s₀) is))
+      | no e ↦ omega (arith, o .behind, e)
+    ]
+
+    -- a rule that is looked at stands at one of the positions searched
+    looked-inside : (q : ℕ) → q < t .rules → ok (ruleIn table (orderedRule s₀ q)) ≡ true → (from ≤ q) × (q < from + o .m)
+    looked-inside q l y = (
+      elim (decLt q from) [ yes h ↦ absurd (o .first q h lit same) | no h ↦ omega arith ],
+      elim (decLt q (from + o .m)) [
+        | yes h ↦ h
+        | no h ↦ absurd (elim (decLt q position) [
+          | yes b ↦ true≢false (sym lit ∙ o .idle q (omega arith) b)
+          | no b ↦ other-head (omega arith) (same-between table (t .rules) s₀ (here .prepared .ordered) from q position (omega (arith, is-later)) (omega arith) l (sym same))
+        ])
+      ],
+    )
+      where
+        lit : inSet s₀ activeAt q ≡ true
+        lit = active-rule q l ∙ and-left (isActive round (ruleIn table (orderedRule s₀ q))) (isHead a g (ruleIn table (orderedRule s₀ q))) y
+
+        same : headAt table s₀ q ≡ headAt table s₀ from
+        same = isHead-true a g (ruleIn table (orderedRule s₀ q)) (and-right (isActive round (ruleIn table (orderedRule s₀ q))) (isHead a g (ruleIn table (orderedRule s₀ q))) y)
+
+    pub searching-end : HeadSearched table t round from count log₀ s₀ (record { position = position; count = total }) log s
+    searching-end = record {
+      next = record {
+        later = is-later;
+        active = λ l. o .active (omega (arith, few));
+        same = λ r a b l y. elim (decLt r (from + o .m)) [ yes h ↦ o .same r a h | no h ↦ absurd (true≢false (sym y ∙ o .idle r (omega arith) b)) ];
+        other = other-head;
+      };
+      arrived = subst (λ (cs : List Candidate). Arrived table round (filter (isOffered round) cs) count log₀ s₀ total log s)
+          (sym (head-candidates table t holds s₀ (here .prepared .ordered) (systemIn table .loc) (earlierLog table (round .number)) ok from (o .m) (o .ruled) (o .same) looked-inside)) (o .arrived);
+    }
