@@ -1,18 +1,20 @@
 -- Laws for the loops that test a part of the bytes one after the other.
-use mathlib.Core.Bool.{Bool, true, false, _&&_, _||_}
+use mathlib.Core.Bool.{Bool, true, false, _&&_, _||_, true≢false}
 use mathlib.Core.List.{List, [], _∷_, _++_}
-use mathlib.Core.Path.{_≡_, refl, sym, _∙_}
+use mathlib.Core.Path.{_≡_, refl, sym, ap, ap₂, _∙_}
 use Prim.Native.Nat.{ℕ, zero, suc, _+_, _-_, _<_, _≤_}
 use native.Mathlib.Nat.{not-suc-le-zero, le-of-suc-le-suc, add-sub-cancel-left}
 use native.Mathlib.Numerals.{add-one}
 use native.Mathlib.Omega.{arith}
 use lib.Dec.{eqb}
 use lib.ListN.{length, getD, take, drop, length-drop}
-use lib.Seq.{take-all, take-suc, drop-drop}
+use lib.Seq.{take-all, take-suc, drop-cons, drop-drop}
 use borrow.Author.Tests.{eq-eqb, ne-eqb}
-use Rattle.model.proofs.Tests.{and-both, and-left, and-right}
+use Rattle.model.proofs.Tests.{and-both, and-left, and-right, by-test}
+use Rattle.model.specs.Records.{numberAt}
 use Rattle.model.specs.Lists.{allOf}
 use Rattle.model.specs.Tables.{sameBytes}
+use Rattle.numbers.proofs.NumberBytes.{AllBytes, number-test}
 
 pub and-false : (b : Bool) → (b && false) ≡ false
 and-false true = refl
@@ -75,3 +77,22 @@ same-fails (a ∷ x) [] j (suc n) l h k e = absurd (not-suc-le-zero k)
 same-fails (a ∷ x) (b ∷ y) zero (suc n) l h k e = rw (ne-eqb a b e)
 same-fails (a ∷ x) (b ∷ y) (suc j) (suc n) l h k e =
     rw (same-fails x y j n (le-of-suc-le-suc l) (le-of-suc-le-suc h) (le-of-suc-le-suc k) e) (and-false (eqb a b))
+
+-- parts that differ at their front differ
+pub same-front : (x y : List ℕ) (k n : ℕ) → k ≤ n → sameBytes (take k x) (take k y) ≡ false → sameBytes (take n x) (take n y) ≡ false
+same-front x y zero n l p = absurd (true≢false p)
+same-front x y (suc k) zero l p = absurd (not-suc-le-zero l)
+same-front [] [] (suc k) (suc n) l p = p
+same-front [] (b ∷ y) (suc k) (suc n) l p = p
+same-front (a ∷ x) [] (suc k) (suc n) l p = p
+same-front (a ∷ x) (b ∷ y) (suc k) (suc n) l p = by-test (eqb a b) (λ e. rw e (same-front x y k n (le-of-suc-le-suc l) (rw e at p))) (λ e. rw e)
+
+-- k bytes are the same exactly if the numbers that they stand for are
+pub same-numbers : (k : ℕ) (s : List ℕ) (a b : ℕ) → AllBytes s → a + k ≤ length s → b + k ≤ length s
+    → sameBytes (take k (drop a s)) (take k (drop b s)) ≡ eqb (numberAt k s a) (numberAt k s b)
+unfolding numberAt
+same-numbers zero s a b f h g = refl
+same-numbers (suc k) s a b f h g =
+    ap₂ (λ (x y : List ℕ). sameBytes (take (suc k) x) (take (suc k) y)) (drop-cons s a 0 (omega arith)) (drop-cons s b 0 (omega arith))
+    ∙ ap (λ t. eqb (getD s a 0) (getD s b 0) && t) (same-numbers k s (suc a) (suc b) f (omega arith) (omega arith))
+    ∙ sym (number-test k s a b f)

@@ -1,6 +1,6 @@
 // The checks of one item, in their order, and the cursor behind it.
 ghost use mathlib.Core.Path.{_≡_};
-ghost use mathlib.Core.Bool.{cond};
+ghost use mathlib.Core.Bool.{true, cond};
 ghost use Prim.Native.Nat.{_+_, _*_, _≤_, _<_};
 ghost use lib.Dec.{eqb};
 ghost use lib.ListN.{length, take, drop};
@@ -16,6 +16,7 @@ use crate::checks::value_fits;
 use crate::fields::RULE_BODY;
 use crate::fields::RULE_ITEM;
 use crate::fields::body_at;
+use numbers::eight_at;
 use numbers::wide;
 
 // ---- kinds
@@ -101,12 +102,12 @@ pub fn is_out_of_turn(c: Cursor, kind: u8) -> bool
 }
 
 // ---- check 8
-// The n bytes from a on are the n bytes from b on.
-pub fn same_bytes(bytes: &[u8], a: usize, b: usize, n: usize) -> bool
-    requires { ⌜ (a + n ≤ length (now bytes)) × (b + n ≤ length (now bytes)) ⌝ }
+// The n bytes from a on are the n bytes from b on; the first `from` of them are known to be.
+pub fn same_from(bytes: &[u8], a: usize, b: usize, n: usize, from: usize) -> bool
+    requires { ⌜ (a + n ≤ length (now bytes)) × (b + n ≤ length (now bytes)) × (from ≤ n) × (sameBytes (take from (drop a (now bytes))) (take from (drop b (now bytes))) ≡ true) ⌝ }
     ensures { λ r. ⌜ r ≡ sameBytes (take n (drop a (now (bytes .entry)))) (take n (drop b (now (bytes .entry)))) ⌝ }
 {
-    let mut j = 0;
+    let mut j = from;
     while j < n {
         if bytes[a + j] == bytes[b + j] {} else {
             return false;
@@ -114,6 +115,20 @@ pub fn same_bytes(bytes: &[u8], a: usize, b: usize, n: usize) -> bool
         j += 1;
     }
     true
+}
+
+// The n bytes from a on are the n bytes from b on: the first eight at once.
+pub fn same_bytes(bytes: &[u8], a: usize, b: usize, n: usize) -> bool
+    requires { ⌜ (a + n ≤ length (now bytes)) × (b + n ≤ length (now bytes)) ⌝ }
+    ensures { λ r. ⌜ r ≡ sameBytes (take n (drop a (now (bytes .entry)))) (take n (drop b (now (bytes .entry)))) ⌝ }
+{
+    if n < 8 {
+        return same_from(bytes, a, b, n, 0);
+    }
+    if eight_at(bytes, a) != eight_at(bytes, b) {
+        return false;
+    }
+    same_from(bytes, a, b, n, 8)
 }
 
 // The body of the item at `at` is one of the bodies of `count` items from `first` on.

@@ -1,56 +1,48 @@
-use mathlib.Core.Bool.{true}
-use mathlib.Core.Path.{_≡_, refl, sym}
-use Prim.Native.Nat.{_≤_, _-_}
+-- Two parts are the same where their first eight bytes are, as numbers, and the rest.
+use mathlib.Core.Path.{sym, _∙_}
 use native.Mathlib.Omega.{arith}
-use lib.ListN.{take, drop, length-drop}
-use lib.Seq.{getD-drop}
-use Rattle.model.specs.Tables.{sameBytes}
-use Rattle.table.proofs.Scans.{same-more, same-fails}
+use lib.ListN.{drop}
+use borrow.Author.Needs.{needs}
+use borrow.Author.Tests.{eq-eqb, ne-eqb}
+use Rattle.numbers.proofs.NumberBytes.{AllBytes}
+use Rattle.table.proofs.Scans.{same-front, same-numbers}
 use Rattle.table.proofs.items.same_bytes.Statement.{statement}
 use Rattle.table.proofs.items.same_bytes.Tie as tie
 
-abbrev Inv-loop : tie.InvT-loop
-Inv-loop bytes a b n j₀ j = (j ≤ n) × (sameBytes (take j (drop a bytes)) (take j (drop b bytes)) ≡ true)
-
-abbrev μ-loop : tie.MeasureT-loop
-μ-loop bytes a b n j₀ j = n - j
-
-loop-holds : tie.Need-loop-holds Inv-loop μ-loop
-loop-holds c = (omega arith, refl)
-
-returns : tie.Need-returns Inv-loop μ-loop
-returns c =
-    let x = c .before .before .before .before .before .args in
-    sym (same-fails (drop (x .a) (x .bytes .now)) (drop (x .b) (x .bytes .now)) (c .before .before .before .before .loop .j) (x .n) (c .before .before .before .loop-test .taken)
-    (simp (length-drop) (omega arith)) (simp (length-drop) (omega arith)) (λ e. c .if1 .left (rw (getD-drop (x .a) (x .bytes .now) (c .before .before .before .before .loop .j) 0, getD-drop (x .b) (x .bytes .now) (c .before .before .before .before .loop .j) 0) at e)))
-
-loop-again : tie.Need-loop-again Inv-loop μ-loop
-loop-again c =
-    let x = c .before .before .before .before .before .args in (
-      omega arith,
-      same-more (drop (x .a) (x .bytes .now)) (drop (x .b) (x .bytes .now)) (c .before .before .before .before .loop .j)
-          (simp (length-drop) (omega arith)) (simp (length-drop) (omega arith)) (c .before .before .before .before .loop .inv .1) (rw (getD-drop (x .a) (x .bytes .now) (c .before .before .before .before .loop .j) 0, getD-drop (x .b) (x .bytes .now) (c .before .before .before .before .loop .j) 0) (c .if1 .taken)),
-    )
-
-returns-2 : tie.Need-returns-2 Inv-loop μ-loop
+returns-2 : tie.Need-returns-2
 returns-2 c =
-    let x = c .before .before .args in
-    let e : c .before .loop .j ≡ x .n = omega arith in
-    sym (rw e at (c .before .loop .inv .1))
+    let at-second = c .before in
+    let at-first = at-second .before in
+    let known = at-first .before .before in
+    let x = known .before .args in
+    let s = x .bytes .now in
+    let bytes : AllBytes s = λ m. omega (arith, known .shared-slice-known .given m) in
+    sym (same-front (drop (x .a) s) (drop (x .b) s) 8 (x .n) (omega arith)
+    (same-numbers 8 s (x .a) (x .b) bytes (omega arith) (omega arith) ∙ ne-eqb _ _ (λ e. c .if2 .taken (at-first .eight-at .ensures ∙ e ∙ sym (at-second .eight-at2 .ensures)))))
+
+same-from-requires-2 : tie.Need-same-from-requires-2
+same-from-requires-2 c κs =
+    let at-second = c .before in
+    let at-first = at-second .before in
+    let known = at-first .before .before in
+    let entry = known .before in
+    let x = entry .args in
+    let s = x .bytes .now in
+    let bytes : AllBytes s = λ m. omega (arith, known .shared-slice-known .given m) in (
+      entry .pre .0,
+      entry .pre .1,
+      omega arith,
+      same-numbers 8 s (x .a) (x .b) bytes (omega arith) (omega arith) ∙ eq-eqb _ _ (sym (at-first .eight-at .ensures) ∙ c .if2 .left ∙ at-second .eight-at2 .ensures),
+    )
 
 pub same-bytes-spec : {M : Type 1} → statement M
 same-bytes-spec =
     tie.close
     (tie.spec
-    Inv-loop
-    μ-loop
-    loop-holds
-    (λ c. omega arith)
-    (λ c. omega arith)
-    (λ c. omega arith)
-    (λ c. omega arith)
-    returns
-    (λ c. omega arith)
-    (λ c. omega arith)
-    loop-again
-    returns-2)
+    (λ c κs. search needs)
+    (λ c. search needs)
+    (λ c κs. search needs)
+    (λ c κs. search needs)
+    returns-2
+    same-from-requires-2
+    (λ c. search needs))
