@@ -21,8 +21,8 @@ use Rattle.start.specs.declared.Frame.{Frame}
 use Rattle.start.specs.declared.Letter.{Letter}
 use Rattle.scratch.specs.Regions.{ringsAt}
 use Rattle.start.specs.Regions.{setPlace, setAt, Linked, OnlySet}
-use Rattle.start.specs.RestSets.{leads, firstLead, someLead}
-use Rattle.start.specs.OwnGroups.{ownNumber, Under, NextUnder, Framed, Numbered, InFrame, Added}
+use Rattle.start.specs.RestSets.{ownNumber, leads, firstLead, someLead}
+use Rattle.start.specs.OwnGroups.{Under, NextUnder, Framed, Numbered, InFrame, Added}
 use Rattle.start.proofs.ScratchRegions.{same-none, same-join, linked-same, byte-set, set-same}
 use Rattle.start.proofs.Leading.{lead-not, lead-reads, some-lead, the-lead}
 use Rattle.start.proofs.OwnGroups.{own-below, numbered-own, own-place, gains-lead, gains-own}

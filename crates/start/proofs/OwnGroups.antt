@@ -18,7 +18,8 @@ use Rattle.automaton.proofs.StateNumbers.{stateNumber-below, digit-number, digi
 use Rattle.wordsets.specs.WordSets.{hasBit, inSet, gains, inBlock, BlockFits}
 use Rattle.wordsets.proofs.States.{stated, plus, rest-has, Offset, adds-like, added-offsets}
 use Rattle.start.specs.declared.Frame.{Frame}
-use Rattle.start.specs.OwnGroups.{noStates, ownNumber, Under, extent, Framed, Numbered, InFrame}
+use Rattle.start.specs.RestSets.{noStates, ownNumber}
+use Rattle.start.specs.OwnGroups.{Under, extent, Framed, Numbered, InFrame}
 
 -- ---- digits
 pub digit-small : (x : ℕ) (i : Process) → digit x i < 8
@@ -105,10 +106,10 @@ module _ (L : Processes) (f : Frame) (fr : Framed L f) (x : ℕ) (xb : x < state
   no-own : (i : Process) → has L i ≡ false → digit x i ≡ 0
   no-own i n = omega (arith, under i, fr .own i n)
 
-  fits : (v : ℕ) → v < 8 → (i : Process) → (has L i ≡ false → v ≡ 0) → v + extent L f i ≤ 8
+  fits : (v : ℕ) → v < 8 → (i : Process) → (has L i ≡ false → v ≡ 0) → v + extent f i ≤ 8
   fits v h i z = by-test (has L i) (λ m. omega (arith, fr .alone i m)) (λ n. omega (arith, z n, fr .small i))
 
-  own-offset : Offset (digit x) (digit (ownNumber L after)) (extent L f) (f .rest)
+  own-offset : Offset (digit x) (digit (ownNumber L after)) (extent f) (f .rest)
   own-offset = record {
     before = λ i. fits (digit x i) (digit-small x i) i (no-own i);
     after = λ i. fits (digit y i) (digit-small y i) i (λ n. own-digit L after i ∙ ap (λ (b : Bool). cond b (at after i % 8) 0) n);
@@ -133,7 +134,7 @@ module _ (L : Processes) (f : Frame) (fr : Framed L f) (x : ℕ) (xb : x < state
 
     -- offsets A lead from x to g's number
     record To (A : Process → ℕ) : Type 0 where
-      inside : (i : Process) → A i < extent L f i
+      inside : (i : Process) → A i < extent f i
       reaches : (i : Process) → at g i % 8 ≡ digit x i + A i
 
     -- they are 0 at the letter's processes
@@ -150,7 +151,7 @@ module _ (L : Processes) (f : Frame) (fr : Framed L f) (x : ℕ) (xb : x < state
         let here : stated (plus (digit x) A) ≡ stateNumber g = sym (number-stated g ∙ stated-same (λ i. at g i % 8) (plus (digit x) A) (t .reaches)) in
         let there : stated (plus (digit (ownNumber L after)) A) ≡ stateNumber (merge L after g) =
         stated-same (plus (digit (ownNumber L after)) A) (λ i. at (merge L after g) i % 8) (like-digit A t) ∙ sym (number-stated (merge L after g)) in
-        rw (← xs, ← ys, ← here, ← there) (adds-like s from (f .rest) (digit x) (digit (ownNumber L after)) (extent L f) own-offset A (t .inside))
+        rw (← xs, ← ys, ← here, ← there) (adds-like s from (f .rest) (digit x) (digit (ownNumber L after)) (extent f) own-offset A (t .inside))
 
     -- the offsets from x to a state that is gone through
     own-to : InFrame L f g → ownNumber L g ≡ x → To (λ i. cond (has L i) 0 (at g i % 8))
@@ -179,7 +180,7 @@ module _ (L : Processes) (f : Frame) (fr : Framed L f) (x : ℕ) (xb : x < state
           in-rows = t .inside p0;
           in-words = t .inside p1;
           inside = bit-inside x (A p2) (A p3) (sum p2) (sum p3);
-          has-bit = rest-has (f .rest) (extent L f p2) (extent L f p3) (A p2) (A p3) (small p2) (small p3) (fr .rest) (t .inside p2) (t .inside p3);
+          has-bit = rest-has (f .rest) (extent f p2) (extent f p3) (A p2) (A p3) (small p2) (small p3) (fr .rest) (t .inside p2) (t .inside p3);
           is = is ∙ place-is x (A p0) (A p1) (A p2) (A p3) xb;
         }
 
@@ -189,7 +190,7 @@ module _ (L : Processes) (f : Frame) (fr : Framed L f) (x : ℕ) (xb : x < state
     gains-own h =
         let xs : stated (digit x) ≡ x = digits-number x xb in
         let ys : stated (digit (ownNumber L after)) ≡ ownNumber L after = digits-number (ownNumber L after) (own-below L after) in
-        let o = added-offsets s from (f .rest) (digit x) (digit (ownNumber L after)) (extent L f) own-offset (stateNumber g) (rw (xs, ys) h) in
+        let o = added-offsets s from (f .rest) (digit x) (digit (ownNumber L after)) (extent f) own-offset (stateNumber g) (rw (xs, ys) h) in
         let to : To (o .offset) = record { inside = o .inside; reaches = λ i. sym (digit-number g i) ∙ ap (λ (m : ℕ). digit m i) (o .is) ∙ digit-stated (plus (digit x) (o .offset)) (λ j. omega (arith, own-offset .before j, o .inside j)) i } in (
           digits-same (ownNumber L g) x (own-below L g) xb (λ i. own-digit L g i ∙ by-test (has L i)
               (λ m. let z : o .offset i ≡ 0 = omega (arith, o .inside i, fr .alone i m) in rw m (to .reaches i ∙ omega arith))

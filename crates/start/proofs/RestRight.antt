@@ -13,17 +13,16 @@ use lib.Seq.{drop-cons}
 use borrow.Author.Tests.{eq-eqb, eqb-true, lt-ltb, le-ltb}
 use Rattle.model.specs.declared.Group.{Group}
 use Rattle.model.specs.Automata.{Transition, move}
-use Rattle.model.specs.Groups.{Process, Processes, at, has, processesOf, sameGroup, restrict, merge}
+use Rattle.model.specs.Groups.{Process, Processes, at, has, build, processesOf, sameGroup, Within, restrict, merge}
 use Rattle.model.specs.Lists.{Each, anyOf}
 use Rattle.model.specs.Log.{Record, recordAt, noRecord, readsAt, keys, logAt}
 use Rattle.model.specs.Systems.{System, accepts}
-use Rattle.model.proofs.Groups.{at-build, sameGroup-true, sameGroup-of}
+use Rattle.model.proofs.Groups.{ext, at-build, at-merge, restrict-merge, restrict-within, merge-within, sameGroup-true, sameGroup-of}
 use Rattle.model.proofs.Lists.{any-of, each-map, getD-mem}
 use Rattle.model.proofs.LogPaths.{reads-letter}
 use Rattle.model.proofs.Tests.{by-test, same-test}
-use Rattle.automaton.specs.StateNumbers.{stateCount, stateNumber, Over}
+use Rattle.automaton.specs.StateNumbers.{stateCount, stateNumber, digit, Over}
 use Rattle.automaton.specs.StateSets.{member, firstFrom}
-use Rattle.automaton.proofs.StateNumbers.{stateNumber-below, number-injective}
 use Rattle.automaton.proofs.StateSets.{first-of}
 use Rattle.model.specs.Records.{recordLength, beforeAt, afterAt}
 use Rattle.records.specs.Entries.{Fits, Reads}
@@ -39,12 +38,12 @@ use Rattle.stack.proofs.RoundLogs.{round-fits, round-reads}
 use Rattle.start.specs.declared.Letter.{Letter}
 use Rattle.scratch.specs.Regions.{ringsAt}
 use Rattle.start.specs.Regions.{setAt, setsEnd, Linked, SameBut, OnlySet}
-use Rattle.start.specs.RestSets.{processesOfTable, LetterAt, leads, firstLead, someLead, EmptySet, Filled, isNumberOf, acceptsFrom, SetRight, RightForLog}
+use Rattle.start.specs.RestSets.{processesOfTable, noStates, plainGroup, ownNumber, LetterAt, leads, firstLead, someLead, EmptySet, Filled, isNumberOf, acceptsFrom, SetRight, RightForLog}
 use Rattle.start.specs.OwnGroups.{lastStates, Numbered, FrameTo, Added}
 use Rattle.start.specs.declared.Frame.{Frame}
 use Rattle.start.proofs.ScratchRegions.{linked-same, set-same}
 use Rattle.start.proofs.Leading.{lead-not, lead-reads}
-use Rattle.start.proofs.OwnGroups.{own-below}
+use Rattle.start.proofs.OwnGroups.{own-digit, own-below}
 use Rattle.start.proofs.Grounds.{over-merge, Grounds, grounds}
 
 -- ---- some element passes a test
@@ -117,10 +116,15 @@ module _ {table : List ℕ} {t : Table} {round : ℕ} {log : List ℕ} {count : 
   pub word-from : drop i (systemIn table .start .word) ≡ pileIn table i ∷ drop (i + 1) (systemIn table .start .word)
   word-from = drop-cons (sys .start .word) i 0 (omega (arith, pile-count table t (lent .holds))) ∙ ap (λ (k : ℕ). pileIn table i ∷ drop k (sys .start .word)) (sym (add-one i))
 
+  own-within : Within (processesOf (a .bits)) (processesOfTable t)
+  own-within = subst (λ (L : Processes). Within L (processesOfTable t)) (sym (letter .bits .same)) (ground .letters i inside)
+
+  -- 0 for 255 at the processes that the table lacks makes no difference
   reads-is : (g : Group) → Over (processesOfTable t) g → (r : ℕ) → r < count
-      → recordReads log (a .number) (packed (restrict (processesOf (a .bits)) g)) r ≡ readsAt (systemIn table .loc) (pileIn table i) g (recordAt (logAt (systemIn table) round) r)
+      → recordReads log (a .number) (packed (restrict (processesOf (a .bits)) (plainGroup (processesOfTable t) g))) r ≡ readsAt (systemIn table .loc) (pileIn table i) g (recordAt (logAt (systemIn table) round) r)
   reads-is g o r h =
-      ap₂ (λ (b : ℕ) (L : Processes). recordReads log b (packed (restrict L g)) r) (letter .number) (letter .bits .same)
+      ap (λ (h : Group). recordReads log (a .number) (packed h) r) (restrict-within (processesOfTable t) (processesOf (a .bits)) (plainGroup (processesOfTable t) g) g own-within (restrict-merge (processesOfTable t) g noStates))
+      ∙ ap₂ (λ (b : ℕ) (L : Processes). recordReads log b (packed (restrict L g)) r) (letter .number) (letter .bits .same)
       ∙ reads-model (sys .loc) log (pileIn table i) g r (recordAt records r) (round-reads lent r h) (round-fits lent r h) (over-bytes (processesOfTable t) g o)
 
   -- where a record that reads the letter leads
@@ -139,60 +143,72 @@ module _ {table : List ℕ} {t : Table} {round : ℕ} {log : List ℕ} {count : 
       (ground .below round r (omega (arith, lent .size))) o
 
   module _ (s : List ℕ) (next : SetRight table t round s (i + 1)) (g : Group) (o : Over (processesOfTable t) g) where
-    lead-is : (r : ℕ) → r < count → leads log (setAt s (i + 1)) a g r ≡ goesOn (systemIn table) (logAt (systemIn table) round) (pileIn table i) (drop (i + 1) (systemIn table .start .word)) g r
+    lead-is : (r : ℕ) → r < count → leads log (setAt s (i + 1)) a (plainGroup (processesOfTable t) g) r ≡ goesOn (systemIn table) (logAt (systemIn table) round) (pileIn table i) (drop (i + 1) (systemIn table .start .word)) g r
+    unfolding ownNumber
     lead-is r h = by-test (readsAt (sys .loc) (pileIn table i) g (recordAt records r))
-        (λ y. rw y (lead-reads log (setAt s (i + 1)) a g r (reads-is g o r h ∙ y)
-        ∙ ap (λ (x : Group). member (setAt s (i + 1)) (stateNumber x)) (target-is g r h y)
+        (λ y. rw y (lead-reads log (setAt s (i + 1)) a (plainGroup (processesOfTable t) g) r (reads-is g o r h ∙ y)
+        ∙ ap (λ (x : Group). member (setAt s (i + 1)) (stateNumber x)) (sym (merge-within (processesOfTable t) (processesOf (a .bits)) (afterAt log r) g noStates own-within))
+        ∙ ap (λ (x : Group). member (setAt s (i + 1)) (ownNumber (processesOfTable t) x)) (target-is g r h y)
         ∙ next (move (sys .loc) (recordAt records r .key) g) (target-over g r h o y)))
-        (λ n. rw n (lead-not log (setAt s (i + 1)) a g r (reads-is g o r h ∙ n)))
+        (λ n. rw n (lead-not log (setAt s (i + 1)) a (plainGroup (processesOfTable t) g) r (reads-is g o r h ∙ n)))
 
-    pub first-is-lead : firstLead log count (setAt s (i + 1)) a g
+    pub first-is-lead : firstLead log count (setAt s (i + 1)) a (plainGroup (processesOfTable t) g)
         ≡ firstFrom (goesOn (systemIn table) (logAt (systemIn table) round) (pileIn table i) (drop (i + 1) (systemIn table .start .word)) g) 0 (length (logAt (systemIn table) round))
     unfolding firstLead
     first-is-lead =
-        first-agree (leads log (setAt s (i + 1)) a g) (goesOn sys records (pileIn table i) (drop (i + 1) (sys .start .word)) g) 0 count (λ r p q. lead-is r (omega arith))
+        first-agree (leads log (setAt s (i + 1)) a (plainGroup (processesOfTable t) g)) (goesOn sys records (pileIn table i) (drop (i + 1) (sys .start .word)) g) 0 count (λ r p q. lead-is r (omega arith))
         ∙ ap (λ (k : ℕ). firstFrom (goesOn sys records (pileIn table i) (drop (i + 1) (sys .start .word)) g) 0 k) (sym (lent .size))
 
-    pub lead-accepts : someLead log count (setAt s (i + 1)) a g ≡ acceptsFrom table round i g
+    pub lead-accepts : someLead log count (setAt s (i + 1)) a (plainGroup (processesOfTable t) g) ≡ acceptsFrom table round i g
     lead-accepts =
         ap₂ (λ (r n : ℕ). ltb r n) first-is-lead (sym (lent .size))
         ∙ sym (ap (λ (w : List ℕ). accepts (sys .loc) (keys records) (sys .accepting) w g) word-from ∙ accepts-first sys records (pileIn table i) (drop (i + 1) (sys .start .word)) g)
 
   -- set i from set i + 1
-  own-states : (g : Group) → Over (processesOfTable t) g → Numbered (processesOf (a .bits)) g
-  own-states g o j m = o .inside j (ground .letters i inside j (sym (ap (λ (L : Processes). has L j) (letter .bits .same)) ∙ m))
+  own-states : (g : Group) → Over (processesOfTable t) g → Numbered (processesOf (a .bits)) (plainGroup (processesOfTable t) g)
+  own-states g o j m = rw (at-merge (processesOfTable t) g noStates j, own-within j m) (o .inside j (own-within j m))
 
-  under-last : (g : Group) → Over (processesOfTable t) g → acceptsFrom table round i g ≡ true → (j : Process) → at g j % 8 ≤ at (lastStates table) j % 8
+  under-last : (g : Group) → acceptsFrom table round i g ≡ true → (j : Process) → at (plainGroup (processesOfTable t) g) j % 8 ≤ at (lastStates table t) j % 8
   unfolding lastStates
-  under-last g o y j = rw (at-build (λ j. statesIn table j - 1) j) (by-test (has (processesOfTable t) j)
-      (λ m. omega (arith, ground .accepted round i g y j, ground .states j m .0, ground .states j m .1))
-      (λ n. omega (arith, o .outside j n, ground .lacking j n)))
+  under-last g y j = rw (at-merge (processesOfTable t) g noStates j, at-merge (processesOfTable t) (build (λ j. statesIn table j - 1)) noStates j, at-build (λ j. statesIn table j - 1) j)
+      (by-test (has (processesOfTable t) j)
+      (λ m. rw m (omega (arith, ground .accepted round i g y j, ground .states j m .0, ground .states j m .1)))
+      (λ n. rw n (omega arith)))
 
-  pub set-before : (s s′ : List ℕ) (f : Frame) → SetRight table t round s (i + 1) → EmptySet s i → FrameTo (processesOf (a .bits)) (lastStates table) f
+  pub set-before : (s s′ : List ℕ) (f : Frame) → SetRight table t round s (i + 1) → EmptySet s i → FrameTo (processesOf (a .bits)) (lastStates table t) f
       → Added log count (setAt s (i + 1)) a f (λ (z : ℕ). z < stateCount) i s s′ → SetRight table t round s′ i
-  set-before s s′ f next empty to d g o = same-test (member (setAt s′ i) (stateNumber g)) (acceptsFrom table round i g)
-      (λ y. sym (lead-accepts s next g o) ∙ ⊎-elim (λ m. absurd (true≢false (sym m ∙ empty (stateNumber g)))) (λ z. z) (d .sound g (own-states g o) y))
-      (λ y. d .complete g (to .reaches g (own-states g o) (under-last g o y)) (own-below (processesOf (a .bits)) g) (lead-accepts s next g o ∙ y))
+  unfolding ownNumber
+  set-before s s′ f next empty to d g o =
+      let h = plainGroup (processesOfTable t) g in
+      same-test (member (setAt s′ i) (stateNumber h)) (acceptsFrom table round i g)
+      (λ y. sym (lead-accepts s next g o) ∙ ⊎-elim (λ m. absurd (true≢false (sym m ∙ empty (stateNumber h)))) (λ z. z) (d .sound h (own-states g o) y))
+      (λ y. d .complete h (to .reaches h (own-states g o) (under-last g y)) (own-below (processesOf (a .bits)) h) (lead-accepts s next g o ∙ y))
 
 -- ---- the last set
-number-same : (L : Processes) (g h : Group) → Over L g → Over L h → eqb (stateNumber g) (stateNumber h) ≡ sameGroup g h
-number-same L g h o q = same-test (eqb (stateNumber g) (stateNumber h)) (sameGroup g h)
-    (λ t. sameGroup-of g h (number-injective L g h o q (eqb-true (stateNumber g) (stateNumber h) t)))
-    (λ t. eq-eqb (stateNumber g) (stateNumber h) (ap stateNumber (sameGroup-true g h t)))
+own-injective : (L : Processes) (g h : Group) → Over L g → Over L h → ownNumber L g ≡ ownNumber L h → g ≡ h
+own-injective L g h o q e = ext (λ i. by-test (has L i)
+    (λ m. let same : at g i % 8 ≡ at h i % 8 = sym (own-digit L g i ∙ rw m) ∙ ap (λ (x : ℕ). digit x i) e ∙ own-digit L h i ∙ rw m in omega (arith, o .inside i m, q .inside i m))
+    (λ n. o .outside i n ∙ sym (q .outside i n)))
+
+number-same : (L : Processes) (g h : Group) → Over L g → Over L h → eqb (ownNumber L g) (ownNumber L h) ≡ sameGroup g h
+number-same L g h o q = same-test (eqb (ownNumber L g) (ownNumber L h)) (sameGroup g h)
+    (λ t. sameGroup-of g h (own-injective L g h o q (eqb-true (ownNumber L g) (ownNumber L h) t)))
+    (λ t. eq-eqb (ownNumber L g) (ownNumber L h) (ap (ownNumber L) (sameGroup-true g h t)))
 
 pub set-last : {table : List ℕ} {t : Table} (ground : Grounds table t) → length (systemIn table .start .word) ≡ t .pile → (round : ℕ) (s s′ : List ℕ)
-    → Filled (isNumberOf (systemIn table .accepting)) (t .pile) s s′ → SetRight table t round s′ (t .pile)
+    → Filled (isNumberOf (processesOfTable t) (systemIn table .accepting)) (t .pile) s s′ → SetRight table t round s′ (t .pile)
 unfolding isNumberOf
 set-last {table} {t} ground size round s s′ f g o =
-    f .members (stateNumber g) (stateNumber-below g)
-    ∙ any-agree (λ (h : Group). eqb (stateNumber g) (stateNumber h)) (sameGroup g) (systemIn table .accepting)
-    (each-map (Over (processesOfTable t)) (λ (h : Group). eqb (stateNumber g) (stateNumber h) ≡ sameGroup g h) (λ h q. number-same (processesOfTable t) g h o q) (systemIn table .accepting) (ground .accepting))
+    let L = processesOfTable t in
+    f .members (ownNumber L g) (own-below L g)
+    ∙ any-agree (λ (h : Group). eqb (ownNumber L g) (ownNumber L h)) (sameGroup g) (systemIn table .accepting)
+    (each-map (Over L) (λ (h : Group). eqb (ownNumber L g) (ownNumber L h) ≡ sameGroup g h) (λ h q. number-same L g h o q) (systemIn table .accepting) (ground .accepting))
     ∙ sym (ap (λ (w : List ℕ). accepts (systemIn table .loc) (keys (logAt (systemIn table) round)) (systemIn table .accepting) w g)
     (drop-of-length-le (systemIn table .start .word) {i = t .pile} (omega arith)))
 
 -- ---- the sets from the back
 right-same : (table : List ℕ) (t : Table) (round : ℕ) (s s′ : List ℕ) (k : ℕ) → setAt s′ k ≡ setAt s k → SetRight table t round s k → SetRight table t round s′ k
-right-same table t round s s′ k e r g o = ap (λ (l : List ℕ). member l (stateNumber g)) e ∙ r g o
+right-same table t round s s′ k e r g o = ap (λ (l : List ℕ). member l (ownNumber (processesOfTable t) g)) e ∙ r g o
 
 -- a set behind one that has changed stays right
 pub right-behind : (table : List ℕ) (t : Table) (round : ℕ) {s s′ : List ℕ} (i k : ℕ) → i < k → k ≤ 64 → ringsAt ≤ length s → OnlySet i s s′ → SetRight table t round s k

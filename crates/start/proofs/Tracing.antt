@@ -38,7 +38,7 @@ use Rattle.start.specs.declared.StartPath.the-variants.{NoPath, Found}
 use Rattle.start.specs.declared.Trace.{Trace}
 use Rattle.scratch.specs.Regions.{ringsAt, stackAt}
 use Rattle.start.specs.Regions.{setAt, SameBut}
-use Rattle.start.specs.RestSets.{processesOfTable, LetterAt, firstLead, acceptsFrom, SetRight, RightForLog, SetsReady, startIn}
+use Rattle.start.specs.RestSets.{processesOfTable, plainGroup, LetterAt, firstLead, acceptsFrom, SetRight, RightForLog, SetsReady, startIn}
 use Rattle.start.specs.Search.{pathFrom, roundPath, OnPath, Underway, Advanced, PathWritten, startFound, Sought}
 use Rattle.start.proofs.ScratchRegions.{same-none, same-join, linked-same}
 use Rattle.start.proofs.Grounds.{grounds}
@@ -73,7 +73,7 @@ module _ {table : List ℕ} {t : Table} {round : ℕ} {log : List ℕ} {count : 
   abbrev rest : List ℕ
   rest = drop (i + 1) (systemIn table .start .word)
 
-  module _ (r : ℕ) (is : r ≡ firstLead log count (setAt s (i + 1)) a g) where
+  module _ (r : ℕ) (is : r ≡ firstLead log count (setAt s (i + 1)) a (plainGroup (processesOfTable t) g)) where
     pub lead-inside : r < count
     lead-inside = ltb-true r count (ap (λ (k : ℕ). ltb k count) is ∙ lead-accepts lent i inside a letter s next g o ∙ good)
 
@@ -105,9 +105,12 @@ module _ {table : List ℕ} {t : Table} {round : ℕ} {log : List ℕ} {count : 
 
 -- the step that the code makes, for every round whose log this is
 module _ {table : List ℕ} {t : Table} {log : List ℕ} {count n : ℕ} {s : List ℕ} {i : ℕ} {c : Trace} (u : Underway table t log count n s i c) {a : Letter} (letter : LetterAt table i a)
-    {r : ℕ} (is : r ≡ firstLead log count (setAt s (i + 1)) a (c .state)) where
+    {g : Group} (plain : g ≡ plainGroup (processesOfTable t) (c .state)) {r : ℕ} (is : r ≡ firstLead log count (setAt s (i + 1)) a g) where
+  lead : r ≡ firstLead log count (setAt s (i + 1)) a (plainGroup (processesOfTable t) (c .state))
+  lead = is ∙ ap (firstLead log count (setAt s (i + 1)) a) plain
+
   pub step-inside : r < count
-  step-inside = let lent = u .some .1 in lead-inside lent i (u .inside) a letter s (u .next _ lent) (c .state) (u .on-path .over) (u .on-path .accepted _ lent) r is
+  step-inside = let lent = u .some .1 in lead-inside lent i (u .inside) a letter s (u .next _ lent) (c .state) (u .on-path .over) (u .on-path .accepted _ lent) r lead
 
   pub step-steps : stepsAt log r < 2 ^ 24
   step-steps = let lent = u .some .1 in omega (arith, round-reads lent r step-inside .steps, round-fits lent r step-inside .steps)
@@ -124,7 +127,7 @@ module _ {table : List ℕ} {t : Table} {log : List ℕ} {count n : ℕ} {s : Li
   }
     where
       next : EachRound table t log count (λ (round : ℕ). NextRecord table t round i (c .state) count r (d .state))
-      next round lent = next-record lent i (u .inside) a letter s (u .next round lent) (c .state) (u .on-path .over) (u .on-path .accepted round lent) r is (d .state) state
+      next round lent = next-record lent i (u .inside) a letter s (u .next round lent) (c .state) (u .on-path .over) (u .on-path .accepted round lent) r lead (d .state) state
 
 -- ---- the path so far
 abbrev prepend : List ℕ → Path → Path
@@ -155,10 +158,10 @@ pub record Tracing (table : List ℕ) (t : Table) (log : List ℕ) (count : ℕ)
 
 -- what the first set tells of the start
 start-right : {table : List ℕ} {t : Table} {log : List ℕ} {count : ℕ} (s : List ℕ) → RightForLog table t log count s 0
-    → EachRound table t log count (λ (round : ℕ). startIn table s ≡ acceptsFrom table round 0 (systemIn table .start .states))
+    → EachRound table t log count (λ (round : ℕ). startIn table t s ≡ acceptsFrom table round 0 (systemIn table .start .states))
 start-right {table} {t} s right round lent = right round lent (systemIn table .start .states) (grounds table t (lent .holds) .start)
 
-pub tracing-start : (table : List ℕ) (t : Table) (log : List ℕ) (count : ℕ) (s : List ℕ) (c : Trace) → Holds table t → RightForLog table t log count s 0 → startIn table s ≡ true
+pub tracing-start : (table : List ℕ) (t : Table) (log : List ℕ) (count : ℕ) (s : List ℕ) (c : Trace) → Holds table t → RightForLog table t log count s 0 → startIn table t s ≡ true
     → c .state ≡ systemIn table .start .states → c .steps ≡ 0 → Tracing table t log count s 0 s c
 unfolding numbersDown
 tracing-start table t log count s c holds right good e z = record {
@@ -260,7 +263,7 @@ no-some : (o : Option Path) → isSome o ≡ false → o ≡ none
 no-some none e = refl
 no-some (some p) e = absurd (true≢false e)
 
-pub sought-none : {table : List ℕ} {t : Table} {log : List ℕ} {count : ℕ} (s : List ℕ) → RightForLog table t log count s 0 → startIn table s ≡ false
+pub sought-none : {table : List ℕ} {t : Table} {log : List ℕ} {count : ℕ} (s : List ℕ) → RightForLog table t log count s 0 → startIn table t s ≡ false
     → EachRound table t log count (λ (round : ℕ). Sought table t round NoPath s)
 unfolding acceptingPath
 sought-none {table} s right e round lent =

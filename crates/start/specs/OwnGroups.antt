@@ -5,32 +5,26 @@ use mathlib.Core.Logic.{_⊎_}
 use mathlib.Core.List.{List}
 use Prim.Native.Nat.{ℕ, _-_, _%_, _<_, _≤_}
 use Rattle.model.specs.declared.Group.{Group}
-use Rattle.model.specs.Groups.{Process, Processes, p0, p1, p2, p3, at, has, build, processesOf, merge}
+use Rattle.model.specs.Groups.{Process, Processes, p0, p1, p2, p3, at, has, build, processesOf}
 use Rattle.automaton.specs.StateNumbers.{stateCount, stateNumber, digit}
 use Rattle.automaton.specs.StateSets.{member}
 use Rattle.model.specs.Records.{afterAt}
 use Rattle.packs.specs.Packs.{maskOf}
-use Rattle.wordsets.specs.WordSets.{RestBits}
+use Rattle.wordsets.specs.WordSets.{hasBit, RestBits}
+use Rattle.table.specs.declared.Table.{Table}
 use Rattle.table.specs.Reading.{statesIn}
 use Rattle.start.specs.declared.Frame.{Frame}
 use Rattle.start.specs.declared.Letter.{Letter}
 use Rattle.start.specs.Regions.{setAt, OnlySet}
-use Rattle.start.specs.RestSets.{someLead}
-
--- the number of g's states at the processes L, with 0 at every other process
-abbrev pub noStates : Group
-noStates = build (λ i. 0)
-
-unfoldable pub ownNumber : Processes → Group → ℕ
-ownNumber L g = stateNumber (merge L g noStates)
+use Rattle.start.specs.RestSets.{processesOfTable, plainGroup, ownNumber, someLead}
 
 -- y is the own number after record r, for the processes of the mask
 abbrev pub OwnAfter : List ℕ → ℕ → ℕ → ℕ → Type 0
 OwnAfter log r mask y = (L : Processes) → mask ≡ maskOf L → y ≡ ownNumber L (afterAt log r)
 
--- the highest state of each process; 255 where the table lacks it
-unfoldable pub lastStates : List ℕ → Group
-lastStates table = build (λ i. statesIn table i - 1)
+-- the highest state of each process; 0 where the table lacks it
+unfoldable pub lastStates : List ℕ → Table → Group
+lastStates table t = plainGroup (processesOfTable t) (build (λ i. statesIn table i - 1))
 
 -- ---- their numbers in turn
 -- the number x is at no process above top
@@ -44,20 +38,20 @@ pub record NextUnder (top x r : ℕ) : Type 0 where
   pub next : (z : ℕ) → z < stateCount → Under top z → x < z → r ≤ z
 
 -- ---- what is gone through for a letter
--- how many states of each process, beside the letter's own ones
-abbrev pub extent : Processes → Frame → Process → ℕ
-extent L f p0 = f .rows
-extent L f p1 = f .words
-extent L f p2 = cond (L .b2) 1 8
-extent L f p3 = cond (L .b3) 1 8
+-- how many states of each process, beside the letter's own ones; one or eight of processes 2 and 3, as the bits of rest tell
+abbrev pub extent : Frame → Process → ℕ
+extent f p0 = f .rows
+extent f p1 = f .words
+extent f p2 = cond (hasBit (f .rest) 8) 8 1
+extent f p3 = cond (hasBit (f .rest) 1) 8 1
 
 pub record Framed (L : Processes) (f : Frame) : Type 0 where
   pub mask : f .mask ≡ maskOf L
   pub own : (i : Process) → has L i ≡ false → digit (f .own) i ≡ 0
-  pub alone : (i : Process) → has L i ≡ true → extent L f i ≡ 1
-  pub some : (i : Process) → 0 < extent L f i
-  pub small : (i : Process) → extent L f i ≤ 8
-  pub rest : RestBits (f .rest) (extent L f p2) (extent L f p3)
+  pub alone : (i : Process) → has L i ≡ true → extent f i ≡ 1
+  pub some : (i : Process) → 0 < extent f i
+  pub small : (i : Process) → extent f i ≤ 8
+  pub rest : RestBits (f .rest) (extent f p2) (extent f p3)
 
 -- g has states below 8 at the letter's processes
 abbrev pub Numbered : Processes → Group → Type 0
@@ -67,7 +61,7 @@ Numbered L g = (i : Process) → has L i ≡ true → at g i < 8
 pub record InFrame (L : Processes) (f : Frame) (g : Group) : Type 0 where
   pub states : Numbered L g
   pub own : Under (f .own) (ownNumber L g)
-  pub others : (i : Process) → has L i ≡ false → at g i % 8 < extent L f i
+  pub others : (i : Process) → has L i ≡ false → at g i % 8 < extent f i
 
 -- the frame reaches to the group `last`
 pub record FrameTo (L : Processes) (last : Group) (f : Frame) : Type 0 where

@@ -6,7 +6,7 @@ use Prim.Native.Nat.{ℕ, _<_, _≤_}
 use lib.Dec.{eqb, ltb}
 use lib.ListN.{drop}
 use Rattle.model.specs.declared.Group.{Group}
-use Rattle.model.specs.Groups.{Processes, processesOf, restrict, merge}
+use Rattle.model.specs.Groups.{Processes, build, processesOf, restrict, merge}
 use Rattle.model.specs.Lists.{anyOf}
 use Rattle.model.specs.Log.{keys, logAt}
 use Rattle.model.specs.Systems.{accepts}
@@ -27,6 +27,16 @@ firstProcesses n = record { b0 = ltb 0 n; b1 = ltb 1 n; b2 = ltb 2 n; b3 = ltb 3
 
 abbrev pub processesOfTable : Table → Processes
 processesOfTable t = firstProcesses (t .processes)
+
+-- g at the processes L, with 0 at every other process, and its number
+abbrev pub noStates : Group
+noStates = build (λ i. 0)
+
+abbrev pub plainGroup : Processes → Group → Group
+plainGroup L g = merge L g noStates
+
+unfoldable pub ownNumber : Processes → Group → ℕ
+ownNumber L g = stateNumber (plainGroup L g)
 
 -- letter i of the start word, with its processes
 pub record LetterAt (table : List ℕ) (i : ℕ) (a : Letter) : Type 0 where
@@ -56,17 +66,18 @@ pub record Filled (test : ℕ → Bool) (k : ℕ) (s t : List ℕ) : Type 0 wher
   pub same : OnlySet k s t
   pub members : (x : ℕ) → x < stateCount → member (setAt t k) x ≡ test x
 
--- x is the number of one of the groups
-unfoldable pub isNumberOf : List Group → ℕ → Bool
-isNumberOf groups x = anyOf (λ (g : Group). eqb x (stateNumber g)) groups
+-- x is the number of one of the groups at the processes L
+unfoldable pub isNumberOf : Processes → List Group → ℕ → Bool
+isNumberOf L groups x = anyOf (λ (g : Group). eqb x (ownNumber L g)) groups
 
 -- ---- what a set means
 -- the records up to a round accept the start word from letter k on from the state g
 abbrev pub acceptsFrom : List ℕ → ℕ → ℕ → Group → Bool
 acceptsFrom table round k g = accepts (systemIn table .loc) (keys (logAt (systemIn table) round)) (systemIn table .accepting) (drop k (systemIn table .start .word)) g
 
+-- a process that the table lacks counts as 0 in the numbers of the set
 abbrev pub SetRight : List ℕ → Table → ℕ → List ℕ → ℕ → Type 0
-SetRight table t round s k = (g : Group) → Over (processesOfTable t) g → member (setAt s k) (stateNumber g) ≡ acceptsFrom table round k g
+SetRight table t round s k = (g : Group) → Over (processesOfTable t) g → member (setAt s k) (ownNumber (processesOfTable t) g) ≡ acceptsFrom table round k g
 
 -- set k is right for every round whose log this is
 abbrev pub RightForLog : List ℕ → Table → List ℕ → ℕ → List ℕ → ℕ → Type 0
@@ -78,5 +89,5 @@ pub record SetsReady (table : List ℕ) (t : Table) (log : List ℕ) (count n : 
   pub right : (k : ℕ) → k ≤ t .pile → RightForLog table t log count s k
 
 -- the start's state is in the first set
-abbrev pub startIn : List ℕ → List ℕ → Bool
-startIn table s = member (setAt s 0) (stateNumber (systemIn table .start .states))
+abbrev pub startIn : List ℕ → Table → List ℕ → Bool
+startIn table t s = member (setAt s 0) (ownNumber (processesOfTable t) (systemIn table .start .states))

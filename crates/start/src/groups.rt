@@ -3,6 +3,7 @@ use crate::Frame;
 use crate::Letter;
 use crate::SET_LENGTH;
 use crate::STATES;
+use crate::letters::plain;
 use automaton::groups::merged;
 use automaton::states;
 use automaton::states::numbered;
@@ -34,17 +35,18 @@ fn last_state(table: &[u8], t: Table, p: usize) -> u8
     (local_states(table, t, p) - 1) as u8
 }
 
-// The highest state of each process.
+// The highest state of each process, 0 where the table lacks it.
 pub fn last_states(table: &[u8], t: Table) -> Group
     requires { ⌜ Holds (now table) t ⌝ }
-    ensures { λ r. ⌜ r ≡ lastStates (now (table .entry)) ⌝ }
+    ensures { λ r. ⌜ r ≡ lastStates (now (table .entry)) t ⌝ }
 {
-    Group {
+    let last = Group {
         s0: last_state(table, t, 0),
         s1: last_state(table, t, 1),
         s2: last_state(table, t, 2),
         s3: last_state(table, t, 3),
-    }
+    };
+    plain(t, last)
 }
 
 // How many states of a process are gone through beside the letter's own ones.
@@ -69,7 +71,10 @@ pub fn frame_of(bits: u8, last: Group) -> Frame
         own: states::number(merged(bits, last, none)),
         rows: extent(bits % 2 == 1, last.s0),
         words: extent(bits / 2 % 2 == 1, last.s1),
-        rest: rest_bits(bits / 4 % 2 == 1, bits / 8 % 2 == 1),
+        rest: rest_bits(
+            extent(bits / 4 % 2 == 1, last.s2) == 1,
+            extent(bits / 8 % 2 == 1, last.s3) == 1,
+        ),
     }
 }
 

@@ -1,6 +1,7 @@
 // The letters of the start word, and the records that read one.
 use crate::Letter;
 use crate::SET_LENGTH;
+use automaton::groups::chosen;
 use automaton::groups::merged;
 use automaton::groups::restricted;
 use automaton::sets::contains;
@@ -25,7 +26,19 @@ ghost use Rattle.model.specs.Records.{afterAt};
 ghost use Rattle.records.specs.Entries.{HasRecord};
 ghost use Rattle.table.specs.Reading.{Holds};
 ghost use Rattle.start.specs.Regions.{setPlace, setAt, Linked};
-ghost use Rattle.start.specs.RestSets.{LetterAt, firstLead};
+ghost use Rattle.start.specs.RestSets.{processesOfTable, plainGroup, LetterAt, firstLead};
+
+// g with 0 at the processes that the table lacks.
+pub fn plain(t: Table, g: Group) -> Group
+    ensures { λ r. ⌜ r ≡ plainGroup (processesOfTable t) g ⌝ }
+{
+    Group {
+        s0: chosen(0 < t.processes, g.s0, 0),
+        s1: chosen(1 < t.processes, g.s1, 0),
+        s2: chosen(2 < t.processes, g.s2, 0),
+        s3: chosen(3 < t.processes, g.s3, 0),
+    }
+}
 
 // Letter i of the start word.
 pub fn letter_at(table: &[u8], t: Table, i: usize) -> Letter

@@ -5,6 +5,7 @@ pub mod letters;
 pub mod paths;
 pub mod sets;
 
+use crate::letters::plain;
 use crate::paths::write_path;
 use crate::sets::fill_sets;
 use automaton::sets::contains;
@@ -57,10 +58,10 @@ pub struct Trace {
 // Whether the start's state is in the first set.
 fn is_accepted(table: &[u8], t: Table, scratch: &[u8]) -> bool
     requires { ⌜ Holds (now table) t × (ringsAt ≤ length (now scratch)) ⌝ }
-    ensures { λ b. ⌜ b ≡ startIn (now (table .entry)) (now (scratch .entry)) ⌝ }
+    ensures { λ b. ⌜ b ≡ startIn (now (table .entry)) t (now (scratch .entry)) ⌝ }
 {
     let g = start_group(table, t);
-    contains(&scratch[0..SET_LENGTH], number(g))
+    contains(&scratch[0..SET_LENGTH], number(plain(t, g)))
 }
 
 // Finds the start's path and leaves it on the stack; what the rest of the scratch holds is not decided. n is the number of records that the scratch has room

@@ -2,6 +2,7 @@
 use crate::Trace;
 use crate::letters::first_lead;
 use crate::letters::letter_at;
+use crate::letters::plain;
 use automaton::groups::merged;
 use records::STEPS_CAP;
 use records::after_at;
@@ -41,7 +42,7 @@ fn advance(
 {
     let a = letter_at(table, t, i);
     let g = c.state;
-    let r = first_lead(log, scratch, n, count, i + 1, a, g);
+    let r = first_lead(log, scratch, n, count, i + 1, a, plain(t, g));
     put_number(scratch, t.pile - 1 - i, r as u16);
     let after = after_at(log, r);
     Trace {
@@ -59,7 +60,7 @@ pub fn write_path(
     n: usize,
     count: usize,
 ) -> u32
-    requires { ⌜ SomeRound (now table) t (now log) count × SetsReady (now table) t (now log) count n (now scratch) × (startIn (now table) (now scratch) ≡ true) ⌝ }
+    requires { ⌜ SomeRound (now table) t (now log) count × SetsReady (now table) t (now log) count n (now scratch) × (startIn (now table) t (now scratch) ≡ true) ⌝ }
     ensures { λ r. ⌜ EachRound (now (table .entry)) t (now (log .entry)) count (λ (round : ℕ). PathWritten (now (table .entry)) t round (now (scratch .exit)) r) ⌝ }
 {
     let state = start_group(table, t);

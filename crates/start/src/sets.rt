@@ -4,6 +4,7 @@ use crate::groups::add_groups;
 use crate::groups::frame_of;
 use crate::groups::last_states;
 use crate::letters::letter_at;
+use crate::letters::plain;
 use automaton::sets::clear;
 use automaton::sets::insert;
 use automaton::states::number;
@@ -12,12 +13,12 @@ use table::accepting_group;
 ghost use mathlib.Core.Path.{_≡_};
 ghost use Prim.Native.Nat.{ℕ, _+_, _*_, _<_, _≤_};
 ghost use lib.ListN.{length};
-ghost use Rattle.automaton.specs.StateNumbers.{stateCount, stateNumber};
+ghost use Rattle.automaton.specs.StateNumbers.{stateCount};
 ghost use Rattle.table.specs.Reading.{Holds, acceptingIn, systemIn};
 ghost use Rattle.stack.specs.RoundLogs.{SomeRound};
 ghost use Rattle.scratch.specs.Regions.{ringsAt};
 ghost use Rattle.start.specs.Regions.{withState, Linked, OnlySet};
-ghost use Rattle.start.specs.RestSets.{EmptySet, Filled, isNumberOf, SetRight, RightForLog, SetsReady};
+ghost use Rattle.start.specs.RestSets.{processesOfTable, ownNumber, EmptySet, Filled, isNumberOf, SetRight, RightForLog, SetsReady};
 
 fn clear_set(scratch: &mut [u8], k: usize)
     requires { ⌜ (k ≤ 64) × (ringsAt ≤ length (now scratch)) ⌝ }
@@ -71,15 +72,15 @@ pub fn fill_sets(table: &[u8], t: Table, log: &[u8], scratch: &mut [u8], n: usiz
 // Puts accepting group j into the last set.
 fn add_accepting(table: &[u8], t: Table, scratch: &mut [u8], j: usize)
     requires { ⌜ Holds (now table) t × (j < t .accepting) × (ringsAt ≤ length (now scratch)) ⌝ }
-    ensures { λ _. ⌜ now (scratch .exit) ≡ withState (now (scratch .entry)) (t .pile) (stateNumber (acceptingIn (now (table .entry)) j)) ⌝ }
+    ensures { λ _. ⌜ now (scratch .exit) ≡ withState (now (scratch .entry)) (t .pile) (ownNumber (processesOfTable t) (acceptingIn (now (table .entry)) j)) ⌝ }
 {
     let g = accepting_group(table, t, j);
-    insert_state(scratch, t.pile, number(g));
+    insert_state(scratch, t.pile, number(plain(t, g)));
 }
 
 fn add_all_accepting(table: &[u8], t: Table, scratch: &mut [u8])
     requires { ⌜ Holds (now table) t × (ringsAt ≤ length (now scratch)) × EmptySet (now scratch) (t .pile) ⌝ }
-    ensures { λ _. ⌜ Filled (isNumberOf (systemIn (now (table .entry)) .accepting)) (t .pile) (now (scratch .entry)) (now (scratch .exit)) ⌝ }
+    ensures { λ _. ⌜ Filled (isNumberOf (processesOfTable t) (systemIn (now (table .entry)) .accepting)) (t .pile) (now (scratch .entry)) (now (scratch .exit)) ⌝ }
 {
     let mut j = t.accepting;
     while 0 < j {

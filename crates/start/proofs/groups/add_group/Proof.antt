@@ -7,7 +7,7 @@ use Rattle.model.specs.Groups.{processesOf}
 use Rattle.model.specs.Records.{afterAt}
 use Rattle.packs.specs.Packs.{packed}
 use Rattle.start.specs.Regions.{setAt}
-use Rattle.start.specs.OwnGroups.{ownNumber}
+use Rattle.start.specs.RestSets.{ownNumber}
 use Rattle.start.proofs.ScratchRegions.{same-join}
 use Rattle.start.proofs.Leading.{reads-later}
 use Rattle.start.proofs.OwnGroups.{own-fits}

@@ -3,7 +3,7 @@ use mathlib.Core.Path.{ap, _∙_}
 use Rattle.automaton.specs.StateNumbers.{stateNumber}
 use borrow.Author.Needs.{needs}
 use Rattle.model.specs.Groups.{processesOf}
-use Rattle.start.specs.OwnGroups.{ownNumber}
+use Rattle.start.specs.RestSets.{ownNumber}
 use Rattle.start.proofs.Frames.{frame-made}
 use Rattle.start.proofs.groups.frame_of.Statement.{statement}
 use Rattle.start.proofs.groups.frame_of.Tie as tie
@@ -11,17 +11,20 @@ use Rattle.start.proofs.groups.frame_of.Tie as tie
 returns : tie.Need-returns
 unfolding ownNumber
 returns c =
-    let at-extent = c .before .before in
+    let at-extent3 = c .before .before in
+    let at-extent = at-extent3 .before .before in
     let at-number = at-extent .before in
     let at-merged = at-number .before in
     let at-mask-of = at-merged .before in
     let entry = at-mask-of .before in
     let a = entry .args in
-    frame-made (processesOf (a .bits)) (a .last) _ (record {
+    frame-made (processesOf (a .bits)) (a .last) _ (at-extent3 .extent3 .result) (c .before .extent4 .result) (record {
       mask = at-mask-of .mask-of .ensures;
       own = at-number .number .ensures .0 ∙ ap stateNumber (at-merged .merged .ensures);
       rows = at-extent .extent .ensures;
-      words = c .before .extent2 .ensures;
+      words = at-extent3 .before .extent2 .ensures;
+      second-is = at-extent3 .extent3 .ensures;
+      third-is = c .before .extent4 .ensures;
       rest = c .rest-bits .ensures;
     })
 
@@ -29,6 +32,8 @@ pub frame-of-spec : {M : Type 1} → statement M
 frame-of-spec =
     tie.close
     (tie.spec
+    (λ c κs. search needs)
+    (λ c κs. search needs)
     (λ c κs. search needs)
     (λ c κs. search needs)
     (λ c κs. search needs)

@@ -14,7 +14,7 @@ use Rattle.start.proofs.paths.advance.Tie as tie
 
 first-lead-requires : tie.Need-first-lead-requires
 first-lead-requires c κs =
-    let entry = c .before .before .before .before .before .before in
+    let entry = c .before .before .before .before .before .before .before in
     let a = entry .args in
     let u = entry .pre in
     (u .linked, omega (arith, u .inside, table-modest (a .table .now) (a .t) (u .some .1 .holds) .pile))
@@ -22,14 +22,15 @@ first-lead-requires c κs =
 cast-put-number : tie.Need-cast-put-number
 cast-put-number c =
     let at-first-lead = c .before .before in
-    let at-letter-at = at-first-lead .before .before .before in
+    let at-plain = at-first-lead .before in
+    let at-letter-at = at-plain .before .before .before in
     let entry = at-letter-at .before .before .before .before in
     let u = entry .pre in
-    omega (arith, step-inside u (at-letter-at .letter-at .ensures) (at-first-lead .first-lead .ensures), u .some .1 .short)
+    omega (arith, step-inside u (at-letter-at .letter-at .ensures) (at-plain .plain .ensures) (at-first-lead .first-lead .ensures), u .some .1 .short)
 
 put-number-requires : tie.Need-put-number-requires
 put-number-requires c κs =
-    let entry = c .before .before .before .before .before .before .before .before .before in
+    let entry = c .before .before .before .before .before .before .before .before .before .before in
     let a = entry .args in
     let u = entry .pre in
     omega (arith, u .linked .room .room, u .inside, table-modest (a .table .now) (a .t) (u .some .1 .holds) .pile)
@@ -37,26 +38,29 @@ put-number-requires c κs =
 after-at-requires : tie.Need-after-at-requires
 after-at-requires c κs =
     let at-first-lead = c .before .before .before .before .before in
-    let at-letter-at = at-first-lead .before .before .before in
+    let at-plain = at-first-lead .before in
+    let at-letter-at = at-plain .before .before .before in
     let entry = at-letter-at .before .before .before .before in
     let u = entry .pre in
-    round-has (u .some .1) _ (step-inside u (at-letter-at .letter-at .ensures) (at-first-lead .first-lead .ensures))
+    round-has (u .some .1) _ (step-inside u (at-letter-at .letter-at .ensures) (at-plain .plain .ensures) (at-first-lead .first-lead .ensures))
 
 steps-at-requires : tie.Need-steps-at-requires
 steps-at-requires c κs =
     let at-first-lead = c .before .before .before .before .before .before .before in
-    let at-letter-at = at-first-lead .before .before .before in
+    let at-plain = at-first-lead .before in
+    let at-letter-at = at-plain .before .before .before in
     let entry = at-letter-at .before .before .before .before in
     let u = entry .pre in
-    round-has (u .some .1) _ (step-inside u (at-letter-at .letter-at .ensures) (at-first-lead .first-lead .ensures))
+    round-has (u .some .1) _ (step-inside u (at-letter-at .letter-at .ensures) (at-plain .plain .ensures) (at-first-lead .first-lead .ensures))
 
 add-steps-requires : tie.Need-add-steps-requires
 add-steps-requires c κs =
     let at-first-lead = c .before .before .before .before .before .before .before .before in
-    let at-letter-at = at-first-lead .before .before .before in
+    let at-plain = at-first-lead .before in
+    let at-letter-at = at-plain .before .before .before in
     let entry = at-letter-at .before .before .before .before in
     let u = entry .pre in
-    (u .on-path .steps, omega (arith, c .steps-at .ensures, step-steps u (at-letter-at .letter-at .ensures) (at-first-lead .first-lead .ensures)))
+    (u .on-path .steps, omega (arith, c .steps-at .ensures, step-steps u (at-letter-at .letter-at .ensures) (at-plain .plain .ensures) (at-first-lead .first-lead .ensures)))
 
 returns : tie.Need-returns
 returns c =
@@ -64,11 +68,12 @@ returns c =
     let at-after-at = at-merged .before in
     let at-put-number = at-after-at .before .before .before in
     let at-first-lead = at-put-number .before .before .before in
-    let at-letter-at = at-first-lead .before .before .before in
+    let at-plain = at-first-lead .before in
+    let at-letter-at = at-plain .before .before .before in
     let entry = at-letter-at .before .before .before .before in
     let a = entry .args in
     let letter = at-letter-at .letter-at in
-    advanced (entry .pre) (letter .ensures) (at-first-lead .first-lead .ensures) _ _ (at-put-number .put-number .ensures)
+    advanced (entry .pre) (letter .ensures) (at-plain .plain .ensures) (at-first-lead .first-lead .ensures) _ _ (at-put-number .put-number .ensures)
     (at-merged .merged .ensures ∙ ap (λ (h : Group). merge (processesOf (letter .result .bits)) h (a .c .state)) (at-after-at .after-at .ensures))
     (c .add-steps .ensures ∙ ap (λ (k : ℕ). min (a .c .steps + k) stepsCap) (c .before .steps-at .ensures))
 
@@ -78,6 +83,7 @@ advance-spec =
     (tie.spec
     (λ c κs. search needs)
     (λ c. search needs)
+    (λ c κs. search needs)
     first-lead-requires
     (λ c. search needs)
     (λ c. search needs)

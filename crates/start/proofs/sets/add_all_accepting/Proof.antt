@@ -6,16 +6,17 @@ use native.Mathlib.Omega.{arith}
 use Rattle.model.specs.Tables.{groupOf}
 use mathlib.Core.List.{[]}
 use Rattle.automaton.specs.StateSets.{setLength}
-use Rattle.automaton.proofs.StateNumbers.{stateNumber-below}
 use Rattle.table.specs.Reading.{systemIn, acceptingIn}
 use Rattle.table.proofs.Layouts.{table-modest, accepting-count}
 use Rattle.start.specs.Regions.{setPlace}
+use Rattle.start.specs.RestSets.{processesOfTable}
+use Rattle.start.proofs.OwnGroups.{own-below}
 use Rattle.start.proofs.Filling.{Numbering, numbering-start, numbering-turn, numbering-end}
 use Rattle.start.proofs.sets.add_all_accepting.Statement.{statement}
 use Rattle.start.proofs.sets.add_all_accepting.Tie as tie
 
 abbrev Inv-loop : tie.InvT-loop
-Inv-loop table t scratch₀ j₀ scratch j = Numbering (systemIn table .accepting) (t .pile) j scratch₀ scratch
+Inv-loop table t scratch₀ j₀ scratch j = Numbering (processesOfTable t) (systemIn table .accepting) (t .pile) j scratch₀ scratch
 
 abbrev μ-loop : tie.MeasureT-loop
 μ-loop table t scratch₀ j₀ scratch j = j
@@ -24,7 +25,7 @@ loop-holds : tie.Need-loop-holds Inv-loop μ-loop
 loop-holds c =
     let a = c .before .before .args in
     let p = c .before .before .pre in
-    numbering-start (systemIn (a .table .now) .accepting) (a .t .pile) (a .scratch .now) (a .t .accepting) (sym (accepting-count (a .table .now) (a .t) (p .0))) (p .2)
+    numbering-start (processesOfTable (a .t)) (systemIn (a .table .now) .accepting) (a .t .pile) (a .scratch .now) (a .t .accepting) (sym (accepting-count (a .table .now) (a .t) (p .0))) (p .2)
 
 add-accepting-requires : tie.Need-add-accepting-requires Inv-loop μ-loop
 add-accepting-requires c κs =
@@ -46,8 +47,8 @@ loop-again c =
     let m = at-loop .loop in
     let room : setPlace (a .t .pile) + setLength ≤ length (a .scratch .now) = omega (arith, p .1, table-modest (a .table .now) (a .t) (p .0) .pile) in
     rw (at-add-accepting .add-accepting .ensures)
-    (numbering-turn (systemIn (a .table .now) .accepting) (groupOf [] 0) (a .t .pile) (m .j) (a .scratch .now) (m .scratch) room (at-loop-test .loop-test .taken)
-    (stateNumber-below (acceptingIn (a .table .now) (m .j - 1))) (m .inv))
+    (numbering-turn (processesOfTable (a .t)) (systemIn (a .table .now) .accepting) (groupOf [] 0) (a .t .pile) (m .j) (a .scratch .now) (m .scratch) room (at-loop-test .loop-test .taken)
+    (own-below (processesOfTable (a .t)) (acceptingIn (a .table .now) (m .j - 1))) (m .inv))
 
 same-length : tie.Need-same-length Inv-loop μ-loop
 same-length c = c .before .loop .inv .same .size
@@ -56,7 +57,7 @@ returns : tie.Need-returns Inv-loop μ-loop
 returns c =
     let a = c .before .before .before .before .args in
     let m = c .before .loop in
-    numbering-end (systemIn (a .table .now) .accepting) (a .t .pile) (m .j) (a .scratch .now) (m .scratch) (c .loop-test .left) (m .inv)
+    numbering-end (processesOfTable (a .t)) (systemIn (a .table .now) .accepting) (a .t .pile) (m .j) (a .scratch .now) (m .scratch) (c .loop-test .left) (m .inv)
 
 pub add-all-accepting-spec : {M : Type 1} → statement M
 add-all-accepting-spec =
