@@ -1,3 +1,4 @@
+-- The sixteen figures are written as they are named.
 use native.Mathlib.Omega.{arith}
 use lib.ListN.{length, length-set}
 use borrow.Author.Needs.{needs}

@@ -1,3 +1,4 @@
+-- Both outcomes of a run have their figures in their places.
 use mathlib.Core.Path.{_≡_, ap, sym, _∙_}
 use Rattle.model.specs.Calls.{runFigures}
 use Rattle.model.specs.declared.Ran.{Ran}

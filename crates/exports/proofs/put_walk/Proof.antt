@@ -1,3 +1,4 @@
+-- Eight figures read one by one are the whole list, and the place comes behind them (Parts).
 use mathlib.Core.Path.{_≡_, ap}
 use mathlib.Core.List.{List, [], _∷_, _++_}
 use Prim.Native.Nat.{ℕ}

@@ -1,3 +1,4 @@
+-- The walk begins at the tail's link, the bucket's least record; with no tail there is none (Walking).
 use Rattle.rings.specs.Rings.{recordReads}
 use Rattle.automaton.specs.StateSets.{firstFrom}
 use Rattle.rings.proofs.Rings.{tail-below, empty-first, walks-head, walks-first}

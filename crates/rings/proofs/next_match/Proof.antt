@@ -1,3 +1,4 @@
+-- The walk begins at the record's link; after the ring's greatest record there is none (Walking).
 use native.Mathlib.Numerals.{add-one}
 use Rattle.rings.proofs.Rings.{last-first, reads-bucket, walks-next, walks-first}
 use Prim.Native.Nat.{_-_}

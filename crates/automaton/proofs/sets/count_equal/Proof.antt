@@ -1,3 +1,4 @@
+-- One byte after the other is counted; a count of at most 255 bytes stays a byte (StateSets).
 use Prim.Native.Nat.{_-_}
 use Rattle.automaton.proofs.StateSets.{Counting, counting-end, counting-start, counting-turn}
 use native.Mathlib.Omega.{arith}

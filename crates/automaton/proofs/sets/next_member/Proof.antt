@@ -1,3 +1,4 @@
+-- Whole blocks, then the rest of a byte, are passed over only where no member is in them (StateSets).
 use Prim.Native.Nat.{_≤_, _-_, _%_}
 use Rattle.automaton.specs.StateNumbers.{stateCount}
 use Rattle.automaton.specs.StateSets.{member}
