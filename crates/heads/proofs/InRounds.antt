@@ -14,7 +14,7 @@ use Rattle.model.proofs.Tests.{by-test}
 use Rattle.logs.proofs.Logs.{log-fits}
 use Rattle.paths.proofs.Glances.{before-same, letter-same}
 use Rattle.records.specs.Entries.{Fits}
-use Rattle.rings.proofs.Rings.{freshened-log, freshened-scratch, ringed-log, ringed-scratch}
+use Rattle.rings.proofs.Keeping.{freshened-log, freshened-scratch, ringed-log, ringed-scratch}
 use Rattle.rules.specs.Regions.{inSet, positionCeiling}
 use Rattle.rules.specs.Rules.{hasLetter, orderedRule, writersOf, writesLetter}
 use Rattle.rules.proofs.RegionLaws.{in-same}

@@ -12,7 +12,7 @@ use Rattle.automaton.specs.StateSets.{firstFrom, inserted}
 use Rattle.automaton.proofs.StateSets.{first-at, length-inserted}
 use Rattle.packs.specs.Packs.{packNumber, packedAfter}
 use Rattle.rings.specs.Rings.{RingRoom, Ringed, recordReads}
-use Rattle.rings.proofs.Rings.{ringed-scratch}
+use Rattle.rings.proofs.Keeping.{ringed-scratch}
 use Rattle.scratch.specs.Regions.{passedAt, ringsAt, seenAt, seenBit, setBytes}
 use Rattle.paths.specs.Held.{HeldSeen, heldBelow}
 use Rattle.paths.specs.Jobs.{seenIn}

@@ -27,7 +27,7 @@ use Rattle.automaton.proofs.StateSets.{first-at}
 use Rattle.packs.specs.Packs.{maskOf, mergedBits, packedAfter, packedBefore, restrictedBits, unpacked}
 use Rattle.packs.proofs.Unpacked.{merge-below, merge-unpacked, restrict-below, restrict-unpacked, same-unpacked}
 use Rattle.rings.specs.Rings.{recordReads}
-use Rattle.rings.proofs.Rings.{freshened-log, freshened-scratch, ringed-log, ringed-scratch}
+use Rattle.rings.proofs.Keeping.{freshened-log, freshened-scratch, ringed-log, ringed-scratch}
 use Rattle.scratch.specs.Regions.{passedAt, ringsAt, seenAt, setBytes}
 use Rattle.paths.specs.declared.Job.{Job}
 use Rattle.paths.specs.declared.Trail.{Trail}

@@ -4,7 +4,7 @@ use Prim.Native.Nat.{ℕ, _+_, _*_, _/_, _%_, _<_, _≤_}
 use native.Mathlib.Nat.{mul-le-mul}
 use native.Mathlib.Omega.{arith}
 use Rattle.rings.specs.Rings.{bucketOf}
-use Rattle.rings.proofs.Rings.{scaled-below}
+use Rattle.rings.proofs.Links.{scaled-below}
 use borrow.Author.Needs.{needs}
 use Rattle.rings.proofs.bucket.Statement.{statement}
 use Rattle.rings.proofs.bucket.Tie as tie
