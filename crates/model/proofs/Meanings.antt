@@ -17,7 +17,7 @@ use Rattle.model.specs.Tables.{Item, Reading, accepted, read, refused, s
 use Rattle.model.specs.Unfolding.{emitted, pathSteps}
 use Rattle.model.proofs.Closing.{refusal-number}
 use Rattle.model.proofs.Demands.{calls-decide, found-counts, found-joins, none-joins}
-use Rattle.model.proofs.Tables.{read-complete}
+use Rattle.model.proofs.CheckedItems.{read-complete}
 use Rattle.model.proofs.Tests.{by-test}
 
 -- ---- the answer call

@@ -11,7 +11,7 @@ use lib.Seq.{drop-append-le, length-take-le, take-all, take-append-le}
 use borrow.Author.Tests.{leb-true, leb-false, ltb-false}
 use Rattle.model.specs.Calls.{answerCall, runCall}
 use Rattle.model.specs.Tables.{Item, Reading, bodyLength, bodies, count, ending, isStranger, read, readFrom, refusal, unlessRefused}
-use Rattle.model.proofs.Tables.{Checked, none-yet, one-more, bodies-more, count-ceiling, passes}
+use Rattle.model.proofs.CheckedItems.{Checked, none-yet, one-more, bodies-more, count-ceiling, passes}
 use Rattle.model.proofs.Tests.{by-test, or-right}
 
 -- ---- the bytes of items, by their kinds

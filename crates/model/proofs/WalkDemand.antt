@@ -18,7 +18,7 @@ use Rattle.model.specs.Systems.{Configuration, Rule, Step, System, accep
 use Rattle.model.specs.Tables.{Item, Reading, accepted, groupOf, read, refused, systemOf}
 use Rattle.model.proofs.Acceptance.{watched-is-accepted}
 use Rattle.model.proofs.Steps.{walk-cons}
-use Rattle.model.proofs.Tables.{Numbered9, read-numbered}
+use Rattle.model.proofs.RefusalNumbers.{Numbered9, read-numbered}
 use Rattle.model.proofs.Tests.{by-test}
 use Rattle.model.proofs.Theorems.{fire-is-step, step-is-fire, walk-is-steps}
 

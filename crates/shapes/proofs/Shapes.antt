@@ -18,7 +18,9 @@ use Rattle.model.specs.Tables.{Item, accepted, absent, bodies, byteOf, controls
 use Rattle.model.specs.Words.{Located, removeFirst}
 use Rattle.model.proofs.Groups.{at-merge}
 use Rattle.model.proofs.Lists.{each-append}
-use Rattle.model.proofs.Tables.{Checked, Complete, Passes, Fitting, RuleFits, TransitionFits, accepted-well-formed, each-of-kind, fits-at, fits-outside, rules-fit, transitions-fit, start-fits}
+use Rattle.model.proofs.CheckedItems.{Checked, Complete, Passes, each-of-kind}
+use Rattle.model.proofs.FittingItems.{Fitting, RuleFits, TransitionFits, fits-at, fits-outside, rules-fit, transitions-fit, start-fits}
+use Rattle.model.proofs.AcceptedTables.{accepted-well-formed}
 use Rattle.model.proofs.Tests.{by-test, and-left, and-right, every-at, implies}
 use Rattle.automaton.specs.StateNumbers.{Over}
 use Rattle.table.specs.declared.Table.{Table}
