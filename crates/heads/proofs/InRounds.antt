@@ -1,6 +1,6 @@
 -- A round stands as long as the records that it starts from, the order of the rules and the rings do.
-use mathlib.Core.Path.{_∙_, _≡_, ap, ap₂, sym}
-use mathlib.Core.Bool.{Bool, _&&_, false}
+use mathlib.Core.Path.{_∙_, _≡_, ap, sym}
+use mathlib.Core.Bool.{Bool, _&&_}
 use mathlib.Core.List.{List}
 use Prim.Native.Nat.{_*_, _+_, _-_, _/_, _<_, _≤_, ℕ}
 use native.Mathlib.Omega.{arith}

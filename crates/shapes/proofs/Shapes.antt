@@ -14,7 +14,7 @@ use Rattle.model.specs.Groups.{Process, Processes, Within, p0, p1, p2, p3, at, 
 use Rattle.model.specs.Automata.{Transition, move}
 use Rattle.model.specs.Lists.{Each}
 use Rattle.model.specs.Systems.{Rule}
-use Rattle.model.specs.Tables.{Item, accepted, absent, bodies, byteOf, controlsOf, groupFits, groupOf, numberOf, present, ruleOf, statesOf, systemOf, transitionOf, valueFits}
+use Rattle.model.specs.Tables.{Item, absent, bodies, byteOf, controlsOf, groupFits, groupOf, numberOf, present, ruleOf, statesOf, systemOf, transitionOf, valueFits}
 use Rattle.model.specs.Words.{Located, removeFirst}
 use Rattle.model.proofs.Groups.{at-merge}
 use Rattle.model.proofs.Lists.{each-append}

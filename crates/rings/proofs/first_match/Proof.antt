@@ -3,7 +3,7 @@ use Rattle.rings.specs.Rings.{recordReads}
 use Rattle.automaton.specs.StateSets.{firstFrom}
 use Rattle.rings.proofs.Links.{tail-below}
 use Rattle.rings.proofs.Walking.{empty-first, walks-head, walks-first}
-use Prim.Native.Nat.{ℕ, _-_}
+use Prim.Native.Nat.{ℕ}
 use mathlib.Core.Path.{ap, _∙_}
 use native.Mathlib.Omega.{arith}
 use borrow.Author.Needs.{needs}

@@ -2,7 +2,6 @@
 use native.Mathlib.Numerals.{add-one}
 use Rattle.rings.proofs.Links.{reads-bucket}
 use Rattle.rings.proofs.Walking.{last-first, walks-next, walks-first}
-use Prim.Native.Nat.{_-_}
 use borrow.Author.Needs.{needs}
 use Rattle.rings.proofs.next_match.Statement.{statement}
 use Rattle.rings.proofs.next_match.Tie as tie
