@@ -1,6 +1,5 @@
 -- A list of eight numbers by its places, and the part of the list that a walk hands back.
-use mathlib.Core.Path.{_≡_, refl, ap, _∙_}
-use mathlib.Core.Bool.{true, false, cond}
+use mathlib.Core.Path.{_≡_, refl}
 use mathlib.Core.Option.{Option, none, some}
 use mathlib.Core.List.{List, [], _∷_}
 use Prim.Native.Nat.{ℕ, _+_, _≤_}
@@ -8,7 +7,7 @@ use native.Mathlib.Omega.{arith}
 use lib.Dec.{ltb}
 use lib.ListN.{length, getD, getElem?}
 use Rattle.model.specs.declared.Walked.{Walked}
-use Rattle.model.specs.Calls.{Halt, haltAt, stepBy, stepTo, walkCall, walkFigures, walkFrom, walkGiven, walkScratch}
+use Rattle.model.specs.Calls.{Halt, stepBy, stepTo, walkCall, walkFigures, walkFrom, walkGiven, walkScratch}
 use Rattle.model.specs.Groups.{Processes}
 use Rattle.model.specs.Systems.{Configuration, Rule, System, fire}
 use Rattle.model.specs.Tables.{Reading, accepted, refused, read, systemOf}

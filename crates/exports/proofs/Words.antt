@@ -4,17 +4,17 @@ use mathlib.Core.Logic.{_↔_}
 use mathlib.Core.List.{List, [], _∷_, _++_}
 use Prim.Native.Nat.{ℕ, _≤_}
 use native.Mathlib.Omega.{arith}
-use lib.ListN.{getD, length}
+use lib.ListN.{getD}
 use Rattle.model.specs.declared.Answered.{Answered}
 use Rattle.model.specs.declared.Ran.{Ran}
 use Rattle.model.specs.declared.Walked.{Walked}
 use Rattle.model.specs.Calls.{answerCall, answerFigures, answerRefusal, runCall, runFigures, runRefusal, walkFigures}
-use Rattle.model.specs.Demands.{Decided, Demand2Walk, Demand3, Describes, LogHolds, NoRun, SomeRun, Tells, Writes}
+use Rattle.model.specs.Demands.{Decided, Demand2Walk, Describes, NoRun, SomeRun, Tells, Writes}
 use Rattle.model.specs.Systems.{System}
 use Rattle.model.specs.Tables.{Item, accepted, read, systemOf}
 use Rattle.model.proofs.Main.{demand-3}
 use Rattle.model.proofs.Meanings.{AnswerPlaced, RunPlaced, answer-placed, answer-tells, run-placed, run-writes}
-use Rattle.exports.specs.Figures.{AnswerDemand, Premises, RunDemand, RunWord, Says, Word, sixteen}
+use Rattle.exports.specs.Figures.{AnswerDemand, Premises, RunDemand, RunWord, Word, sixteen}
 
 -- ---- the word alone
 figures-tell : (table : List ℕ) (x : Answered) → Tells table x → Word table (sixteen (answerFigures x))

@@ -1,12 +1,12 @@
 -- The search of a head: its active rules one after the other, from its first active position on.
 use mathlib.Core.Path.{_∙_, _≡_, ap, ap₂, refl, subst, sym}
-use mathlib.Core.Bool.{Bool, _&&_, _||_, cond, false, true, true≢false}
-use mathlib.Core.List.{List, [], _++_, _∷_, append-assoc, append-nil, map}
-use Prim.Native.Nat.{_*_, _+_, _-_, _<_, _≤_, min, suc, zero, ℕ}
+use mathlib.Core.Bool.{Bool, _&&_, _||_, false, true, true≢false}
+use mathlib.Core.List.{List, [], _++_, append-assoc, append-nil, map}
+use Prim.Native.Nat.{_*_, _+_, _-_, _<_, _≤_, suc, zero, ℕ}
 use native.Mathlib.Decide.{decLt, ℕ-discrete}
 use native.Mathlib.Omega.{arith}
 use lib.Dec.{eqb, ltb}
-use lib.ListN.{getD, length, length-append, length-map, take}
+use lib.ListN.{length, length-append, length-map, take}
 use borrow.Author.Tests.{eqb-true, lt-ltb, ltb-true}
 use Rattle.model.specs.declared.Group.{Group}
 use Rattle.model.specs.Groups.{Processes, sameGroup}
@@ -18,8 +18,7 @@ use Rattle.model.proofs.FreshPaths.{filter-append}
 use Rattle.model.proofs.Groups.{sameGroup-true}
 use Rattle.model.proofs.Lists.{map-append}
 use Rattle.model.proofs.RoundGroups.{filter, isHead, isHead-of, isHead-true}
-use Rattle.model.proofs.Tests.{and-left, and-right, by-test}
-use Rattle.automaton.specs.StateNumbers.{stateCount}
+use Rattle.model.proofs.Tests.{and-left, and-right}
 use Rattle.automaton.specs.StateSets.{firstFrom}
 use Rattle.automaton.proofs.StateSets.{First, first-at}
 use Rattle.logs.proofs.Rules.{rule-over}
@@ -32,16 +31,15 @@ use Rattle.rules.specs.Regions.{inSet, positionCeiling}
 use Rattle.rules.specs.Rules.{orderedRule}
 use Rattle.rules.proofs.HeadRuns.{head-candidates, offersOf, runOffers}
 use Rattle.rules.proofs.RuleOrder.{same-between}
-use Rattle.scratch.specs.Regions.{activeAt, passedAt, seenAt, setBytes}
+use Rattle.scratch.specs.Regions.{activeAt}
 use Rattle.table.specs.declared.Table.{Table}
 use Rattle.table.specs.Reading.{BitsOf, Holds, ruleIn, systemIn}
 use Rattle.table.proofs.Layouts.{table-modest}
 use Rattle.heads.specs.declared.Head.{Head}
-use Rattle.heads.specs.declared.Reached.{Reached}
 use Rattle.heads.specs.declared.Round.{Round}
-use Rattle.heads.specs.Heads.{Arrived, HeadSearched, Leading, NextHead, beforeOf, letterOf}
+use Rattle.heads.specs.Heads.{Arrived, HeadSearched, Leading, beforeOf, letterOf}
 use Rattle.heads.specs.Jobs.{HeadOf, hasHead}
-use Rattle.heads.specs.Rounds.{InRound, earlierLog, headAt, headCandidates, isActive, isOffered, lookedAt, ruleCandidates, ruleOffers}
+use Rattle.heads.specs.Rounds.{InRound, earlierLog, headAt, isActive, isOffered, lookedAt, ruleCandidates, ruleOffers}
 use Rattle.heads.proofs.InRounds.{active-kept, order-kept, round-kept}
 use Rattle.heads.proofs.StoredRecords.{over-bytes}
 

@@ -1,6 +1,6 @@
 -- A round stands as long as the records that it starts from, the order of the rules and the rings do.
-use mathlib.Core.Path.{_∙_, _≡_, ap, ap₂, sym}
-use mathlib.Core.Bool.{Bool, _&&_, false}
+use mathlib.Core.Path.{_∙_, _≡_, ap, sym}
+use mathlib.Core.Bool.{Bool, _&&_}
 use mathlib.Core.List.{List}
 use Prim.Native.Nat.{_*_, _+_, _-_, _/_, _<_, _≤_, ℕ}
 use native.Mathlib.Omega.{arith}
@@ -14,7 +14,7 @@ use Rattle.model.proofs.Tests.{by-test}
 use Rattle.logs.proofs.Logs.{log-fits}
 use Rattle.paths.proofs.Glances.{before-same, letter-same}
 use Rattle.records.specs.Entries.{Fits}
-use Rattle.rings.proofs.Rings.{freshened-log, freshened-scratch, ringed-log, ringed-scratch}
+use Rattle.rings.proofs.Keeping.{freshened-log, freshened-scratch, ringed-log, ringed-scratch}
 use Rattle.rules.specs.Regions.{inSet, positionCeiling}
 use Rattle.rules.specs.Rules.{hasLetter, orderedRule, writersOf, writesLetter}
 use Rattle.rules.proofs.RegionLaws.{in-same}

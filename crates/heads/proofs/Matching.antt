@@ -14,7 +14,7 @@ use Rattle.model.specs.Automata.{Transition, move}
 use Rattle.model.specs.Groups.{Processes, merge, restrict, sameGroup}
 use Rattle.model.specs.Lists.{Each, sumOver}
 use Rattle.model.specs.Log.{Candidate, Path, Record, addedRecord, extend, keys, noRecord, paths, push, readsAt, recordAt, stepsCap}
-use Rattle.model.specs.Records.{afterAt, beforeAt, letterAt, logBytes, recordLength}
+use Rattle.model.specs.Records.{afterAt, beforeAt, logBytes, recordLength}
 use Rattle.model.proofs.LogPaths.{reads-letter}
 use Rattle.model.proofs.Tests.{by-test}
 use Rattle.model.proofs.Validity.{each-at}

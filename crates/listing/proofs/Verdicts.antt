@@ -5,8 +5,7 @@ use Prim.Native.Nat.{ℕ}
 use native.Mathlib.Omega.{arith}
 use lib.ListN.{getD, replicate, take}
 use Rattle.model.specs.declared.Answered.{Answered}
-use Rattle.model.specs.declared.Ran.{Ran}
-use Rattle.model.specs.Calls.{answerCall, runCall}
+use Rattle.model.specs.Calls.{answerCall}
 use Rattle.model.specs.Demands.{NoRun, SomeRun, Tells}
 use Rattle.model.specs.Tables.{Item, accepted, read, systemOf}
 use Rattle.model.proofs.Meanings.{answer-tells}

@@ -21,7 +21,9 @@ use Rattle.model.specs.Systems.{Rule}
 use Rattle.model.specs.Tables.{Item, bodies, controlsOf, isTwin, ruleOf, sameBytes, statesOf, systemOf, transitionOf}
 use Rattle.model.proofs.Groups.{at-restrict, ext}
 use Rattle.model.proofs.Lists.{Distinct, any-of, distinct-append, each-both, each-get}
-use Rattle.model.proofs.Tables.{Checked, none-yet, one-more, Complete, Passes, Fitting, RuleFits, TransitionFits, accepted-well-formed, bodies-more, rules-fit, transitions-fit}
+use Rattle.model.proofs.CheckedItems.{Checked, none-yet, one-more, Complete, Passes, bodies-more}
+use Rattle.model.proofs.FittingItems.{Fitting, RuleFits, TransitionFits, rules-fit, transitions-fit}
+use Rattle.model.proofs.AcceptedTables.{accepted-well-formed}
 use Rattle.model.proofs.Tests.{by-test, and-both}
 use Rattle.automaton.specs.StateNumbers.{Over}
 use Rattle.table.specs.declared.Table.{Table}

@@ -13,7 +13,7 @@ use Rattle.model.specs.Lists.{valueOr}
 use Rattle.model.specs.Log.{Record}
 use Rattle.model.specs.Systems.{Configuration, Rule, System, fire}
 use Rattle.model.specs.Tables.{Reading, accepted, read, refused, systemOf}
-use Rattle.model.proofs.Tables.{Numbered9, read-numbered}
+use Rattle.model.proofs.RefusalNumbers.{Numbered9, read-numbered}
 use Rattle.model.proofs.Tests.{by-test}
 
 -- zeros know the length alone

@@ -22,7 +22,9 @@ use Rattle.model.specs.Unfolding.{Unfolds, emitted, pathSteps}
 use Rattle.model.proofs.Emission.{unfolds-unique}
 use Rattle.model.proofs.Limit.{limit-saturated}
 use Rattle.model.proofs.Reachability.{answer-no, answer-steps, answer-yes, path-unfolds}
-use Rattle.model.proofs.Tables.{Complete, Numbered9, accepted-bytes, accepted-control, accepted-well-formed, read-complete, read-numbered}
+use Rattle.model.proofs.CheckedItems.{Complete, read-complete}
+use Rattle.model.proofs.AcceptedTables.{accepted-bytes, accepted-control, accepted-well-formed}
+use Rattle.model.proofs.RefusalNumbers.{Numbered9, read-numbered}
 use Rattle.model.proofs.Tests.{by-test}
 
 -- ---- every accepted table is decided: its start's path in the limit, or no run

@@ -21,7 +21,10 @@ pub mod FirstCandidates
 pub mod Rounds
 pub mod Reasons
 pub mod RecordBytes
-pub mod Tables
+pub mod CheckedItems
+pub mod FittingItems
+pub mod AcceptedTables
+pub mod RefusalNumbers
 pub mod Closing
 pub mod Prefixes
 pub mod Demands

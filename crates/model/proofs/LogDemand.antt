@@ -1,24 +1,20 @@
 -- Demand 2 of the log: the bytes that the answer and the run call leave hold the limit automaton, each transition in its first round.
 use mathlib.Core.Path.{_∙_, _≡_, ap, ap₂, refl, subst, sym}
-use mathlib.Core.Bool.{Bool, _||_, false, true, true≢false}
+use mathlib.Core.Bool.{_||_, false, true, true≢false}
 use mathlib.Core.List.{List, _++_}
-use Prim.Native.Nat.{_*_, _+_, _-_, _<_, _≤_, suc, zero, ℕ}
+use Prim.Native.Nat.{_*_, _-_, _<_, _≤_, suc, ℕ}
 use native.Mathlib.Omega.{arith}
 use lib.Dec.{eqb, ltb}
 use lib.ListN.{drop, length, length-append, length-replicate, replicate}
 use lib.Seq.{drop-at}
 use borrow.Author.Tests.{ltb-false}
-use Rattle.model.specs.declared.Answered.{Answered}
-use Rattle.model.specs.declared.Ran.{Ran}
-use Rattle.model.specs.Automata.{Transition}
-use Rattle.model.specs.Calls.{answerCall, answerGiven, answerRefusal, capacity, changesNothing, filled, isLong, logAfter, recordsOf, runCall, runGiven, runRefusal, runVerdict, scratchNeeded, startPath, verdict}
-use Rattle.model.specs.Demands.{Demand2, Describes, LogHolds}
-use Rattle.model.specs.Log.{Path, Record, keys, limit, logAt, recordAt, saturatedAt}
+use Rattle.model.specs.Calls.{answerCall, answerGiven, answerRefusal, capacity, changesNothing, filled, logAfter, recordsOf, runCall, runGiven, runRefusal, runVerdict, scratchNeeded, startPath, verdict}
+use Rattle.model.specs.Demands.{Demand2, LogHolds}
+use Rattle.model.specs.Log.{Record, limit, recordAt, saturatedAt}
 use Rattle.model.specs.Records.{keyAt, logBytes, recordLength, roundAt}
 use Rattle.model.specs.Saturation.{Delta}
 use Rattle.model.specs.Systems.{System}
 use Rattle.model.specs.Tables.{Item, Reading, accepted, read, refused, systemOf}
-use Rattle.model.specs.Unfolding.{pathSteps}
 use Rattle.model.proofs.Collecting.{number-of}
 use Rattle.model.proofs.Closing.{refusal-changes-nothing}
 use Rattle.model.proofs.Reachability.{held-limit}

@@ -1,10 +1,8 @@
 -- The mission's demands, of the definitions that the contracts of the calls are equations with: the top statements alone, in their order.
-use mathlib.Core.Path.{_∙_, _≡_, refl, sym}
-use mathlib.Core.Bool.{false, true, true≢false}
-use mathlib.Core.Logic.{_⊎_, inl, inr}
+use mathlib.Core.Path.{_≡_}
+use mathlib.Core.Bool.{false, true}
 use mathlib.Core.List.{List}
 use Prim.Native.Nat.{ℕ}
-use native.Mathlib.Omega.{arith}
 use Rattle.model.specs.Calls.{answerCall, answerRefusal, changesNothing, runCall, runRefusal, walkCall, walkFigures, walkRefusal, zeros}
 use Rattle.model.specs.Demands.{Demand2Walk, Demand3, LogHolds, Tells, Writes}
 use Rattle.model.proofs.Closing.{answer-closes, run-closes, walk-closes}

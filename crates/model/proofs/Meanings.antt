@@ -1,7 +1,7 @@
 -- What the word of the answer call tells, and what the run call writes, whatever the buffers: demand 3 without its premises.
 use mathlib.Core.Path.{_≡_, refl, ap, sym, subst, _∙_}
 use mathlib.Core.Option.{Option, none, some}
-use mathlib.Core.List.{List, []}
+use mathlib.Core.List.{List}
 use Prim.Native.Nat.{ℕ, _≤_}
 use native.Mathlib.Omega.{arith}
 use lib.Dec.{ltb}
@@ -17,7 +17,7 @@ use Rattle.model.specs.Tables.{Item, Reading, accepted, read, refused, s
 use Rattle.model.specs.Unfolding.{emitted, pathSteps}
 use Rattle.model.proofs.Closing.{refusal-number}
 use Rattle.model.proofs.Demands.{calls-decide, found-counts, found-joins, none-joins}
-use Rattle.model.proofs.Tables.{read-complete}
+use Rattle.model.proofs.CheckedItems.{read-complete}
 use Rattle.model.proofs.Tests.{by-test}
 
 -- ---- the answer call

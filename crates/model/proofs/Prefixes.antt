@@ -1,7 +1,7 @@
 -- A table is told from its first 5,545 bytes: the longest accepted one has 5,530, and what follows them changes no reading. So a program that
 -- reads no more than a buffer of that length gives what it would give for the whole input.
 use mathlib.Core.Path.{_≡_, refl, ap, _∙_}
-use mathlib.Core.Bool.{true, false, cond, true≢false}
+use mathlib.Core.Bool.{false, cond, true≢false}
 use mathlib.Core.List.{List, [], _∷_, _++_}
 use Prim.Native.Nat.{ℕ, zero, suc, _+_, _-_, _*_, _<_, _≤_}
 use native.Mathlib.Omega.{arith}
@@ -11,7 +11,7 @@ use lib.Seq.{drop-append-le, length-take-le, take-all, take-append-le}
 use borrow.Author.Tests.{leb-true, leb-false, ltb-false}
 use Rattle.model.specs.Calls.{answerCall, runCall}
 use Rattle.model.specs.Tables.{Item, Reading, bodyLength, bodies, count, ending, isStranger, read, readFrom, refusal, unlessRefused}
-use Rattle.model.proofs.Tables.{Checked, none-yet, one-more, bodies-more, count-ceiling, passes}
+use Rattle.model.proofs.CheckedItems.{Checked, none-yet, one-more, bodies-more, count-ceiling, passes}
 use Rattle.model.proofs.Tests.{by-test, or-right}
 
 -- ---- the bytes of items, by their kinds

@@ -31,7 +31,8 @@ use Rattle.model.proofs.Reachability.{WellFormed, answer-steps, held-mo
 use Rattle.model.proofs.Reasons.{HasReason, LeastReason, log-least, log-reasons}
 use Rattle.model.proofs.Rounds.{Before, FirstHeld, Ordered, delta-held, each-first, held-delta, log-ordered}
 use Rattle.model.proofs.Steps.{fire-step, step-fire, steps-walk, walk-steps}
-use Rattle.model.proofs.Tables.{accepted-bytes, accepted-well-formed, read-complete}
+use Rattle.model.proofs.CheckedItems.{read-complete}
+use Rattle.model.proofs.AcceptedTables.{accepted-bytes, accepted-well-formed}
 use Rattle.model.proofs.Tests.{by-zero}
 use Rattle.model.proofs.Validity.{each-at, log-counted, log-earlier}
 

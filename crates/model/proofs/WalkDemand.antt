@@ -1,5 +1,5 @@
 -- Demand 2 of a walk: its steps are those of the paper, where it ends and where it is refused; its watched figure is acceptance.
-use mathlib.Core.Path.{_∙_, _≡_, ap, ap₂, refl, subst, sym}
+use mathlib.Core.Path.{_∙_, _≡_, ap, refl, subst, sym}
 use mathlib.Core.Bool.{Bool, false, true, true≢false}
 use mathlib.Core.Logic.{_↔_, _⊎_, inl, inr, ⊎-elim}
 use mathlib.Core.Option.{Option, none, some}
@@ -10,15 +10,14 @@ use lib.Dec.{ltb}
 use lib.ListN.{drop, getD, getElem?, length, length-append, length-replicate, replicate, take}
 use lib.Seq.{take-append-seam}
 use borrow.Author.Tests.{ltb-false, ltb-true}
-use Rattle.model.specs.declared.Walked.{Walked}
-use Rattle.model.specs.Calls.{Halt, bit, filled, haltAt, haltBefore, haltEnd, stepBy, stepTo, walkCall, walkFigures, walkFrom, walkGiven, walkRefusal, walkScratch}
-use Rattle.model.specs.Demands.{Demand2Walk, Describes, NoRoom, NoRule, NoStep, Reached, StoppedAt}
+use Rattle.model.specs.Calls.{Halt, bit, filled, haltAt, haltBefore, haltEnd, stepBy, stepTo, walkCall, walkFigures, walkFrom, walkGiven, walkScratch}
+use Rattle.model.specs.Demands.{Demand2Walk, NoRoom, NoRule, NoStep, Reached, StoppedAt}
 use Rattle.model.specs.Lists.{valueOr}
-use Rattle.model.specs.Systems.{Configuration, Rule, Step, System, accepts, fire, walk}
-use Rattle.model.specs.Tables.{Item, Reading, accepted, groupOf, read, refused, systemOf}
+use Rattle.model.specs.Systems.{Configuration, Rule, System, accepts, fire, walk}
+use Rattle.model.specs.Tables.{Item, Reading, accepted, read, refused, systemOf}
 use Rattle.model.proofs.Acceptance.{watched-is-accepted}
 use Rattle.model.proofs.Steps.{walk-cons}
-use Rattle.model.proofs.Tables.{Numbered9, read-numbered}
+use Rattle.model.proofs.RefusalNumbers.{Numbered9, read-numbered}
 use Rattle.model.proofs.Tests.{by-test}
 use Rattle.model.proofs.Theorems.{fire-is-step, step-is-fire, walk-is-steps}
 

@@ -6,24 +6,23 @@ use Prim.Native.Nat.{ℕ, zero, suc, _+_, _*_, _<_, _≤_, min}
 use native.Mathlib.Omega.{arith}
 use lib.Dec.{eqb, ltb}
 use lib.ListN.{getD, length, take}
-use Rattle.model.specs.declared.Group.{Group}
 use Rattle.model.specs.Groups.{restrict}
-use Rattle.model.specs.Lists.{Each, sumOver}
-use Rattle.model.specs.Log.{Candidate, Record, addedRecord, noNumber, recordAt, stepsCap}
+use Rattle.model.specs.Lists.{Each}
+use Rattle.model.specs.Log.{Candidate, addedRecord, noNumber}
 use Rattle.model.specs.Records.{recordLength}
 use Rattle.model.specs.Tables.{writtenPlaces}
 use Rattle.automaton.specs.StateNumbers.{stateCount, stateNumber}
-use Rattle.automaton.specs.StateSets.{inserted, member}
+use Rattle.automaton.specs.StateSets.{inserted}
 use Rattle.automaton.proofs.StateNumbers.{stateNumber-below}
 use Rattle.automaton.proofs.StateSets.{length-inserted}
 use Rattle.records.specs.declared.Entry.{Entry}
 use Rattle.records.specs.Entries.{padded, recordEntry, withEntry}
-use Rattle.packs.specs.Packs.{maskOf, packNumber, restrictedBits, unpacked}
+use Rattle.packs.specs.Packs.{packNumber, restrictedBits, unpacked}
 use Rattle.packs.proofs.Unpacked.{number-unpacked, restrict-below, restrict-unpacked}
 use Rattle.scratch.specs.Regions.{passedAt, seenBit, setBytes}
 use Rattle.paths.specs.declared.Job.{Job}
 use Rattle.paths.specs.declared.Trail.{Trail}
-use Rattle.paths.specs.Arrivals.{endNumber, hit, stored, taken}
+use Rattle.paths.specs.Arrivals.{endNumber, stored, taken}
 use Rattle.paths.specs.Jobs.{PassedRight, Searchable, Searched, Standing, arrivals, endEntry, glances, jobProcesses, made, seenIn, storedEnd}
 use Rattle.paths.proofs.Arrivals.{hit-seen, stored-length, taken-none}
 use Rattle.paths.proofs.Passing.{passed-kept, seen-bytes, seen-more, seen-passed}

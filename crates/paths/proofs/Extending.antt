@@ -1,6 +1,6 @@
 -- Paths found record by record: the records that do not read a letter are passed over, and those of earlier rounds where nothing could follow them.
 use mathlib.Core.Path.{_∙_, _≡_, refl, sym, subst}
-use mathlib.Core.Bool.{Bool, _||_, cond, false, true}
+use mathlib.Core.Bool.{Bool, _||_, false, true}
 use mathlib.Core.List.{List, [], _∷_, _++_, map}
 use Prim.Native.Nat.{_+_, _<_, _≤_, suc, zero, ℕ}
 use native.Mathlib.Omega.{arith}

@@ -1,8 +1,8 @@
 -- What a head adds: of its candidates, whose ends are all that tells them apart, those taken are the first for each key that the log lacks. So any
 -- sorted list of them is what the round adds for the head.
-use mathlib.Core.Path.{_≡_, refl, ap, ap₂, sym, subst, _∙_}
+use mathlib.Core.Path.{_≡_, refl, ap, sym, _∙_}
 use mathlib.Core.Bool.{Bool, true, false, cond, _||_, true≢false}
-use mathlib.Core.Option.{Option, none, some}
+use mathlib.Core.Option.{Option, none}
 use mathlib.Core.List.{List, [], _∷_}
 use Prim.Native.Nat.{ℕ}
 use lib.Dec.{eqb}
@@ -16,7 +16,7 @@ use Rattle.model.proofs.Collecting.{sameKey-of, sameKey-true}
 use Rattle.model.proofs.FirstCandidates.{firstOf}
 use Rattle.model.proofs.Order.{Sorted}
 use Rattle.model.proofs.Tests.{by-test}
-use Rattle.model.proofs.UniqueRound.{Chosen, chosen-collect}
+use Rattle.model.proofs.UniqueRound.{chosen-collect}
 use Rattle.automaton.specs.StateNumbers.{Over, stateNumber}
 use Rattle.automaton.proofs.StateNumbers.{number-injective}
 use Rattle.paths.specs.Arrivals.{endNumber, taken}

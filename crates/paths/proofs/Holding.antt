@@ -12,11 +12,11 @@ use Rattle.automaton.specs.StateSets.{firstFrom, inserted}
 use Rattle.automaton.proofs.StateSets.{first-at, length-inserted}
 use Rattle.packs.specs.Packs.{packNumber, packedAfter}
 use Rattle.rings.specs.Rings.{RingRoom, Ringed, recordReads}
-use Rattle.rings.proofs.Rings.{ringed-scratch}
-use Rattle.scratch.specs.Regions.{passedAt, ringsAt, seenAt, seenBit, setBytes}
+use Rattle.rings.proofs.Keeping.{ringed-scratch}
+use Rattle.scratch.specs.Regions.{passedAt, ringsAt, seenBit, setBytes}
 use Rattle.paths.specs.Held.{HeldSeen, heldBelow}
 use Rattle.paths.specs.Jobs.{seenIn}
-use Rattle.paths.proofs.Arrivals.{or-assoc, or-false}
+use Rattle.paths.proofs.Arrivals.{or-false}
 use Rattle.paths.proofs.Passing.{seen-bytes, seen-more}
 
 -- records that do not read them change nothing

@@ -1,15 +1,14 @@
 -- The loop of `explore`, in the terms of its variables.
 use mathlib.Core.Path.{_∙_, _≡_, ap, ap₂, refl, subst, sym}
 use mathlib.Core.Bool.{Bool, _||_, true}
-use mathlib.Core.Logic.{_⊎_, inl, inr}
+use mathlib.Core.Logic.{inl, inr}
 use mathlib.Core.List.{List, [], _∷_, append-nil, map}
 use Prim.Native.Nat.{_*_, _+_, _-_, _<_, _≤_, suc, ℕ}
 use native.Mathlib.Numerals.{add-one}
 use native.Mathlib.Omega.{arith}
 use lib.Dec.{leb}
 use lib.ListN.{getD, length, take}
-use Rattle.model.specs.Groups.{restrict}
-use Rattle.model.specs.Log.{Candidate, Record}
+use Rattle.model.specs.Log.{Candidate}
 use Rattle.model.specs.Tables.{writtenPlaces}
 use Rattle.model.proofs.FreshPaths.{freshPaths}
 use Rattle.model.proofs.Tests.{by-test}

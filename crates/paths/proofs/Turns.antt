@@ -1,38 +1,37 @@
 -- The loop of the search: the records that read a letter, one after the other.
-use mathlib.Core.Path.{_∙_, _≡_, ap, ap₂, refl, subst, sym}
+use mathlib.Core.Path.{_∙_, _≡_, ap, ap₂, refl, sym}
 use mathlib.Core.Bool.{Bool, _&&_, _||_, cond, false, true}
 use mathlib.Core.Logic.{_⊎_, inl, inr}
 use mathlib.Core.List.{List, List·Memᴰ, List·Memᴰ·cases-cons, List·Memᴰ·not-nil, [], _++_, _∷_, append-assoc, append-nil, map}
 use Prim.Native.Nat.{_*_, _+_, _-_, _<_, _≤_, min, suc, zero, ℕ}
 use native.Mathlib.Nat.{le-refl}
 use native.Mathlib.Omega.{arith}
-use lib.Dec.{eqb, leb, ltb}
+use lib.Dec.{eqb, leb}
 use lib.ListN.{drop, drop-of-length-le, getD, length, length-append, length-drop, length-map, length-set, length-take, set, take}
 use lib.Seq.{drop-cons, getD-drop, getD-set-other, getD-take}
 use borrow.Author.Tests.{eqb-true, ltb-false}
 use Rattle.model.specs.declared.Group.{Group}
 use Rattle.model.specs.Automata.{move}
-use Rattle.model.specs.Groups.{Processes, merge, restrict, sameGroup}
+use Rattle.model.specs.Groups.{merge, restrict, sameGroup}
 use Rattle.model.specs.Lists.{Each, sumOver}
 use Rattle.model.specs.Log.{Candidate, Path, Record, addedRecord, noNumber, push, readsAt, recordAt, stepsCap}
 use Rattle.model.specs.Records.{letterAt, recordLength, stepsAt}
-use Rattle.model.specs.Tables.{writtenPlaces}
 use Rattle.model.proofs.FreshPaths.{Stale, extendFresh, freshPaths, stale-paths}
 use Rattle.model.proofs.Lists.{each-append, each-map, map-append}
 use Rattle.model.proofs.Tests.{and-left, by-test}
-use Rattle.automaton.specs.StateNumbers.{Over, stateCount}
+use Rattle.automaton.specs.StateNumbers.{stateCount}
 use Rattle.automaton.specs.StateSets.{firstFrom}
 use Rattle.automaton.proofs.StateNumbers.{stateNumber-below}
 use Rattle.automaton.proofs.StateSets.{first-at}
 use Rattle.packs.specs.Packs.{maskOf, mergedBits, packedAfter, packedBefore, restrictedBits, unpacked}
 use Rattle.packs.proofs.Unpacked.{merge-below, merge-unpacked, restrict-below, restrict-unpacked, same-unpacked}
 use Rattle.rings.specs.Rings.{recordReads}
-use Rattle.rings.proofs.Rings.{freshened-log, freshened-scratch, ringed-log, ringed-scratch}
+use Rattle.rings.proofs.Keeping.{freshened-log, freshened-scratch, ringed-log, ringed-scratch}
 use Rattle.scratch.specs.Regions.{passedAt, ringsAt, seenAt, setBytes}
 use Rattle.paths.specs.declared.Job.{Job}
 use Rattle.paths.specs.declared.Trail.{Trail}
 use Rattle.paths.specs.Arrivals.{endNumber, hit, stored, taken}
-use Rattle.paths.specs.Jobs.{PassedRight, Searchable, Searched, Standing, firstTried, glance, glances, jobLoc, jobProcesses, jobWord, laterFresh, longerTrail, made, offers, seenIn}
+use Rattle.paths.specs.Jobs.{PassedRight, Searchable, Searched, Standing, firstTried, glances, jobLoc, jobWord, laterFresh, longerTrail, made, offers, seenIn}
 use Rattle.paths.proofs.Arrivals.{hit-append, hit-own, or-assoc, or-false, or-true, stored-append, stored-capped, stored-earlier, stored-length, taken-append, taken-same}
 use Rattle.paths.proofs.Extending.{extend-end, extend-first, extend-hit, extend-late}
 use Rattle.paths.proofs.Glances.{after-same, before-same, glances-at, glances-same, length-glances, letter-same, reads-same}

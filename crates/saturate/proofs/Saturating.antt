@@ -16,7 +16,7 @@ use Rattle.model.specs.Systems.{System}
 use Rattle.model.proofs.Collecting.{logAt-suc}
 use Rattle.model.proofs.Limit.{ByteSystem, length-suc, limit-saturated}
 use Rattle.model.proofs.Rounds.{before-saturated, limit-longest, rounds-limit}
-use Rattle.model.proofs.Tables.{accepted-bytes}
+use Rattle.model.proofs.AcceptedTables.{accepted-bytes}
 use Rattle.model.proofs.Tests.{and-left, and-right, by-test}
 use Rattle.saturate.specs.declared.Saturated.{Saturated}
 use Rattle.saturate.specs.declared.Saturated.the-variants.{Limit, Full}

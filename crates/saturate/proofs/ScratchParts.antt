@@ -24,7 +24,7 @@ use Rattle.table.proofs.Layouts.{table-modest}
 use Rattle.logs.proofs.Logs.{Keyed, log-over}
 use Rattle.scratch.specs.Regions.{activeAt, orderAt, passedAt, ringsAt, setBytes, writersAt}
 use Rattle.rings.specs.Rings.{Freshened, OutsideSame, Ringed}
-use Rattle.rings.proofs.Rings.{freshened-scratch, ringed-scratch}
+use Rattle.rings.proofs.Keeping.{freshened-scratch, ringed-scratch}
 use Rattle.rules.specs.Regions.{inSet, positionCeiling}
 use Rattle.rules.specs.Rules.{RulesOrdered, Writers, WritersMarked, hasLetter, letterCeiling, orderedRule, writersOf, writesLetter}
 use Rattle.rules.proofs.ActivePositions.{gathered-active}

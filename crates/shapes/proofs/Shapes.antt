@@ -14,11 +14,13 @@ use Rattle.model.specs.Groups.{Process, Processes, Within, p0, p1, p2, p3, at, 
 use Rattle.model.specs.Automata.{Transition, move}
 use Rattle.model.specs.Lists.{Each}
 use Rattle.model.specs.Systems.{Rule}
-use Rattle.model.specs.Tables.{Item, accepted, absent, bodies, byteOf, controlsOf, groupFits, groupOf, numberOf, present, ruleOf, statesOf, systemOf, transitionOf, valueFits}
+use Rattle.model.specs.Tables.{Item, absent, bodies, byteOf, controlsOf, groupFits, groupOf, numberOf, present, ruleOf, statesOf, systemOf, transitionOf, valueFits}
 use Rattle.model.specs.Words.{Located, removeFirst}
 use Rattle.model.proofs.Groups.{at-merge}
 use Rattle.model.proofs.Lists.{each-append}
-use Rattle.model.proofs.Tables.{Checked, Complete, Passes, Fitting, RuleFits, TransitionFits, accepted-well-formed, each-of-kind, fits-at, fits-outside, rules-fit, transitions-fit, start-fits}
+use Rattle.model.proofs.CheckedItems.{Checked, Complete, Passes, each-of-kind}
+use Rattle.model.proofs.FittingItems.{Fitting, RuleFits, TransitionFits, fits-at, fits-outside, rules-fit, transitions-fit, start-fits}
+use Rattle.model.proofs.AcceptedTables.{accepted-well-formed}
 use Rattle.model.proofs.Tests.{by-test, and-left, and-right, every-at, implies}
 use Rattle.automaton.specs.StateNumbers.{Over}
 use Rattle.table.specs.declared.Table.{Table}

@@ -6,7 +6,7 @@ use Rattle.model.specs.Log.{recordAt, logAt, limit, saturatedAt}
 use Rattle.model.proofs.Emission.{Earlier}
 use Rattle.model.proofs.Reachability.{WellFormed}
 use Rattle.model.proofs.Soundness.{Control}
-use Rattle.model.proofs.Tables.{accepted-well-formed, accepted-control}
+use Rattle.model.proofs.AcceptedTables.{accepted-well-formed, accepted-control}
 use Rattle.model.proofs.Validity.{each-at, log-earlier}
 use Rattle.records.specs.Entries.{HasRecord, Fits, Reads}
 use Rattle.records.proofs.Entries.{log-reads, log-has}

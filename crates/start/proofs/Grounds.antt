@@ -22,7 +22,8 @@ use Rattle.model.proofs.Groups.{at-merge}
 use Rattle.model.proofs.Limit.{each-keys}
 use Rattle.model.proofs.Lists.{each-elem, each-get, each-map, each-of-map, getD-mem}
 use Rattle.model.proofs.Soundness.{ControlOn}
-use Rattle.model.proofs.Tables.{Complete, Passes, Fitting, RuleFits, TransitionFits, each-of-kind, fits-at, fits-outside, rules-fit, transitions-fit, accepting-fit, start-fits}
+use Rattle.model.proofs.CheckedItems.{Complete, Passes, each-of-kind}
+use Rattle.model.proofs.FittingItems.{Fitting, RuleFits, TransitionFits, fits-at, fits-outside, rules-fit, transitions-fit, accepting-fit, start-fits}
 use Rattle.model.proofs.Tests.{by-test, and-left, and-right, cond-less}
 use Rattle.model.proofs.Validity.{each-at}
 use Rattle.automaton.specs.StateNumbers.{Over}

@@ -3,7 +3,7 @@ use mathlib.Core.Path.{_≡_, refl, ap, sym, _∙_}
 use mathlib.Core.List.{List}
 use Prim.Native.Nat.{ℕ}
 use native.Mathlib.Omega.{arith}
-use Rattle.model.proofs.Tables.{Complete, read-complete}
+use Rattle.model.proofs.CheckedItems.{Complete, read-complete}
 use Rattle.model.specs.Tables.{Reading, accepted, refused, read}
 use Rattle.table.specs.Reading.{Holds, itemsIn, itemsOf, parsed}
 use Rattle.table.specs.declared.Parsed.the-variants.{Accepted, Refused}

@@ -10,7 +10,7 @@ use Rattle.model.specs.Records.{recordLength, letterAt}
 use Rattle.numbers.proofs.NumberBytes.{number-same}
 use Rattle.packs.specs.Packs.{packedBefore}
 use Rattle.records.proofs.Parts.{part-back, part-rest}
-use Rattle.rings.proofs.Rings.{ringed-log}
+use Rattle.rings.proofs.Keeping.{ringed-log}
 use Rattle.scratch.specs.Regions.{ringsAt}
 use Rattle.start.specs.Regions.{Linked}
 

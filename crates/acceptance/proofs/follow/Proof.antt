@@ -1,3 +1,4 @@
+-- A transition that reads the letter puts in its target, any other nothing (Sets).
 use mathlib.Core.Path.{_∙_, sym}
 use Rattle.table.specs.Reading.{systemIn, transitionIn}
 use Rattle.shapes.specs.Shapes.{presentIn}

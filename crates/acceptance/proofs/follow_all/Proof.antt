@@ -1,3 +1,4 @@
+-- The transitions so far have put in what they lead to, one after the other (Sets).
 use mathlib.Core.Path.{_∙_}
 use mathlib.Core.List.{[]}
 use Prim.Native.Nat.{_-_}

@@ -1,3 +1,4 @@
+-- No state of the set below the next member is accepting (Sets).
 use mathlib.Core.Path.{_∙_, ap}
 use mathlib.Core.Bool.{true, false}
 use Prim.Native.Nat.{_-_, _+_}

@@ -1,3 +1,4 @@
+-- The start's set, the word read and the test for an accepting state decide acceptance; clearing leaves zeroes (Regions).
 use mathlib.Core.Path.{_∙_}
 use Rattle.table.specs.Reading.{systemIn}
 use Rattle.shapes.specs.Shapes.{presentIn}

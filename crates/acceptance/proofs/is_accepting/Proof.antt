@@ -1,3 +1,4 @@
+-- None of the accepting groups so far is the group (Sets).
 use mathlib.Core.Path.{refl, _∙_, ap, sym}
 use mathlib.Core.List.{[]}
 use Prim.Native.Nat.{_-_}

@@ -1,3 +1,4 @@
+-- The letter is compared first, then the states before.
 use mathlib.Core.Path.{_≡_, refl, _∙_, ap, ap₂}
 use borrow.Author.Tests.{eq-eqb, ne-eqb}
 use Rattle.model.specs.declared.Group.{Group}

@@ -1,3 +1,4 @@
+-- The cleared set with one number put in.
 use mathlib.Core.Path.{_∙_, ap₂}
 use Rattle.automaton.specs.StateSets.{inserted}
 use borrow.Author.Needs.{needs}

@@ -1,3 +1,4 @@
+-- The set that was collected takes the place of the one before (Regions).
 use Rattle.table.specs.Reading.{systemIn}
 use Rattle.shapes.specs.Shapes.{presentIn}
 use Rattle.acceptance.proofs.Regions.{letter-read}

@@ -1,3 +1,4 @@
+-- The second region takes in what the letter leads to, and the first stays (Sets, Regions).
 use mathlib.Core.Path.{_≡_, _∙_, ap, sym, subst}
 use mathlib.Core.List.{List}
 use Prim.Native.Nat.{ℕ, _+_}

@@ -1,3 +1,4 @@
+-- The states below the next member have put in what the letter leads to from them (Sets).
 use mathlib.Core.List.{List}
 use Rattle.automaton.specs.StateSets.{nextMember}
 use mathlib.Core.Path.{_≡_, refl, _∙_, ap}

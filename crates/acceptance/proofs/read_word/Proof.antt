@@ -1,3 +1,4 @@
+-- The set accepts the rest of the word just where the first set accepts the whole (Regions).
 use Prim.Native.Nat.{_-_}
 use Rattle.table.specs.Reading.{systemIn}
 use Rattle.shapes.specs.Shapes.{presentIn}

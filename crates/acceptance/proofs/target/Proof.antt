@@ -1,3 +1,4 @@
+-- The number is that of the transition's states merged into the group.
 use mathlib.Core.Path.{_≡_, _∙_, ap, ap₂}
 use Rattle.model.specs.declared.Group.{Group}
 use Rattle.model.specs.Groups.{Processes, processesOf, merge}

@@ -1,31 +1,24 @@
+-- Each of the three answers has its figures in their places.
 use mathlib.Core.Path.{_≡_, ap, sym, _∙_}
 use Rattle.model.specs.Calls.{answerFigures}
 use Rattle.model.specs.declared.Answered.{Answered}
 use Rattle.exports.specs.Figures.{sixteen}
-use native.Mathlib.Omega.{arith}
-use lib.ListN.{length, length-set}
 use borrow.Author.Needs.{needs}
 use Rattle.exports.proofs.put_answer.Statement.{statement}
 use Rattle.exports.proofs.put_answer.Tie as tie
-use Rattle.exports.proofs.put_answer.Reads as reads
-use Rattle.exports.proofs.put_answer.Lts as lts
-use Rattle.exports.proofs.put.Reads as put-reads
 
--- src/lib.rt:43:1
 returns : tie.Need-returns
 returns c =
     let g = c .before .before .before .a .given in
     let e : c .before .before .before .before .before .args .a ≡ Answered.Reachable (g .0 .0) (g .0 .1 .0) (g .0 .1 .1 .0) = g .1 in
     c .put .ensures ∙ sym (ap (λ (a : Answered). sixteen (answerFigures a)) e)
 
--- src/lib.rt:43:1
 returns-2 : tie.Need-returns-2
 returns-2 c =
     let g = c .before .before .before .a2 .given in
     let e : c .before .before .before .before .before .args .a ≡ Answered.Unreachable (g .0 .0) (g .0 .1 .0) = g .1 in
     c .put2 .ensures ∙ sym (ap (λ (a : Answered). sixteen (answerFigures a)) e)
 
--- src/lib.rt:43:1
 returns-3 : tie.Need-returns-3
 returns-3 c =
     let g = c .before .before .before .a3 .given in

@@ -1,24 +1,18 @@
+-- Both outcomes of a run have their figures in their places.
 use mathlib.Core.Path.{_≡_, ap, sym, _∙_}
 use Rattle.model.specs.Calls.{runFigures}
 use Rattle.model.specs.declared.Ran.{Ran}
 use Rattle.exports.specs.Figures.{sixteen}
-use native.Mathlib.Omega.{arith}
-use lib.ListN.{length, length-set}
 use borrow.Author.Needs.{needs}
 use Rattle.exports.proofs.put_run.Statement.{statement}
 use Rattle.exports.proofs.put_run.Tie as tie
-use Rattle.exports.proofs.put_run.Reads as reads
-use Rattle.exports.proofs.put_run.Lts as lts
-use Rattle.exports.proofs.put.Reads as put-reads
 
--- src/lib.rt:66:1
 returns : tie.Need-returns
 returns c =
     let g = c .before .before .before .r .given in
     let e : c .before .before .before .before .before .args .r ≡ Ran.Reached (g .0 .0) (g .0 .1 .0) (g .0 .1 .1 .0) (g .0 .1 .1 .1 .0) = g .1 in
     c .put .ensures ∙ sym (ap (λ (a : Ran). sixteen (runFigures a)) e)
 
--- src/lib.rt:66:1
 returns-2 : tie.Need-returns-2
 returns-2 c =
     let g = c .before .before .before .r2 .given in

@@ -1,17 +1,13 @@
-use mathlib.Core.Path.{_≡_, ap}
+-- Eight figures read one by one are the whole list, and the place comes behind them (Parts).
+use mathlib.Core.Path.{ap}
 use mathlib.Core.List.{List, [], _∷_, _++_}
 use Prim.Native.Nat.{ℕ}
 use Rattle.exports.proofs.Parts.{eight}
 use Rattle.exports.specs.Figures.{sixteen}
-use native.Mathlib.Omega.{arith}
-use lib.ListN.{length, length-set}
 use borrow.Author.Needs.{needs}
 use Rattle.exports.proofs.put_walk.Statement.{statement}
 use Rattle.exports.proofs.put_walk.Tie as tie
-use Rattle.exports.proofs.put_walk.Reads as reads
-use Rattle.exports.proofs.put_walk.Lts as lts
 
--- src/lib.rt:127:1
 returns : tie.Need-returns
 returns c =
     let x = c .before .before .before .before .before .before .before .before .before .args in

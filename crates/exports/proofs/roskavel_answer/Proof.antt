@@ -4,17 +4,10 @@ use Rattle.model.specs.Calls.{answerFigures}
 use Rattle.model.specs.declared.Answered.{Answered}
 use Rattle.exports.specs.Figures.{sixteen}
 use Rattle.exports.proofs.Words.{answer-figures, answer-number, answer-word}
-use native.Mathlib.Omega.{arith}
-use lib.ListN.{length, length-set}
 use borrow.Author.Needs.{needs}
 use Rattle.exports.proofs.roskavel_answer.Statement.{statement}
 use Rattle.exports.proofs.roskavel_answer.Tie as tie
-use Rattle.exports.proofs.roskavel_answer.Reads as reads
-use Rattle.exports.proofs.roskavel_answer.Lts as lts
-use Rattle.exports.proofs.put_answer.Reads as put-answer-reads
-use Rattle.reach.proofs.answer.Reads as answer-reads
 
--- src/lib.rt:151:1
 returns : tie.Need-returns
 returns c =
     let at-call = c .before .before .before .before .before .before in

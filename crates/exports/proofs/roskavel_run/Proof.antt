@@ -4,17 +4,10 @@ use Rattle.model.specs.Calls.{runFigures}
 use Rattle.model.specs.declared.Ran.{Ran}
 use Rattle.exports.specs.Figures.{sixteen}
 use Rattle.exports.proofs.Words.{run-figures, run-number, run-word}
-use native.Mathlib.Omega.{arith}
-use lib.ListN.{length, length-set}
 use borrow.Author.Needs.{needs}
 use Rattle.exports.proofs.roskavel_run.Statement.{statement}
 use Rattle.exports.proofs.roskavel_run.Tie as tie
-use Rattle.exports.proofs.roskavel_run.Reads as reads
-use Rattle.exports.proofs.roskavel_run.Lts as lts
-use Rattle.exports.proofs.put_run.Reads as put-run-reads
-use Rattle.reach.proofs.run.Reads as run-reads
 
--- src/lib.rt:165:1
 returns : tie.Need-returns
 returns c =
     let at-call = c .before .before .before .before .before .before .before .before in

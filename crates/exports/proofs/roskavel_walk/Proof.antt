@@ -1,5 +1,5 @@
 -- The walk call for C and Rust: its figures are those of the walk, then where the part handed back begins.
-use mathlib.Core.Path.{_≡_, ap, sym, _∙_}
+use mathlib.Core.Path.{ap, _∙_}
 use mathlib.Core.List.{List, [], _∷_, _++_}
 use Prim.Native.Nat.{ℕ, _-_}
 use Rattle.exports.proofs.Parts.{figures-length, rest-short}
@@ -7,29 +7,22 @@ use Rattle.model.specs.Calls.{walkCall, walkFigures}
 use Rattle.exports.proofs.Words.{walk-figures}
 use Rattle.exports.specs.Figures.{sixteen}
 use native.Mathlib.Omega.{arith}
-use lib.ListN.{length, length-set}
+use lib.ListN.{length}
 use borrow.Author.Needs.{needs}
 use Rattle.exports.proofs.roskavel_walk.Statement.{statement}
 use Rattle.exports.proofs.roskavel_walk.Tie as tie
-use Rattle.exports.proofs.roskavel_walk.Reads as reads
-use Rattle.exports.proofs.roskavel_walk.Lts as lts
-use Rattle.exports.proofs.put_walk.Reads as put-walk-reads
-use Rattle.walk.proofs.walk.Reads as walk-reads
 
--- src/lib.rt:192:16
 sub-from : tie.Need-sub-from
 sub-from c =
     let a = c .before .before .before .before .before .before .before .before .before .before .before .before .args in
     omega (arith, rest-short (a .table .now) (a .rules .now) (a .pile .now) (a .scratch .now), ap length (c .before .before .before .before .walk .ensures .0 .rest))
 
--- src/lib.rt:193:5
 put-walk-requires : tie.Need-put-walk-requires
 put-walk-requires c κs =
     let a = c .before .before .before .before .before .before .before .before .before .before .before .before .before .before .args in
     let w = c .before .before .before .before .before .before .walk .ensures .0 in
     ap length (w .figures) ∙ figures-length (walkCall (a .table .now) (a .rules .now) (a .pile .now) (a .scratch .now) .answer)
 
--- src/lib.rt:180:1
 returns : tie.Need-returns
 returns c =
     let at-walk = c .before .before .before .before .before .before .before in

@@ -1,3 +1,4 @@
+-- One letter after the other moves one place on, beginning at the gap (Piles).
 use mathlib.Core.Path.{_≡_, refl, _∙_, ap}
 use Prim.Native.Nat.{ℕ, _≤_}
 use Rattle.firing.specs.Places.{closed}

@@ -1,3 +1,4 @@
+-- The letters passed over are other ones and apart; one that is neither ends the search (Scans).
 use mathlib.Core.Bool.{true, false}
 use Prim.Native.Nat.{_-_}
 use lib.ListN.{getD, length}

@@ -1,3 +1,4 @@
+-- No place is found: idle. A word too long: full. Else the word and the states after are the rule's (Firings).
 use mathlib.Core.Path.{_∙_, ap}
 use Prim.Native.Nat.{ℕ, _<_, _+_, _-_}
 use Rattle.table.specs.Reading.{systemIn, ruleIn}

@@ -1,3 +1,4 @@
+-- The letter is searched only where the rule reads the states (Firings).
 use mathlib.Core.Path.{_≡_, _∙_, ap}
 use mathlib.Core.Bool.{true, false}
 use Rattle.model.specs.Groups.{processesOf}

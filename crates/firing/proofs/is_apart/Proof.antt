@@ -1,3 +1,4 @@
+-- Two sets of bits share no process where no bit is in both (Scans).
 use mathlib.Core.Path.{_∙_, ap}
 use Rattle.model.specs.Groups.{processesOf}
 use Rattle.model.proofs.CodeTests.{apartTest}

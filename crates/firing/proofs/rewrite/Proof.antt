@@ -1,3 +1,4 @@
+-- The gap closed and the letters written in front make the rewritten word (Piles).
 use mathlib.Core.Path.{_≡_, _∙_, ap, ap₂}
 use mathlib.Core.List.{List}
 use Prim.Native.Nat.{ℕ, _+_, _-_}

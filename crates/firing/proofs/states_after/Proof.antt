@@ -1,3 +1,4 @@
+-- The rule's states are merged at the processes of its letter.
 use mathlib.Core.Path.{_≡_, _∙_, ap, ap₂}
 use Rattle.model.specs.declared.Group.{Group}
 use Rattle.model.specs.Groups.{Processes, processesOf, merge}

@@ -1,3 +1,4 @@
+-- The written letters so far stand in the buffer, one after the other.
 use mathlib.Core.Path.{_≡_, _∙_, ap}
 use Prim.Native.Nat.{_-_, _<_, _≤_}
 use Rattle.shapes.proofs.Buffers.{Pasting, pasting-start, pasting-turn}

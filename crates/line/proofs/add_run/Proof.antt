@@ -1,3 +1,4 @@
+-- The run's rules lie inside the page, so that its lines have room (LineTexts).
 use mathlib.Core.Path.{ap, subst}
 use mathlib.Core.List.{List}
 use Prim.Native.Nat.{ℕ}

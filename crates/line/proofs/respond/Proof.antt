@@ -1,3 +1,4 @@
+-- The answer's lines alone, or with the run's behind them, are the whole text (LineTexts).
 use mathlib.Core.Path.{sym, _∙_}
 use Rattle.listing.specs.LineText.{Lent}
 use Rattle.listing.proofs.LineTexts.{text-alone, text-with-run}

@@ -1,3 +1,4 @@
+-- Each kind of answer has its lines, together at most 128 bytes (Texts).
 use mathlib.Core.Path.{_≡_, sym, subst}
 use Rattle.model.specs.declared.Answered.{Answered}
 use Rattle.listing.specs.Listing.{answerLines}

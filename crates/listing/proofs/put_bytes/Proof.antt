@@ -1,3 +1,4 @@
+-- One byte after the other is put; the others stay (Texts).
 use mathlib.Core.Path.{refl}
 use Prim.Native.Nat.{_+_, _≤_, _-_}
 use Rattle.listing.specs.Puts.{Puts}

@@ -1,3 +1,4 @@
+-- The verdict's line and the two lines of figures stand one behind the other (Texts).
 use Prim.Native.Nat.{_+_}
 use Rattle.listing.specs.Listing.{counted}
 use Rattle.listing.proofs.Texts.{puts-then}

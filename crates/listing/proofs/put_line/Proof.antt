@@ -1,3 +1,4 @@
+-- Head, digits and the line's end stand one behind the other (Texts).
 use Prim.Native.Nat.{_+_}
 use Rattle.listing.specs.Listing.{line}
 use Rattle.listing.proofs.Texts.{puts-then}

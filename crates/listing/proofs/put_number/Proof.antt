@@ -1,3 +1,4 @@
+-- The digits put are those of the number, at most 20 (Decimals).
 use mathlib.Core.Path.{ap}
 use Rattle.listing.proofs.Decimals.{decimal-front, decimal-most}
 use Rattle.listing.proofs.Texts.{puts-as}

@@ -1,3 +1,4 @@
+-- A run has its peak and its rules from the page's front, a refusal its number (Texts).
 use mathlib.Core.Path.{_≡_, ap, sym, subst}
 use Prim.Native.Nat.{_+_, _-_, _*_}
 use Rattle.model.specs.declared.Ran.{Ran}

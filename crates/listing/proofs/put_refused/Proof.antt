@@ -1,3 +1,4 @@
+-- The words and digits of the refusal stand one behind the other (Texts).
 use Rattle.listing.specs.Listing.{refusedLine}
 use Rattle.listing.proofs.Texts.{puts-then}
 use native.Mathlib.Omega.{arith}

@@ -1,3 +1,4 @@
+-- The digits behind the space are at most 5 (Decimals).
 use mathlib.Core.Path.{refl}
 use Rattle.listing.proofs.Decimals.{decimal-most}
 use Rattle.listing.proofs.Texts.{puts-as, puts-then}

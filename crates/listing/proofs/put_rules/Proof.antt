@@ -1,3 +1,4 @@
+-- One rule after the other is put behind those before it (Texts).
 use Prim.Native.Nat.{_*_, _-_, _≤_}
 use Rattle.listing.specs.Listing.{spaced}
 use Rattle.listing.specs.Puts.{Puts}

@@ -1,3 +1,4 @@
+-- The word `run`, the rules and the line's end stand one behind the other (Texts).
 use Prim.Native.Nat.{_+_, _*_}
 use Rattle.listing.specs.Listing.{runLine}
 use Rattle.listing.proofs.Texts.{puts-then}

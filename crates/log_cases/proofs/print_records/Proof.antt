@@ -1,3 +1,4 @@
+-- The count is reached after as many turns.
 use Prim.Native.Nat.{_≤_, _-_}
 use native.Mathlib.Omega.{arith}
 use borrow.Author.Needs.{needs}

@@ -1,3 +1,4 @@
+-- Each pair of bytes is read inside the list.
 use Prim.Native.Nat.{_≤_, _-_, _*_}
 use native.Mathlib.Omega.{arith}
 use lib.ListN.{length}

@@ -1,11 +1,10 @@
 -- The search from a state: at the word's end it arrives, a state that was passed is left, else it goes on by each record in turn.
-use mathlib.Core.Path.{_≡_, ap, refl, subst, sym, _∙_}
-use Prim.Native.Nat.{ℕ, _<_, _+_, _-_}
+use mathlib.Core.Path.{ap, refl, subst, sym, _∙_}
+use Prim.Native.Nat.{ℕ, _<_, _-_}
 use native.Mathlib.Omega.{arith}
-use lib.ListN.{length}
 use Rattle.automaton.proofs.StateSets.{first-at}
 use Rattle.packs.specs.Packs.{mergedBits}
-use Rattle.paths.specs.Jobs.{Standing, isPassed}
+use Rattle.paths.specs.Jobs.{Standing}
 use Rattle.paths.proofs.Arriving.{searched-log}
 use Rattle.paths.proofs.Looping.{Looping, explored-end, explored-passed, looping-again, looping-count, looping-end, looping-level, looping-log, looping-pass, looping-ready, looping-record, looping-scratch, looping-stands, looping-start, next-reads, next-ringed, next-room}
 use borrow.Author.Needs.{needs}

@@ -1,8 +1,6 @@
 -- An arrival: stale, seen before, or new.
-use mathlib.Core.Path.{_≡_, ap, sym, _∙_}
-use Prim.Native.Nat.{ℕ, _+_, _*_}
-use native.Mathlib.Omega.{arith}
-use Rattle.automaton.specs.StateSets.{inserted, member}
+use mathlib.Core.Path.{ap, sym, _∙_}
+use Prim.Native.Nat.{ℕ}
 use Rattle.packs.specs.Packs.{packNumber}
 use Rattle.paths.specs.Jobs.{storedEnd}
 use Rattle.model.proofs.Tests.{not-false, not-true}

@@ -1,7 +1,5 @@
 -- A path is fresh by what was found before, or by its record.
-use mathlib.Core.Path.{refl, sym}
-use mathlib.Core.Bool.{_||_}
-use borrow.Author.Needs.{needs}
+use mathlib.Core.Path.{refl}
 use Rattle.paths.proofs.is_fresh.Statement.{statement}
 use Rattle.paths.proofs.is_fresh.Tie as tie
 

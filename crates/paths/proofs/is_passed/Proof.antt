@@ -1,8 +1,7 @@
 -- A state is passed if its bit of either set is 1.
 use mathlib.Core.Path.{_≡_, refl, ap, sym, _∙_}
-use mathlib.Core.Bool.{Bool, true, _||_}
+use mathlib.Core.Bool.{true}
 use Prim.Native.Nat.{ℕ, _+_}
-use native.Mathlib.Omega.{arith}
 use Rattle.automaton.specs.StateSets.{member}
 use Rattle.scratch.specs.Regions.{passedBit}
 use Rattle.paths.specs.Jobs.{isPassed}

@@ -1,7 +1,6 @@
 -- The path with one record more: its place and its steps.
-use mathlib.Core.Path.{_≡_, refl, ap, _∙_}
+use mathlib.Core.Path.{_≡_, ap, _∙_}
 use Prim.Native.Nat.{ℕ, _+_, min}
-use native.Mathlib.Omega.{arith}
 use lib.ListN.{set}
 use Rattle.model.specs.Log.{stepsCap}
 use Rattle.model.specs.Records.{stepsAt}

@@ -1,7 +1,6 @@
 -- A state is noted in the set of its depth, unless that is the first.
 use mathlib.Core.Path.{refl, ap, _∙_}
 use Prim.Native.Nat.{ℕ, _+_}
-use native.Mathlib.Omega.{arith}
 use borrow.Author.Tests.{eq-eqb, ne-eqb}
 use Rattle.automaton.specs.StateSets.{inserted}
 use Rattle.paths.specs.Jobs.{withPassed}

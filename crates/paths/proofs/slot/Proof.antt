@@ -1,5 +1,4 @@
 -- Where the set of a depth begins, in bits.
-use mathlib.Core.Path.{refl}
 use native.Mathlib.Omega.{arith}
 use borrow.Author.Needs.{needs}
 use Rattle.paths.proofs.slot.Statement.{statement}

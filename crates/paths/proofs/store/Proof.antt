@@ -1,8 +1,6 @@
 -- A record is written where there is room for it.
-use mathlib.Core.Path.{_≡_, refl, ap₂, _∙_}
-use Prim.Native.Nat.{ℕ, _+_, min}
+use mathlib.Core.Path.{refl, ap₂, _∙_}
 use native.Mathlib.Omega.{arith}
-use lib.ListN.{getD}
 use borrow.Author.Tests.{lt-ltb, le-ltb}
 use Rattle.model.specs.declared.Group.{Group}
 use Rattle.records.specs.Entries.{withEntry}

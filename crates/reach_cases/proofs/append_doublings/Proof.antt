@@ -1,3 +1,4 @@
+-- The buffer keeps its length, and the number of the next rule is still a byte.
 use mathlib.Core.Path.{_≡_, refl}
 use Prim.Native.Nat.{_≤_, _-_}
 use native.Mathlib.Omega.{arith}

@@ -1,3 +1,4 @@
+-- The buffer keeps its length in each of the turns.
 use mathlib.Core.Path.{_≡_, refl}
 use Prim.Native.Nat.{_≤_, _-_}
 use native.Mathlib.Omega.{arith}

@@ -1,3 +1,4 @@
+-- The count never exceeds the bytes that were looked at.
 use Prim.Native.Nat.{_≤_, _-_}
 use native.Mathlib.Omega.{arith}
 use lib.ListN.{length}

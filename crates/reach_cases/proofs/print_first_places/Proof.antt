@@ -1,3 +1,4 @@
+-- Each place is read inside the page.
 use Prim.Native.Nat.{_≤_, _-_}
 use native.Mathlib.Omega.{arith}
 use lib.ListN.{length}

@@ -1,3 +1,4 @@
+-- The two buffers have the lengths that they are made with.
 use mathlib.Core.Path.{sym}
 use Prim.Native.Nat.{ℕ}
 use lib.ListN.{length-replicate}

@@ -1,3 +1,4 @@
+-- The page has the million places that it is made with.
 use mathlib.Core.Path.{sym}
 use Prim.Native.Nat.{ℕ}
 use lib.ListN.{length-replicate}

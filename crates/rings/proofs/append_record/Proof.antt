@@ -2,8 +2,7 @@
 use Rattle.numbers.proofs.NumberBytes.{length-number}
 use borrow.Author.Tests.{eq-eqb, ne-eqb, lt-ltb, le-ltb}
 use Rattle.rings.specs.Rings.{appended}
-use Rattle.rings.proofs.Rings.{tail-below}
-use Prim.Native.Nat.{_-_}
+use Rattle.rings.proofs.Links.{tail-below}
 use mathlib.Core.Path.{ap, _∙_}
 use native.Mathlib.Omega.{arith}
 use lib.ListN.{length}

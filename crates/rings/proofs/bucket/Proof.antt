@@ -1,10 +1,10 @@
 -- The bucket of a letter and the states before, and that it is one of the n.
-use mathlib.Core.Path.{_≡_, ap}
-use Prim.Native.Nat.{ℕ, _+_, _*_, _/_, _%_, _<_, _≤_}
+use mathlib.Core.Path.{ap}
+use Prim.Native.Nat.{ℕ, _+_, _*_, _/_, _%_, _≤_}
 use native.Mathlib.Nat.{mul-le-mul}
 use native.Mathlib.Omega.{arith}
 use Rattle.rings.specs.Rings.{bucketOf}
-use Rattle.rings.proofs.Rings.{scaled-below}
+use Rattle.rings.proofs.Links.{scaled-below}
 use borrow.Author.Needs.{needs}
 use Rattle.rings.proofs.bucket.Statement.{statement}
 use Rattle.rings.proofs.bucket.Tie as tie

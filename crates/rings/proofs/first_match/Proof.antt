@@ -1,7 +1,9 @@
+-- The walk begins at the tail's link, the bucket's least record; with no tail there is none (Walking).
 use Rattle.rings.specs.Rings.{recordReads}
 use Rattle.automaton.specs.StateSets.{firstFrom}
-use Rattle.rings.proofs.Rings.{tail-below, empty-first, walks-head, walks-first}
-use Prim.Native.Nat.{ℕ, _-_}
+use Rattle.rings.proofs.Links.{tail-below}
+use Rattle.rings.proofs.Walking.{empty-first, walks-head, walks-first}
+use Prim.Native.Nat.{ℕ}
 use mathlib.Core.Path.{ap, _∙_}
 use native.Mathlib.Omega.{arith}
 use borrow.Author.Needs.{needs}

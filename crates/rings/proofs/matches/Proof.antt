@@ -1,3 +1,4 @@
+-- The letter is compared first, then the states before.
 use mathlib.Core.Path.{refl}
 use borrow.Author.Tests.{eq-eqb, ne-eqb}
 use Rattle.rings.specs.Rings.{recordReads}

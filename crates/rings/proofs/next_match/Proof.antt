@@ -1,6 +1,7 @@
+-- The walk begins at the record's link; after the ring's greatest record there is none (Walking).
 use native.Mathlib.Numerals.{add-one}
-use Rattle.rings.proofs.Rings.{last-first, reads-bucket, walks-next, walks-first}
-use Prim.Native.Nat.{_-_}
+use Rattle.rings.proofs.Links.{reads-bucket}
+use Rattle.rings.proofs.Walking.{last-first, walks-next, walks-first}
 use borrow.Author.Needs.{needs}
 use Rattle.rings.proofs.next_match.Statement.{statement}
 use Rattle.rings.proofs.next_match.Tie as tie

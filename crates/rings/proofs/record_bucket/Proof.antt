@@ -1,3 +1,4 @@
+-- The bucket is that of the letter and the states read from the record.
 use Rattle.rings.specs.Rings.{recordBucket}
 use borrow.Author.Needs.{needs}
 use Rattle.rings.proofs.record_bucket.Statement.{statement}

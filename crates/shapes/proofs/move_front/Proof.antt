@@ -1,3 +1,4 @@
+-- The bytes so far are copied, each from a place that is not yet written over (Buffers).
 use mathlib.Core.Path.{_≡_, _∙_, ap}
 use Prim.Native.Nat.{_≤_, _-_}
 use Rattle.shapes.specs.Shapes.{fronted}

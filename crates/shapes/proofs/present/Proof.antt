@@ -1,3 +1,4 @@
+-- The bits of 0 to 4 processes, case by case.
 use mathlib.Core.Path.{_≡_, ap, sym}
 use Prim.Native.Nat.{ℕ}
 use Rattle.automaton.specs.ProcessBits.{processBits}

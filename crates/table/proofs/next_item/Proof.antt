@@ -1,3 +1,4 @@
+-- Each end of the reading, and the cursor behind an admitted item, is the step that the definition takes (Steps).
 use mathlib.Core.Path.{sym, _∙_, ap, subst}
 use Prim.Native.Nat.{ℕ, _+_, _<_}
 use native.Mathlib.Omega.{arith}

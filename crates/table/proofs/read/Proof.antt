@@ -1,3 +1,4 @@
+-- What is read from the cursor on is what the whole reading gives, and each item moves the cursor on (Steps).
 use mathlib.Core.Path.{_≡_, refl}
 use Prim.Native.Nat.{_-_}
 use native.Mathlib.Omega.{arith}

@@ -1,4 +1,5 @@
-use mathlib.Core.Path.{_≡_, refl, _∙_}
+-- The buffer keeps its length in each of the turns.
+use mathlib.Core.Path.{_≡_, refl}
 use Prim.Native.Nat.{_≤_, _-_}
 use native.Mathlib.Omega.{arith}
 use lib.ListN.{length}

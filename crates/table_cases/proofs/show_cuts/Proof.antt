@@ -1,3 +1,4 @@
+-- Each beginning is shorter than the whole.
 use Prim.Native.Nat.{_≤_, _-_}
 use native.Mathlib.Omega.{arith}
 use lib.ListN.{length}

@@ -1,3 +1,4 @@
+-- The places from the last to the first are pushed one after the other (Pushing).
 use Rattle.unfold.proofs.Pushing.{Pushing, pushing-start, pushing-room, pushing-turn, pushing-end}
 use native.Mathlib.Omega.{arith}
 use Rattle.unfold.proofs.push_path.Statement.{statement}

@@ -1,3 +1,4 @@
+-- A place that names no record leaves the stack as it is, any other is put on top (Pushing).
 use Rattle.unfold.proofs.Pushing.{placed-some, pushed-none, pushed-some}
 use mathlib.Core.List.{[]}
 use native.Mathlib.Omega.{arith}

@@ -1,3 +1,4 @@
+-- The rules written so far and what the stack still emits are the whole run; each turn uses up a place of the page or of the stack (Working).
 use mathlib.Core.Path.{refl}
 use Prim.Native.Nat.{_+_, _-_, _*_, _≤_}
 use native.Mathlib.Omega.{arith}

@@ -1,3 +1,4 @@
+-- A record of round 0 only goes; any other gives way to its path.
 use mathlib.Core.Path.{_≡_, refl, sym, ap, subst, _∙_}
 use Prim.Native.Nat.{ℕ}
 use borrow.Author.Needs.{needs}

@@ -1,3 +1,4 @@
+-- A refused step gives its number and place; at the list's end the word left is tested (Ends).
 use Prim.Native.Nat.{_-_}
 use lib.ListN.{take, drop, length}
 use Rattle.table.specs.Reading.{systemIn}

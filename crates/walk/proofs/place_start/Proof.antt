@@ -1,3 +1,4 @@
+-- The start's word written to the buffer's end, with its states, is the start (Ends).
 use Rattle.table.specs.Reading.{systemIn}
 use Rattle.table.proofs.Layouts.{pile-count}
 use Rattle.walk.proofs.Ends.{placed-start}

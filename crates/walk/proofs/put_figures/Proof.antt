@@ -1,3 +1,4 @@
+-- Both answers give the eight figures of their case.
 use mathlib.Core.Path.{_≡_, _∙_, ap, sym}
 use mathlib.Core.List.{[], _∷_}
 use Prim.Native.Nat.{ℕ}

@@ -1,3 +1,4 @@
+-- The word copied to the front and zeroes behind it fill the buffer (Ends).
 use Rattle.walk.proofs.Ends.{settled}
 use borrow.Author.Needs.{needs}
 use Rattle.walk.proofs.settle.Statement.{statement}

@@ -1,3 +1,4 @@
+-- Each outcome of the firing is the refusal, or the step, that the model has for it (Stepping).
 use mathlib.Core.Path.{_≡_}
 use Rattle.firing.specs.declared.Firing.the-variants.{Idle, Full, Done}
 use Rattle.walk.proofs.Stepping.{step-none, step-idle, step-full, step-done}

@@ -1,3 +1,4 @@
+-- Too little scratch, then a start's word longer than the buffer, is refused before the walk begins (Outcomes).
 use Rattle.walk.proofs.Outcomes.{short-halts, unfit-halts, began-halts}
 use borrow.Author.Needs.{needs}
 use Rattle.walk.proofs.walk_accepted.Statement.{statement}

@@ -1,3 +1,4 @@
+-- The start has the table's shape, and where the steps stop the answer and the buffers are the outcome's (Outcomes).
 use Rattle.walk.proofs.Outcomes.{start-shape, placed-halts}
 use borrow.Author.Needs.{needs}
 use Rattle.walk.proofs.walk_placed.Statement.{statement}

@@ -1,3 +1,4 @@
+-- A table that is refused ends the walk before it; an accepted one is walked over (Outcomes).
 use mathlib.Core.Path.{_≡_, _∙_, sym}
 use Rattle.table.specs.declared.Parsed.the-variants.{Accepted, Refused}
 use Rattle.walk.proofs.Outcomes.{table-halts}

@@ -1,3 +1,4 @@
+-- The letters of the start so far stand in the buffer, one after the other.
 use mathlib.Core.Path.{_≡_, _∙_, ap}
 use Prim.Native.Nat.{_≤_, _-_}
 use lib.Seq.{paste}

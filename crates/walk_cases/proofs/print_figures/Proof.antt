@@ -1,3 +1,4 @@
+-- Eight figures are read, one after the other.
 use Prim.Native.Nat.{_≤_, _-_}
 use native.Mathlib.Omega.{arith}
 use borrow.Author.Needs.{needs}

@@ -1,3 +1,4 @@
+-- Each process has the state that its bit chooses from the two groups.
 use Rattle.model.specs.Groups.{merge}
 use borrow.Author.Needs.{needs}
 use Rattle.automaton.proofs.groups.merged.Statement.{statement}

@@ -1,3 +1,4 @@
+-- The first process at which the restricted group differs decides; with no such process they are the same.
 use Rattle.model.specs.Groups.{restrict, sameGroup}
 use borrow.Author.Tests.{eq-eqb, ne-eqb}
 use borrow.Author.Needs.{needs}

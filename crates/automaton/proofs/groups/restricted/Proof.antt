@@ -1,3 +1,4 @@
+-- Each process has its own state or 255, as its bit chooses.
 use Rattle.model.specs.Groups.{restrict}
 use borrow.Author.Needs.{needs}
 use Rattle.automaton.proofs.groups.restricted.Statement.{statement}

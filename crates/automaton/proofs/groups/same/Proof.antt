@@ -1,3 +1,4 @@
+-- The first process at which the groups differ decides; with no such process they are the same.
 use Rattle.model.specs.Groups.{sameGroup}
 use borrow.Author.Tests.{eq-eqb, ne-eqb}
 use Rattle.automaton.proofs.groups.same.Statement.{statement}

@@ -1,3 +1,4 @@
+-- The bytes so far are 0, the rest is as it was (StateSets).
 use mathlib.Core.Path.{_≡_, refl, _∙_}
 use mathlib.Core.List.{_++_}
 use Prim.Native.Nat.{_≤_, _-_}

@@ -1,3 +1,4 @@
+-- The bit of the number in its byte is tested, as the definition has it.
 use mathlib.Core.Path.{refl}
 use Rattle.automaton.specs.StateSets.{member}
 use borrow.Author.Needs.{needs}

@@ -1,13 +1,10 @@
+-- One byte after the other is counted; a count of at most 255 bytes stays a byte (StateSets).
 use Prim.Native.Nat.{_-_}
 use Rattle.automaton.proofs.StateSets.{Counting, counting-end, counting-start, counting-turn}
 use native.Mathlib.Omega.{arith}
-use lib.ListN.{length, length-set}
 use borrow.Author.Needs.{needs}
 use Rattle.automaton.proofs.sets.count_equal.Statement.{statement}
 use Rattle.automaton.proofs.sets.count_equal.Tie as tie
-use Rattle.automaton.proofs.sets.count_equal.Reads as reads
-use Rattle.automaton.proofs.sets.count_equal.Lts as lts
-use Rattle.automaton.proofs.sets.one_if_equal.Reads as one-if-equal-reads
 
 abbrev Inv-loop : tie.InvT-loop
 Inv-loop bytes at n x m₀ i₀ m i =

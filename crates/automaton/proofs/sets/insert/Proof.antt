@@ -1,3 +1,4 @@
+-- A 1 shifted to the number's place is the power of two that the definition sets (StateSets).
 use Prim.Native.Nat.{_%_}
 use Rattle.automaton.specs.StateSets.{inserted}
 use Rattle.automaton.proofs.StateSets.{one-shifted}

@@ -1,3 +1,4 @@
+-- The bits are tested one after the other; those passed over are no members (StateSets).
 use mathlib.Core.Path.{sym, _∙_}
 use Prim.Native.Nat.{_≤_, _-_, _+_, _%_}
 use Rattle.automaton.specs.StateSets.{member}

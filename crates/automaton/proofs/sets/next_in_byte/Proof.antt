@@ -1,3 +1,4 @@
+-- A zero byte has no members; else the bits of the byte are searched (StateSets).
 use mathlib.Core.Path.{sym, subst}
 use Prim.Native.Nat.{ℕ, _-_, _%_}
 use Rattle.automaton.specs.StateSets.{member}

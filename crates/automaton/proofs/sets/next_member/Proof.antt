@@ -1,17 +1,11 @@
+-- Whole blocks, then the rest of a byte, are passed over only where no member is in them (StateSets).
 use Prim.Native.Nat.{_≤_, _-_, _%_}
 use Rattle.automaton.specs.StateNumbers.{stateCount}
 use Rattle.automaton.specs.StateSets.{member}
 use Rattle.automaton.proofs.StateSets.{Fails, First, fails-none, fails-join, first-at, next-is}
 use native.Mathlib.Omega.{arith}
-use lib.ListN.{length, length-set}
-use borrow.Author.Needs.{needs}
 use Rattle.automaton.proofs.sets.next_member.Statement.{statement}
 use Rattle.automaton.proofs.sets.next_member.Tie as tie
-use Rattle.automaton.proofs.sets.next_member.Reads as reads
-use Rattle.automaton.proofs.sets.next_member.Lts as lts
-use Rattle.automaton.proofs.sets.byte_end.Reads as byte-end-reads
-use Rattle.automaton.proofs.sets.next_in_byte.Reads as next-in-byte-reads
-use Rattle.automaton.proofs.sets.past_block.Reads as past-block-reads
 
 abbrev Inv-loop : tie.InvT-loop
 Inv-loop members from n₀ n =
@@ -21,20 +15,16 @@ abbrev μ-loop : tie.MeasureT-loop
 μ-loop members from n₀ n =
     stateCount - n
 
--- src/sets.rt:131:5
 loop-holds : tie.Need-loop-holds Inv-loop μ-loop
 loop-holds c =
     let a = c .before .args in (omega arith, omega arith, fails-none (member (a .members .now)) (a .from))
 
--- src/sets.rt:132:13
 past-block-requires : tie.Need-past-block-requires Inv-loop μ-loop
 past-block-requires c κs = (omega arith, omega arith)
 
--- src/sets.rt:134:17
 next-in-byte-requires : tie.Need-next-in-byte-requires Inv-loop μ-loop
 next-in-byte-requires c κs = (omega arith, omega arith)
 
--- src/sets.rt:137:17
 returns : tie.Need-returns Inv-loop μ-loop
 returns c =
     let a = c .before .before .before .before .before .before .before .before .args in
@@ -49,7 +39,6 @@ returns c =
       fails = fails-join (member l) (a .from) (t .n) r (t .inv .2) (w .fails);
     })
 
--- src/sets.rt:131:5
 loop-again : tie.Need-loop-again Inv-loop μ-loop
 loop-again c =
     let a = c .before .before .before .before .before .before .before .before .args in
@@ -60,13 +49,11 @@ loop-again c =
     let w : First (member l) (t .n) (8 - t .n % 8) r = first-at (member l) (t .n) (8 - t .n % 8) r (c .before .before .next-in-byte .ensures) in
     (omega arith, omega arith, fails-join (member l) (a .from) (t .n) end (t .inv .2) (λ j h q. w .fails j h (omega arith)))
 
--- src/sets.rt:131:5
 loop-less-2 : tie.Need-loop-less-2 Inv-loop μ-loop
 loop-less-2 c =
     let p = c .before .past-block .ensures in
     omega (arith, p .later, p .within, c .if1 .left)
 
--- src/sets.rt:131:5
 loop-again-2 : tie.Need-loop-again-2 Inv-loop μ-loop
 loop-again-2 c =
     let a = c .before .before .before .before .before .args in
@@ -74,7 +61,6 @@ loop-again-2 c =
     let p = c .before .past-block .ensures in
     (omega (arith, p .later), p .within, fails-join (member (a .members .now)) (a .from) (t .n) _ (t .inv .2) (p .none))
 
--- src/sets.rt:126:1
 returns-2 : tie.Need-returns-2 Inv-loop μ-loop
 returns-2 c =
     let a = c .before .before .before .args in

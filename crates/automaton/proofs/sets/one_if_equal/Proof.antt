@@ -1,3 +1,4 @@
+-- Both cases of the test, and neither gives more than 1.
 use borrow.Author.Tests.{eq-eqb, ne-eqb}
 use native.Mathlib.Omega.{arith}
 use Rattle.automaton.proofs.sets.one_if_equal.Statement.{statement}

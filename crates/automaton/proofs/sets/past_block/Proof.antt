@@ -1,3 +1,4 @@
+-- Where all bytes of the block are 0, none of its numbers is a member (StateSets).
 use Rattle.automaton.proofs.StateSets.{none-here, zero-block}
 use borrow.Author.Needs.{needs}
 use Rattle.automaton.proofs.sets.past_block.Statement.{statement}

@@ -1,3 +1,4 @@
+-- The sum is the group's number: four numbers below 8, each times its weight, stay below 4,096.
 use Rattle.automaton.specs.StateNumbers.{stateNumber}
 use native.Mathlib.Omega.{arith}
 use borrow.Author.Needs.{needs}

@@ -1,3 +1,4 @@
+-- Each process has its three bits of the number as its state, or 255 where it is not present.
 use Rattle.automaton.specs.StateNumbers.{groupNumbered}
 use borrow.Author.Needs.{needs}
 use Rattle.automaton.proofs.states.numbered.Statement.{statement}

@@ -1,6 +1,6 @@
 -- The ends of a head's records are noted.
-use mathlib.Core.Path.{_≡_, ap, _∙_}
-use Prim.Native.Nat.{ℕ, _-_}
+use mathlib.Core.Path.{ap, _∙_}
+use Prim.Native.Nat.{_-_}
 use native.Mathlib.Omega.{arith}
 use Rattle.automaton.proofs.StateSets.{first-at}
 use Rattle.packs.specs.Packs.{packNumber}
@@ -8,13 +8,6 @@ use Rattle.paths.proofs.Holding.{Holding, holding-end, holding-start, h
 use borrow.Author.Needs.{needs}
 use Rattle.paths.proofs.held.see_held.Statement.{statement}
 use Rattle.paths.proofs.held.see_held.Tie as tie
-use Rattle.paths.proofs.held.see_held.Reads as reads
-use Rattle.paths.proofs.held.see_held.Lts as lts
-use Rattle.packs.proofs.after_at.Reads as after-at-reads
-use Rattle.packs.proofs.number.Reads as number-reads
-use Rattle.paths.proofs.held.see.Reads as see-reads
-use Rattle.rings.proofs.first_match.Reads as first-match-reads
-use Rattle.rings.proofs.next_match.Reads as next-match-reads
 
 abbrev Inv-loop : tie.InvT-loop
 Inv-loop log scratch₀ n base letter g r₀ scratch r = Holding log n base letter g scratch₀ scratch r
@@ -22,19 +15,15 @@ Inv-loop log scratch₀ n base letter g r₀ scratch r = Holding log n base lett
 abbrev μ-loop : tie.MeasureT-loop
 μ-loop log scratch₀ n base letter g r₀ scratch r = base - r
 
--- src/held.rt:32:5
 loop-holds : tie.Need-loop-holds Inv-loop μ-loop
 loop-holds c = let at-entry = c .before .before .before .before in holding-start _ _ _ _ _ _ (at-entry .pre .0) (at-entry .pre .1) _ (c .first-match .ensures)
 
--- src/held.rt:33:29
 after-at-requires : tie.Need-after-at-requires Inv-loop μ-loop
 after-at-requires c κs = omega (arith, c .before .before .loop .inv .room .records, c .before .loop-test .taken)
 
--- src/held.rt:33:9
 see-requires : tie.Need-see-requires Inv-loop μ-loop
 see-requires c κs = (c .number .ensures .1, omega (arith, c .before .before .before .before .loop .inv .room .room))
 
--- src/held.rt:34:9
 next-match-requires : tie.Need-next-match-requires Inv-loop μ-loop
 next-match-requires c κs =
     let at-see = c .before .before .before in
@@ -48,22 +37,18 @@ next-match-requires c κs =
       at-loop .loop .inv .reads taken,
     )
 
--- src/held.rt:32:5
 loop-less : tie.Need-loop-less Inv-loop μ-loop
 loop-less c = omega (arith, first-at _ _ _ _ (c .next-match .ensures) .low, c .before .before .before .before .before .before .before .before .loop-test .taken)
 
--- src/held.rt:32:5
 loop-again : tie.Need-loop-again Inv-loop μ-loop
 loop-again c =
     let at-number = c .before .before .before .before .before in
     let at-loop = c .before .before .before .before .before .before .before .before .before in
     holding-turn _ _ _ _ _ _ _ _ (at-loop .loop .inv) (c .before .before .before .before .before .before .before .before .loop-test .taken) _ (at-number .number .ensures .1) (at-number .number .ensures .0 ∙ ap packNumber (c .before .before .before .before .before .before .after-at .ensures)) _ (c .before .before .before .before .see .ensures) _ (c .next-match .ensures)
 
--- src/held.rt:27:1
 same-length : tie.Need-same-length Inv-loop μ-loop
 same-length c = c .before .loop .inv .noted .scratch-length
 
--- src/held.rt:27:1
 returns : tie.Need-returns Inv-loop μ-loop
 returns c = holding-end _ _ _ _ _ _ _ _ (omega arith) (c .before .loop .inv)
 

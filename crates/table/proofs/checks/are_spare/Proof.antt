@@ -1,3 +1,4 @@
+-- The bytes so far are 255 (Scans).
 use mathlib.Core.Bool.{true}
 use mathlib.Core.Path.{_≡_, refl, sym}
 use Prim.Native.Nat.{_≤_, _-_}

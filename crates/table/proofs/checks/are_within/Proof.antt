@@ -1,3 +1,4 @@
+-- The letters so far stay within the set (Scans).
 use mathlib.Core.Bool.{true}
 use mathlib.Core.Path.{_≡_, refl, sym, _∙_}
 use Prim.Native.Nat.{_≤_, _-_}

@@ -1,3 +1,4 @@
+-- The bits below the power are those of all processes of the table (Values).
 use mathlib.Core.Path.{_≡_, ap, ap₂, _∙_}
 use Prim.Native.Nat.{ℕ, _-_, _^_}
 use native.Mathlib.Omega.{arith}

@@ -1,3 +1,4 @@
+-- The first process whose state does not fit decides (Tests).
 use mathlib.Core.Path.{sym, _∙_}
 use borrow.Author.Needs.{needs}
 use Rattle.model.specs.Tables.{groupFits}

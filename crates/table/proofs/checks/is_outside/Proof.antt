@@ -1,3 +1,4 @@
+-- Where the process has a part the bound of the control states decides, else nothing is asked.
 use borrow.Author.Needs.{needs}
 use Rattle.table.proofs.checks.is_outside.Statement.{statement}
 use Rattle.table.proofs.checks.is_outside.Tie as tie

@@ -1,3 +1,4 @@
+-- Only a transition can enter control again, and then its states after are tested (Values).
 use mathlib.Core.Bool.{true}
 use mathlib.Core.List.{[], _∷_}
 use mathlib.Core.Path.{_≡_, sym, _∙_, ap, subst}

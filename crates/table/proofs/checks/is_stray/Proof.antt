@@ -1,3 +1,4 @@
+-- Only a rule can be stray, and then the letters it writes are compared with the one it takes (Values).
 use mathlib.Core.Bool.{true}
 use mathlib.Core.List.{[], _∷_}
 use mathlib.Core.Path.{_≡_, sym, _∙_, ap, subst}

@@ -1,3 +1,4 @@
+-- The first process with a control state decides (Tests).
 use mathlib.Core.Path.{sym, _∙_}
 use borrow.Author.Needs.{needs}
 use Rattle.table.proofs.Tests.{four-0, four-1, four-2, four-3}

@@ -1,3 +1,4 @@
+-- Both tests on the bits, the upper bound read as a power of 2.
 use borrow.Author.Needs.{needs}
 use borrow.Author.Tests.{lt-leb, le-leb}
 use Rattle.table.proofs.checks.letter_fits.Statement.{statement}

@@ -1,3 +1,4 @@
+-- The list of five numbers holds the powers (Values).
 use borrow.Author.Needs.{needs}
 use Rattle.table.proofs.Values.{powers}
 use Rattle.table.proofs.checks.power_of.Statement.{statement}

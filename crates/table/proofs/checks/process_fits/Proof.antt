@@ -1,3 +1,4 @@
+-- The three bounds are tested in order (Tests).
 use mathlib.Core.Path.{sym}
 use borrow.Author.Needs.{needs}
 use borrow.Author.Tests.{lt-leb, le-leb}

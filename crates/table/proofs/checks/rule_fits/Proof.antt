@@ -1,3 +1,4 @@
+-- The part that a rule shares with a transition is tested first, then the letters it writes (Tests).
 use mathlib.Core.Path.{sym, _∙_}
 use Prim.Native.Nat.{_*_}
 use borrow.Author.Needs.{needs}

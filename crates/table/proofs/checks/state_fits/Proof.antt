@@ -1,3 +1,4 @@
+-- Where the process has a part the bound decides, else the byte 255.
 use borrow.Author.Needs.{needs}
 use Rattle.table.proofs.checks.state_fits.Statement.{statement}
 use Rattle.table.proofs.checks.state_fits.Tie as tie

@@ -1,3 +1,4 @@
+-- The letter, the group before and the group after are tested in this order (Values).
 use mathlib.Core.Path.{_≡_, sym, _∙_}
 use Prim.Native.Nat.{_*_}
 use native.Mathlib.Omega.{arith}

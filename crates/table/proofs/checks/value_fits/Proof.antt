@@ -1,3 +1,4 @@
+-- Each kind is tested by its own function; the end has nothing to test (Values).
 use mathlib.Core.Path.{_≡_, refl, _∙_, ap}
 use Prim.Native.Nat.{_*_}
 use native.Mathlib.Omega.{arith}

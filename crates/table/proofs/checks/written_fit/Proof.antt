@@ -1,3 +1,4 @@
+-- The count, the letters up to it and the bytes behind are tested in this order (Values).
 use mathlib.Core.Path.{_≡_, sym, _∙_}
 use lib.ListN.{drop}
 use borrow.Author.Needs.{needs}

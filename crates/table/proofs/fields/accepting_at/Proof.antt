@@ -1,3 +1,4 @@
+-- Before the accepting groups stand the transitions, ten bytes each.
 use native.Mathlib.Omega.{arith}
 use borrow.Author.Needs.{needs}
 use Rattle.table.specs.Places.{offset}

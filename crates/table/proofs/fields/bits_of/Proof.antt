@@ -1,3 +1,4 @@
+-- The letter's one byte stands at its place behind the processes (Bodies, Places).
 use mathlib.Core.List.{[], _∷_}
 use mathlib.Core.Path.{_≡_, sym, _∙_, ap}
 use Prim.Native.Nat.{ℕ, _+_, _*_}

@@ -1,3 +1,4 @@
+-- The part behind the kind's byte is the body (Scans).
 use Prim.Native.Nat.{_+_}
 use borrow.Author.Needs.{needs}
 use Rattle.table.proofs.Scans.{part-front}

@@ -1,3 +1,4 @@
+-- A process of the table has its byte, any other the bound 256 (Bodies).
 use mathlib.Core.Path.{_≡_, sym, _∙_, ap}
 use Prim.Native.Nat.{ℕ, _+_, _*_}
 use native.Mathlib.Omega.{arith}

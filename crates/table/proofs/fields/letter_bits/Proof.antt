@@ -1,3 +1,4 @@
+-- The letter's byte is at most 15, and its bits are the processes of the system's letter (Layouts).
 use mathlib.Core.List.{List}
 use mathlib.Core.Path.{sym, _∙_, ap}
 use Prim.Native.Nat.{ℕ}

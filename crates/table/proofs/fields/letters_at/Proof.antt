@@ -1,3 +1,4 @@
+-- Before the letters stand the processes, three bytes each.
 use native.Mathlib.Omega.{arith}
 use borrow.Author.Needs.{needs}
 use Rattle.table.specs.Places.{offset}

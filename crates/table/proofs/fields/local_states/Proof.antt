@@ -1,3 +1,4 @@
+-- The bound of all states is the number that the system has (Layouts).
 use mathlib.Core.Path.{sym, _∙_}
 use native.Mathlib.Omega.{arith}
 use Rattle.table.proofs.Layouts.{table-heads, states-at}

@@ -1,3 +1,4 @@
+-- Before the pile stands the start, one item of five bytes.
 use native.Mathlib.Omega.{arith}
 use borrow.Author.Needs.{needs}
 use Rattle.table.specs.Places.{offset}

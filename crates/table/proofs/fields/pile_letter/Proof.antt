@@ -1,3 +1,4 @@
+-- The item's one byte is the letter, and it lies inside the table (Bodies, Layouts).
 use mathlib.Core.Path.{_≡_, sym, _∙_, ap}
 use Prim.Native.Nat.{ℕ, _+_, _*_}
 use native.Mathlib.Omega.{arith}

@@ -1,3 +1,4 @@
+-- The second group of the body is that of the rule's states after (Layouts).
 use mathlib.Core.List.{List}
 use mathlib.Core.Path.{_≡_, sym, _∙_, ap}
 use Prim.Native.Nat.{ℕ}

@@ -1,3 +1,4 @@
+-- The first byte of the body is the rule's letter (Layouts).
 use mathlib.Core.List.{List}
 use mathlib.Core.Path.{_≡_, sym, _∙_, ap}
 use Prim.Native.Nat.{ℕ}

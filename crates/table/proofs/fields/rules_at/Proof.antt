@@ -1,3 +1,4 @@
+-- Before the rules stand the letters, two bytes each.
 use native.Mathlib.Omega.{arith}
 use borrow.Author.Needs.{needs}
 use Rattle.table.specs.Places.{offset}

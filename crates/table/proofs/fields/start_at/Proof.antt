@@ -1,3 +1,4 @@
+-- Before the start stand the accepting groups, five bytes each.
 use native.Mathlib.Omega.{arith}
 use borrow.Author.Needs.{needs}
 use Rattle.table.specs.Places.{offset}

@@ -1,3 +1,4 @@
+-- The group fills the start's body, which lies inside the table (Layouts).
 use mathlib.Core.List.{List}
 use mathlib.Core.Path.{_≡_, sym, _∙_, ap}
 use Prim.Native.Nat.{ℕ}

@@ -1,3 +1,4 @@
+-- The first group of the body is that of the transition's states before (Layouts).
 use mathlib.Core.List.{List}
 use mathlib.Core.Path.{_≡_, sym, _∙_, ap}
 use Prim.Native.Nat.{ℕ}

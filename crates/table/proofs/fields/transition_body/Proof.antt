@@ -1,3 +1,4 @@
+-- The item lies inside the table at its computed place (Layouts).
 use mathlib.Core.Path.{_≡_, _∙_, ap}
 use Prim.Native.Nat.{_+_, _*_}
 use native.Mathlib.Omega.{arith}

@@ -1,3 +1,4 @@
+-- Before the transitions stand the rules, each with all the places for written letters.
 use native.Mathlib.Omega.{arith}
 use borrow.Author.Needs.{needs}
 use Rattle.table.specs.Places.{offset}

@@ -1,3 +1,4 @@
+-- The byte behind both groups counts the written letters (Layouts).
 use mathlib.Core.List.{List}
 use mathlib.Core.Path.{_≡_, sym, _∙_, ap}
 use Prim.Native.Nat.{ℕ}

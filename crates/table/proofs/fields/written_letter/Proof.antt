@@ -1,3 +1,4 @@
+-- The letters stand behind their count, and there are few enough to lie in the body (Layouts).
 use mathlib.Core.List.{List}
 use mathlib.Core.Path.{_≡_, sym, _∙_, ap}
 use Prim.Native.Nat.{ℕ, _+_}

@@ -1,3 +1,4 @@
+-- The kind's own count rises by 1, the others by 0.
 use mathlib.Core.Path.{refl}
 use native.Mathlib.Omega.{arith}
 use borrow.Author.Needs.{needs}

@@ -1,3 +1,4 @@
+-- The list holds the length of each kind at its place.
 use borrow.Author.Needs.{needs}
 use Rattle.table.proofs.items.body_length.Statement.{statement}
 use Rattle.table.proofs.items.body_length.Tie as tie

@@ -1,3 +1,4 @@
+-- The first of the four checks that fails gives its number (Cursors).
 use mathlib.Core.Bool.{not, _&&_}
 use mathlib.Core.List.{List}
 use mathlib.Core.Path.{sym, _∙_, ap, ap₂}

@@ -1,3 +1,4 @@
+-- The early checks are made in their order; an item that passes them is whole, and its body is checked (Steps).
 use mathlib.Core.Path.{_≡_, refl, sym, _∙_, ap, ap₂}
 use Prim.Native.Nat.{ℕ, _+_, _-_, _≤_}
 use native.Mathlib.Omega.{arith}

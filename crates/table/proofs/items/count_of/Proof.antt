@@ -1,3 +1,4 @@
+-- The list holds the count of each kind at its place.
 use borrow.Author.Needs.{needs}
 use Rattle.table.proofs.items.count_of.Statement.{statement}
 use Rattle.table.proofs.items.count_of.Tie as tie

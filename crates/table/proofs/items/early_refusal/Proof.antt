@@ -1,3 +1,4 @@
+-- The first of the three tests that holds decides.
 use Rattle.table.proofs.items.early_refusal.Statement.{statement}
 use Rattle.table.proofs.items.early_refusal.Tie as tie
 

@@ -1,3 +1,4 @@
+-- Each answer by the tests on the way to it (Scans).
 use mathlib.Core.Bool.{_&&_}
 use native.Mathlib.Omega.{arith}
 use lib.Dec.{eqb, ltb}

@@ -1,3 +1,4 @@
+-- None of the bodies so far is the same (Bodies).
 use mathlib.Core.Path.{refl, sym, _∙_}
 use native.Mathlib.Omega.{arith}
 use Rattle.table.proofs.Bodies.{Left, left-room, left-found, left-turn, left-end}

@@ -1,3 +1,4 @@
+-- Both tests on the kind, as the definition has them.
 use borrow.Author.Tests.{eq-eqb, ne-eqb}
 use Rattle.table.proofs.items.is_stranger.Statement.{statement}
 use Rattle.table.proofs.items.is_stranger.Tie as tie

@@ -1,3 +1,4 @@
+-- The items of the kind stand right before the cursor; other kinds have no twins (Cursors).
 use mathlib.Core.Path.{sym, _∙_}
 use Prim.Native.Nat.{_+_, _-_, _*_}
 use native.Mathlib.Omega.{arith}

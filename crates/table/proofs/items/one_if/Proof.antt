@@ -1,3 +1,4 @@
+-- Both cases of the test, and neither gives more than 1.
 use mathlib.Core.Path.{refl}
 use native.Mathlib.Omega.{arith}
 use borrow.Author.Tests.{eq-eqb, ne-eqb}

@@ -1,0 +1,149 @@
+-- Laws of the search that follows a ring, and of where it begins.
+use mathlib.Core.Path.{_≡_, ap, sym, subst, _∙_}
+use mathlib.Core.Bool.{Bool, true, false, true≢false}
+use mathlib.Core.Logic.{_⊎_, ⊎-elim}
+use mathlib.Core.List.{List}
+use Prim.Native.Nat.{ℕ, suc, _+_, _-_, _*_, _<_, _≤_}
+use native.Mathlib.Decide.{ℕ-discrete, decLt}
+use native.Mathlib.Omega.{arith}
+use borrow.Author.Tests.{eq-eqb}
+use Rattle.model.proofs.Tests.{by-test}
+use Rattle.automaton.specs.StateSets.{firstFrom}
+use Rattle.automaton.proofs.StateSets.{first-at, first-of, first-is}
+use Rattle.rings.specs.Rings.{bucketOf, recordBucket, inBucket, recordReads, noLink, linkAt, NoneIn, Greatest, Ahead, Around, Ringed, Freshened}
+use Rattle.rings.proofs.Links.{in-true, reads-bucket}
+
+-- ---- following a ring
+none-reads : (log : List ℕ) (n letter : ℕ) (g : ℕ) (h from to : ℕ) → h ≡ bucketOf n letter g → NoneIn (inBucket log n h) from to → NoneIn (recordReads log letter g) from to
+unfolding inBucket
+none-reads log n letter g h from to b f j p q = by-test (recordReads log letter g j)
+    (λ t. absurd (true≢false (sym (eq-eqb (recordBucket log n j) h (reads-bucket log n letter g j t ∙ sym b)) ∙ f j p q)))
+    (λ e. e)
+
+-- Record r is in the ring of the letter and the states g before, and none from `from` on and before it reads them
+pub record Walks (log : List ℕ) (base n letter : ℕ) (g : ℕ) (from r : ℕ) : Type 0 where
+  pub low : from ≤ r
+  pub below : r < base
+  pub skips : NoneIn (recordReads log letter g) from r
+  pub bucket : recordBucket log n r ≡ bucketOf n letter g
+
+pub walks-start : (log : List ℕ) (base n letter : ℕ) (g : ℕ) (r : ℕ) → r < base → recordBucket log n r ≡ bucketOf n letter g → Walks log base n letter g r r
+walks-start log base n letter g r l b = record { low = omega arith; below = l; skips = λ j p q. absurd (omega arith); bucket = b }
+
+pub walks-turn : {log : List ℕ} {base n at letter : ℕ} {g : ℕ} {s : List ℕ} {from r w : ℕ} → Ringed log base n at s → Walks log base n letter g from r → recordReads log letter g r ≡ false
+    → w ≡ linkAt s at (n + r) → r < w → Walks log base n letter g from w
+walks-turn {log} {base} {n} {at} {letter} {g} {s} {from} {r} {w} rings x f e l =
+    let k = linkAt s at (n + r) in
+    let a : Ahead (inBucket log n (recordBucket log n r)) base r k = ⊎-elim (λ y. y) (λ y. absurd (omega (arith, y .earlier))) (rings .next r (x .below)) in
+    let none = none-reads log n letter g (recordBucket log n r) (suc r) k (x .bucket) (a .between) in
+    rw e (record {
+      low = omega (arith, x .low);
+      below = a .below;
+      skips = λ j p q. elim (decLt j r) [
+        | yes y ↦ x .skips j p y
+        | no y ↦ elim (ℕ-discrete j r) [ yes z ↦ ap (recordReads log letter g) z ∙ f | no z ↦ none j (omega arith) q ]
+      ];
+      bucket = in-true log n (recordBucket log n r) k (a .passes) ∙ x .bucket;
+    })
+
+-- a link that is not above its record: there is none
+pub walks-none : {log : List ℕ} {base n at letter : ℕ} {g : ℕ} {s : List ℕ} {from r w : ℕ} → Ringed log base n at s → Walks log base n letter g from r → recordReads log letter g r ≡ false
+    → w ≡ linkAt s at (n + r) → w ≤ r → base ≡ firstFrom (recordReads log letter g) from (base - from)
+walks-none {log} {base} {n} {at} {letter} {g} {s} {from} {r} {w} rings x f e l =
+    let k = linkAt s at (n + r) in
+    let a : Around (inBucket log n (recordBucket log n r)) base r k = ⊎-elim (λ y. absurd (omega (arith, y .later))) (λ y. y) (rings .next r (x .below)) in
+    let none = none-reads log n letter g (recordBucket log n r) (suc r) base (x .bucket) (a .behind) in
+    first-is (recordReads log letter g) from (base - from) base (record {
+      low = omega (arith, x .low, x .below);
+      high = omega arith;
+      passes = λ h. absurd (omega (arith, x .low, x .below));
+      fails = λ j p q. elim (decLt j r) [
+        | yes y ↦ x .skips j p y
+        | no y ↦ elim (ℕ-discrete j r) [ yes z ↦ ap (recordReads log letter g) z ∙ f | no z ↦ none j (omega arith) q ]
+      ];
+    })
+
+pub walks-end : {log : List ℕ} {base n letter : ℕ} {g : ℕ} {from r : ℕ} → Walks log base n letter g from r → recordReads log letter g r ≡ true → r ≡ firstFrom (recordReads log letter g) from (base - from)
+walks-end {log} {base} {n} {letter} {g} {from} {r} x t = first-is (recordReads log letter g) from (base - from) r (record { low = x .low; high = omega (arith, x .below); passes = λ h. t; fails = x .skips })
+
+-- ---- where a search begins
+-- none from `from` on and before a record of the ring reads them: the first from that record on is the first from `from` on
+pub walks-first : {log : List ℕ} {base n letter : ℕ} {g : ℕ} {from start k : ℕ} → Walks log base n letter g from start → k ≡ firstFrom (recordReads log letter g) start (base - start)
+    → k ≡ firstFrom (recordReads log letter g) from (base - from)
+walks-first {log} {base} {n} {letter} {g} {from} {start} {k} x e =
+    let test = recordReads log letter g in
+    let f = first-at test start (base - start) k e in
+    first-is test from (base - from) k (record {
+      low = omega (arith, x .low, f .low);
+      high = omega (arith, x .low, x .below, f .high);
+      passes = λ h. f .passes (omega (arith, x .low, x .below));
+      fails = λ j p q. elim (decLt j start) [ yes y ↦ x .skips j p y | no y ↦ f .fails j (omega arith) q ];
+    })
+
+-- no record of the bucket: the first is base
+pub none-first : (log : List ℕ) (base n letter : ℕ) (g : ℕ) (h from : ℕ) → from ≤ base → h ≡ bucketOf n letter g → NoneIn (inBucket log n h) from base → base ≡ firstFrom (recordReads log letter g) from (base - from)
+none-first log base n letter g h from l b f = first-is (recordReads log letter g) from (base - from) base (record { low = l; high = omega arith; passes = λ q. absurd (omega arith); fails = none-reads log n letter g h from base b f })
+
+pub empty-first : {log : List ℕ} {base n at : ℕ} {s : List ℕ} {h t : ℕ} (letter : ℕ) (g : ℕ) (from : ℕ) → from ≤ base → base ≤ n → n ≤ noLink → Ringed log base n at s → h < n → h ≡ bucketOf n letter g → t ≡ linkAt s at h → t ≡ noLink
+    → base ≡ firstFrom (recordReads log letter g) from (base - from)
+empty-first {log} {base} {n} {at} {s} {h} {t} letter g from l fits short rings lh b e z = ⊎-elim
+    (λ x. none-first log base n letter g h from l b (λ j p q. x .none j (omega arith) q))
+    (λ x. absurd (omega (arith, x .below)))
+    (rings .tail h lh)
+
+-- the record behind the tail is the bucket's first
+pub walks-head : {log : List ℕ} {base n at : ℕ} {s : List ℕ} {h t w : ℕ} (letter : ℕ) (g : ℕ) → Ringed log base n at s → h < n → h ≡ bucketOf n letter g → t ≡ linkAt s at h → (t ≡ noLink → ⊥) → w ≡ linkAt s at (n + t)
+    → Walks log base n letter g 0 w
+walks-head {log} {base} {n} {at} {s} {h} {t} {w} letter g rings lh b e ne q = ⊎-elim (λ x. absurd (ne (e ∙ x .is))) found (rings .tail h lh)
+  where
+    found : Greatest (inBucket log n h) base (linkAt s at h) → Walks log base n letter g 0 w
+    found y =
+        let x : Greatest (inBucket log n h) base t = subst (λ (k : ℕ). Greatest (inBucket log n h) base k) (sym e) y in
+        let k = linkAt s at (n + t) in
+        let own : recordBucket log n t ≡ h = in-true log n h t (x .passes) in
+        let a : Around (inBucket log n h) base t k = ⊎-elim
+        (λ (z : Ahead (inBucket log n h) base t k). absurd (true≢false (sym (z .passes) ∙ x .behind k (z .later) (z .below))))
+        (λ (z : Around (inBucket log n h) base t k). z)
+        (subst (λ (j : ℕ). Ahead (inBucket log n j) base t k ⊎ Around (inBucket log n j) base t k) own (rings .next t (x .below))) in
+        rw q (record { low = omega arith; below = omega (arith, a .earlier, x .below); skips = none-reads log n letter g h 0 k b (a .before); bucket = in-true log n h k (a .passes) ∙ b })
+
+-- the next link of a record of the bucket
+pub walks-next : {log : List ℕ} {base n at : ℕ} {s : List ℕ} {r w : ℕ} (letter : ℕ) (g : ℕ) → Ringed log base n at s → r < base → recordBucket log n r ≡ bucketOf n letter g → w ≡ linkAt s at (n + r) → r < w
+    → Walks log base n letter g (suc r) w
+walks-next {log} {base} {n} {at} {s} {r} {w} letter g rings lr b e l =
+    let k = linkAt s at (n + r) in
+    let a : Ahead (inBucket log n (recordBucket log n r)) base r k = ⊎-elim (λ y. y) (λ y. absurd (omega (arith, y .earlier))) (rings .next r lr) in
+    rw e (record { low = a .later; below = a .below; skips = none-reads log n letter g (recordBucket log n r) (suc r) k b (a .between); bucket = in-true log n (recordBucket log n r) k (a .passes) ∙ b })
+
+pub last-first : {log : List ℕ} {base n at : ℕ} {s : List ℕ} {r w : ℕ} (letter : ℕ) (g : ℕ) → Ringed log base n at s → r < base → recordBucket log n r ≡ bucketOf n letter g → w ≡ linkAt s at (n + r) → w ≤ r
+    → base ≡ firstFrom (recordReads log letter g) (suc r) (base - suc r)
+last-first {log} {base} {n} {at} {s} {r} {w} letter g rings lr b e l =
+    let k = linkAt s at (n + r) in
+    let a : Around (inBucket log n (recordBucket log n r)) base r k = ⊎-elim (λ y. absurd (omega (arith, y .later))) (λ y. y) (rings .next r lr) in
+    none-first log base n letter g (recordBucket log n r) (suc r) lr b (a .behind)
+
+-- the first from lo on that the bucket knows; its tail is below lo
+pub walks-fresh : {log : List ℕ} {lo base n at : ℕ} {s : List ℕ} {h t w : ℕ} (letter : ℕ) (g : ℕ) → Ringed log base n at s → Freshened log lo base n at s → h < n → h ≡ bucketOf n letter g → t ≡ linkAt s at h → (t ≡ noLink → ⊥)
+    → lo ≤ t → w ≡ linkAt s at (2 * n + h) → Walks log base n letter g lo w
+walks-fresh {log} {lo} {base} {n} {at} {s} {h} {t} {w} letter g rings fresh lh b e ne low q = ⊎-elim (λ x. absurd (ne (e ∙ x .is))) found (rings .tail h lh)
+  where
+    found : Greatest (inBucket log n h) base (linkAt s at h) → Walks log base n letter g lo w
+    found x =
+        let test = inBucket log n h in
+        let k = firstFrom test lo (base - lo) in
+        let f = first-of test lo (base - lo) in
+        let is : w ≡ k = q ∙ fresh h lh (omega arith) (x .below) in
+        let near : k ≤ linkAt s at h = elim (decLt (linkAt s at h) k) [ yes y ↦ absurd (true≢false (sym (x .passes) ∙ f .fails (linkAt s at h) (omega arith) y)) | no y ↦ omega arith ] in
+        let less : k < base = omega (arith, x .below) in
+        rw is (record { low = f .low; below = less; skips = none-reads log n letter g h lo k b (f .fails); bucket = in-true log n h k (f .passes (omega (arith, f .low))) ∙ b })
+
+pub stale-first : {log : List ℕ} {lo base n at : ℕ} {s : List ℕ} {h t : ℕ} (letter : ℕ) (g : ℕ) → lo ≤ base → Ringed log base n at s → h < n → h ≡ bucketOf n letter g → t ≡ linkAt s at h → (t ≡ noLink → ⊥) → t < lo
+    → base ≡ firstFrom (recordReads log letter g) lo (base - lo)
+stale-first {log} {lo} {base} {n} {at} {s} {h} {t} letter g l rings lh b e ne q = ⊎-elim
+    (λ x. absurd (ne (e ∙ x .is)))
+    (λ x. none-first log base n letter g h lo l b (λ j y z. x .behind j (omega arith) z))
+    (rings .tail h lh)
+
+-- no record at all
+pub zero-first : (test : ℕ → Bool) (lo base : ℕ) → base ≡ 0 → lo ≤ base → base ≡ firstFrom test lo (base - lo)
+zero-first test lo base e l = first-is test lo (base - lo) base (record { low = l; high = omega arith; passes = λ h. absurd (omega arith); fails = λ j p q. absurd (omega arith) })
