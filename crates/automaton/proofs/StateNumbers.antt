@@ -66,29 +66,6 @@ digits-number n h = rw (← div-div-eq-div-mul n 64 8, ← div-div-eq-div-mul n 
         let d : z % 8 ≡ z = omega arith in
         omega arith
 
--- a number is found again from its group
-pub number-numbered : (L : Processes) (n : ℕ) → NumberOver L n → stateNumber (groupNumbered L n) ≡ n
-unfolding stateNumber
-number-numbered L n o =
-    let g = groupNumbered L n in
-    let b : n < stateCount = o .below in
-    let d0 : at g p0 % 8 ≡ n / 512 % 8 = kept p0 in
-    let d1 : at g p1 % 8 ≡ n / 64 % 8 = kept p1 in
-    let d2 : at g p2 % 8 ≡ n / 8 % 8 = kept p2 in
-    let d3 : at g p3 % 8 ≡ n % 8 = kept p3 in
-    rw (d0, d1, d2, d3) (digits-number n (o .below))
-  where
-    digit-small : (i : Process) → digit n i % 8 ≡ digit n i
-    digit-small p0 = omega arith
-    digit-small p1 = omega arith
-    digit-small p2 = omega arith
-    digit-small p3 = omega arith
-
-    kept : (i : Process) → at (groupNumbered L n) i % 8 ≡ digit n i
-    kept i = by-test (has L i)
-        (λ h. rw (at-numbered L n i, h) (digit-small i))
-        (λ h. rw (at-numbered L n i, h) (sym (o .outside i h)))
-
 -- the number of a group of the processes L is such a number
 pub number-over : (L : Processes) (g : Group) → Over L g → NumberOver L (stateNumber g)
 number-over L g o = record {

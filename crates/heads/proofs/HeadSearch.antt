@@ -17,7 +17,7 @@ use Rattle.model.specs.Tables.{ruleOf}
 use Rattle.model.proofs.FreshPaths.{filter-append}
 use Rattle.model.proofs.Groups.{sameGroup-true}
 use Rattle.model.proofs.Lists.{map-append}
-use Rattle.model.proofs.RoundGroups.{filter, isHead, isHead-of, isHead-true}
+use Rattle.model.proofs.RoundHeads.{filter, isHead, isHead-of, isHead-true}
 use Rattle.model.proofs.Tests.{and-left, and-right}
 use Rattle.automaton.specs.StateSets.{firstFrom}
 use Rattle.automaton.proofs.StateSets.{First, first-at}

@@ -8,7 +8,7 @@ use Rattle.model.specs.declared.Group.{Group}
 use Rattle.model.specs.Groups.{Processes}
 use Rattle.model.specs.Log.{Candidate, addedRecord}
 use Rattle.model.specs.Records.{logBytes, recordLength}
-use Rattle.model.proofs.RoundGroups.{filter}
+use Rattle.model.proofs.RoundHeads.{filter}
 use Rattle.automaton.specs.StateNumbers.{Over, stateCount, stateNumber}
 use Rattle.automaton.specs.StateSets.{member}
 use Rattle.table.specs.declared.Table.{Table}

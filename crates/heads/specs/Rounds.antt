@@ -11,7 +11,7 @@ use Rattle.model.specs.Log.{Record, Candidate, candidate, collect, logAt, paths
 use Rattle.model.specs.Records.{letterAt, logBytes, recordLength}
 use Rattle.model.specs.Systems.{Rule}
 use Rattle.model.proofs.FreshPaths.{anyFrom}
-use Rattle.model.proofs.RoundGroups.{candidatesOf, filter, isHead, ruleHead}
+use Rattle.model.proofs.RoundHeads.{candidatesOf, filter, isHead, ruleHead}
 use Rattle.table.specs.declared.Table.{Table}
 use Rattle.table.specs.Reading.{Holds, ruleIn, systemIn}
 use Rattle.scratch.specs.Regions.{activeAt, passedAt, ringsAt, setBytes}

@@ -191,8 +191,3 @@ pub skip-stale : (sys : System) (m : ℕ)
 skip-stale sys m =
     each-by-elem (λ (r : Rule). anyOf (freshIn (logAt sys (suc m)) (suc m)) (r .written) ≡ false → (p : Path) → List·Memᴰ p (paths (sys .loc) (logAt sys (suc m)) (r .written) (r .after)) → inLog (added (sys .loc) r (p .end)) (logAt sys (suc m)) ≡ true)
     (sys .rules) (λ n r is. skip-law sys m n r is)
-
--- in round 1: none
-pub skip-none : (sys : System) (log : List Record)
-    → Each (λ (r : Rule). true ≡ false → (p : Path) → List·Memᴰ p (paths (sys .loc) log (r .written) (r .after)) → inLog (added (sys .loc) r (p .end)) log ≡ true) (sys .rules)
-skip-none sys log = each-any (λ (r : Rule). true ≡ false → (p : Path) → List·Memᴰ p (paths (sys .loc) log (r .written) (r .after)) → inLog (added (sys .loc) r (p .end)) log ≡ true) (λ r e. absurd (true≢false e)) (sys .rules)

@@ -103,9 +103,6 @@ module _ (bytes : List ℕ) (t : Table) (h : Holds bytes t) where
   pub rule-elem : (k : ℕ) → k < t .rules → getElem? (systemIn bytes .rules) k ≡ some (ruleIn bytes k)
   rule-elem k l = elem-at (systemIn bytes .rules) k (ruleOf []) (omega (arith, rules-count bytes t h))
 
-  pub rule-drop : (k : ℕ) → k < t .rules → drop k (systemIn bytes .rules) ≡ ruleIn bytes k ∷ drop (suc k) (systemIn bytes .rules)
-  rule-drop k l = drop-cons (systemIn bytes .rules) k (ruleOf []) (omega (arith, rules-count bytes t h))
-
   -- a rule of the system by its number
   pub rule-number : (k : ℕ) (r : Rule) → getElem? (systemIn bytes .rules) k ≡ some r → (k < t .rules) × (ruleIn bytes k ≡ r)
   rule-number k r e = let p = elem-place (systemIn bytes .rules) k (ruleOf []) r e in (omega (arith, p .0, rules-count bytes t h), p .1)
@@ -139,12 +136,6 @@ module _ (bytes : List ℕ) (t : Table) (h : Holds bytes t) where
       (accepted-well-formed (itemsIn bytes) complete .cooperating .cooperates k (ruleIn bytes k) (rule-elem k l))
 
   -- ---- transitions
-  pub transition-elem : (k : ℕ) → k < t .transitions → getElem? (systemIn bytes .transitions) k ≡ some (transitionIn bytes k)
-  transition-elem k l = elem-at (systemIn bytes .transitions) k (transitionOf []) (omega (arith, transitions-count bytes t h))
-
-  pub transition-drop : (k : ℕ) → k < t .transitions → drop k (systemIn bytes .transitions) ≡ transitionIn bytes k ∷ drop (suc k) (systemIn bytes .transitions)
-  transition-drop k l = drop-cons (systemIn bytes .transitions) k (transitionOf []) (omega (arith, transitions-count bytes t h))
-
   pub transition-number : (k : ℕ) (x : Transition) → getElem? (systemIn bytes .transitions) k ≡ some x → (k < t .transitions) × (transitionIn bytes k ≡ x)
   transition-number k x e = let p = elem-place (systemIn bytes .transitions) k (transitionOf []) x e in (omega (arith, p .0, transitions-count bytes t h), p .1)
 

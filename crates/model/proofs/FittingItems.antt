@@ -50,9 +50,6 @@ pub fits-outside : (L : Processes) (bound : Process → ℕ) (g : Group) → gro
 unfolding groupFits
 fits-outside L bound g e i m = eqb-true (at g i) 255 (rw m at (every-at (λ j. cond (has L j) (ltb (at g j) (bound j)) (eqb (at g j) 255)) e i))
 
-pub fits-restrict : (L : Processes) (bound : Process → ℕ) (g : Group) → groupFits L bound g ≡ true → restrict L g ≡ g
-fits-restrict L bound g e = ext (λ i. rw at-restrict (by-test (has L i) (λ m. rw m) (λ n. rw n (sym (fits-outside L bound g e i n)))))
-
 pub fits-byte : (L : Processes) (bound : Process → ℕ) (g : Group) → ((i : Process) → bound i ≤ 256) → groupFits L bound g ≡ true → ByteGroup g
 fits-byte L bound g small e i = by-test (has L i)
     (λ m. let low : at g i < bound i = fits-at L bound g e i m in let top : bound i ≤ 256 = small i in omega arith)
@@ -145,7 +142,3 @@ accepting-fit c = shown-of-kind 5 (omega arith) (λ ps ls body. groupFits (prese
 pub start-fits : {items : List Item} → Checked items → Each (λ (body : List ℕ). groupFits (present (bodies 1 items)) (controlsOf (bodies 1 items)) (groupOf body 0) ≡ true) (bodies 6 items)
 unfolding valueFits
 start-fits c = shown-of-kind 6 (omega arith) (λ ps ls body. groupFits (present ps) (controlsOf ps) (groupOf body 0) ≡ true) (λ items body p. p .fits) c
-
-pub word-fits : {items : List Item} → Checked items → Each (λ (body : List ℕ). byteOf body 0 < length (bodies 2 items)) (bodies 7 items)
-unfolding valueFits
-word-fits c = shown-of-kind 7 (omega arith) (λ ps ls body. byteOf body 0 < length ls) (λ items body p. ltb-true (byteOf body 0) (length (bodies 2 items)) (p .fits)) c

@@ -55,9 +55,6 @@ cond-cong false z h = refl
 pub restrict-merge : (L : Processes) (x g : Group) → restrict L (merge L x g) ≡ restrict L x
 restrict-merge L x g = ext (λ i. simp (at-restrict, at-merge) (cond-under (has L i) (at x i) (at g i) 255))
 
-pub restrict-restrict : (L : Processes) (g : Group) → restrict L (restrict L g) ≡ restrict L g
-restrict-restrict L g = ext (λ i. simp (at-restrict) (cond-under (has L i) (at g i) 255 255))
-
 pub restrict-merge-apart : (L M : Processes) (x g : Group) → Apart L M → restrict L (merge M x g) ≡ restrict L g
 restrict-merge-apart L M x g h = ext (λ i. simp (at-restrict, at-merge) (cond-miss (has L i) (has M i) (at x i) (at g i) 255 (h i)))
 
@@ -91,9 +88,6 @@ restrict-merge-cong L M x g h e =
 cond-within : {A : Type 0} (l m : Bool) (x y z : A) → (m ≡ true → l ≡ true) → cond l (cond m x y) z ≡ cond m x (cond l y z)
 cond-within l true x y z h = rw (h refl)
 cond-within l false x y z h = refl
-
-pub merge-within : (L M : Processes) (x y g : Group) → Within M L → merge L (merge M x y) g ≡ merge M x (merge L y g)
-merge-within L M x y g h = ext (λ i. simp at-merge (cond-within (has L i) (has M i) (at x i) (at y i) (at g i) (h i)))
 
 pub merge-cong : (L : Processes) (x y g : Group) → restrict L x ≡ restrict L y → merge L x g ≡ merge L y g
 merge-cong L x y g e = sym (merge-restrict L x g) ∙ ap (λ (z : Group). merge L z g) e ∙ merge-restrict L y g

@@ -36,7 +36,7 @@ pub mod Main
 pub mod GreedyPath
 pub mod EmissionStack
 pub mod UniqueRound
-pub mod RoundGroups
+pub mod RoundHeads
 pub mod Skipping
 pub mod FreshPaths
 pub mod CodeTests

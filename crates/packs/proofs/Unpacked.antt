@@ -47,9 +47,6 @@ packed-unpacked x h = rw (quotient-3 x, quotient-2 x) (four-bytes x (x / 256) (x
 pub unpacked-packed : (g : Group) → Bytes g → unpacked (packed g) ≡ g
 unpacked-packed g b = packed-same (unpacked (packed g)) g (bytes-unpacked (packed g)) b (packed-unpacked (packed g) (packed-below g b))
 
-pub unpacked-same : (x y : ℕ) → x < 4294967296 → y < 4294967296 → unpacked x ≡ unpacked y → x ≡ y
-unpacked-same x y h k e = sym (packed-unpacked x h) ∙ ap packed e ∙ packed-unpacked y k
-
 -- comparing numbers is comparing groups
 pub same-unpacked : (x y : ℕ) → x < 4294967296 → y < 4294967296 → eqb y x ≡ sameGroup (unpacked x) (unpacked y)
 same-unpacked x y h k =

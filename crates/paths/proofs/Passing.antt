@@ -14,7 +14,7 @@ use Rattle.model.specs.Lists.{Each}
 use Rattle.model.specs.Log.{Candidate, Path, Record, paths}
 use Rattle.model.proofs.FreshPaths.{fresh-paths, freshPaths, found-paths, pathFresh}
 use Rattle.model.proofs.Lists.{each-map}
-use Rattle.model.proofs.RoundGroups.{filter}
+use Rattle.model.proofs.RoundHeads.{filter}
 use Rattle.model.proofs.Tests.{by-test}
 use Rattle.automaton.specs.StateNumbers.{Over, stateCount, stateNumber}
 use Rattle.automaton.specs.StateSets.{inserted, member}

@@ -174,16 +174,3 @@ with-behind pre r rest log n e p =
 pub log-appended : (records : List Record) (r : Record) (rest log : List ℕ) (n : ℕ) → log ≡ logBytes records ++ rest → n ≡ length records
     → withEntry log n (recordEntry r) ≡ logBytes (records ++ (r ∷ [])) ++ drop recordLength rest
 log-appended records r rest log n e p = with-behind records r rest log n e p ∙ sym (log-around records r [] (drop recordLength rest))
-
--- another record n
-pub log-replaced : (records : List Record) (r : Record) (rest log : List ℕ) (n : ℕ) → log ≡ logBytes records ++ rest → n < length records
-    → withEntry log n (recordEntry r) ≡ logBytes (set records n r) ++ rest
-log-replaced records r rest log n e h =
-    let pre = take n records in
-    let old = recordAt records n in
-    let post = drop (suc n) records in
-    let more = logBytes post ++ rest in
-    let split : log ≡ logBytes pre ++ (recordBytes old ++ more) = e ∙ ap (λ (rs : List Record). logBytes rs ++ rest) (split-at records n noRecord h) ∙ log-around pre old post rest in
-    with-behind pre r (recordBytes old ++ more) log n split (sym (length-take-le n records (omega arith)))
-    ∙ ap (λ (l : List ℕ). logBytes pre ++ (recordBytes r ++ l)) (drop-at (recordBytes old) more recordLength (length-record old))
-    ∙ sym (ap (λ (rs : List Record). logBytes rs ++ rest) (set-split records n r h) ∙ log-around pre r post rest)

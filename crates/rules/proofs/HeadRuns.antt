@@ -11,7 +11,7 @@ use Rattle.model.specs.Groups.{Processes}
 use Rattle.model.specs.Log.{Candidate, Record, candidate, paths}
 use Rattle.model.specs.Systems.{Rule}
 use Rattle.model.specs.Tables.{ruleOf}
-use Rattle.model.proofs.RoundGroups.{candidatesOf}
+use Rattle.model.proofs.RoundHeads.{candidatesOf}
 use Rattle.model.proofs.Tests.{by-test}
 use Rattle.table.specs.declared.Table.{Table}
 use Rattle.table.specs.Reading.{Holds, ruleIn, systemIn}
@@ -109,13 +109,3 @@ module _ (table : List ℕ) (t : Table) (holds : Holds table t) (s : List ℕ) (
     where
       count : length (systemIn table .rules) ≡ t .rules
       count = rules-count table t holds
-
-  -- a position with the head of p is one of those up to `to`, if none before p has it and `to` has another
-  pub run-inside : (p to q : ℕ) → p < to → to ≤ t .rules → q < t .rules → head q ≡ head p → ((r : ℕ) → r < p → head r ≡ head p → ⊥) → (to < t .rules → head to ≡ head p → ⊥) → (p ≤ q) × (q < to)
-  run-inside p to q a b l e front end = (
-    elim (decLt q p) [ yes h ↦ absurd (front q h e) | no h ↦ omega arith ],
-    elim (decLt q to) [
-      | yes h ↦ h
-      | no h ↦ absurd (end (omega arith) (same-between table (t .rules) s o p q to (omega arith) (omega arith) l (sym e)))
-    ],
-  )

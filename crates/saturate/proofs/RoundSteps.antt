@@ -19,7 +19,7 @@ use Rattle.model.proofs.FreshPaths.{last-round}
 use Rattle.model.proofs.Lists.{any-of, any-true, each-any, each-map, map-append}
 use Rattle.model.proofs.Order.{lex-irrefl, lex-total, sameDigits}
 use Rattle.model.proofs.RecordBytes.{log-append}
-use Rattle.model.proofs.RoundGroups.{filter, last-head, next-head, no-head, ruleHead, upTo}
+use Rattle.model.proofs.RoundHeads.{filter, last-head, next-head, no-head, ruleHead, upTo}
 use Rattle.model.proofs.Skipping.{freshIn}
 use Rattle.model.proofs.Tests.{and-both, and-left, and-right, by-test, or-right}
 use Rattle.automaton.specs.StateSets.{firstFrom}

@@ -56,11 +56,6 @@ module _ (bytes : List ℕ) (t : Table) (h : Holds bytes t) where
   unfolding offset
   table-heads = record { processes = table-modest .processes; letters = table-modest .letters; inside = omega (arith, layout bytes t h .size) }
 
-  -- the longest accepted table
-  pub table-length : length bytes ≤ 5530
-  unfolding offset
-  table-length = let m = table-modest in omega (arith, layout bytes t h .size, m .processes, m .letters, m .rules, m .transitions, m .accepting, m .pile)
-
   -- ---- item j of kind k
   -- it stands in the bytes
   pub body-inside : (k j : ℕ) → k < 8 → j < counts t 1 k → placeOf (counts t 1) k j + 1 + bodyLength k ≤ length bytes

@@ -1,4 +1,4 @@
--- A round by groups of rules: rules with the same letter and before states compete for the same keys, others never do. And a rule whose written
+-- A round by heads: rules with the same letter and before states compete for the same keys, others never do. And a rule whose written
 -- letters got no record in the last round adds nothing.
 use mathlib.Core.Path.{_∙_, _≡_, ap, ap₂, refl, subst, sym}
 use mathlib.Core.Bool.{Bool, _&&_, cond, false, false≢true, not, true, true≢false}
@@ -32,9 +32,6 @@ headDigits t = t .letter ∷ t .before .s0 ∷ t .before .s1 ∷ t .before .s2 �
 
 abbrev pub afterDigits : Transition → List ℕ
 afterDigits t = t .after .s0 ∷ t .after .s1 ∷ t .after .s2 ∷ t .after .s3 ∷ []
-
-unfoldable pub sameHead : Transition → Transition → Bool
-sameHead t u = eqb (t .letter) (u .letter) && sameGroup (t .before) (u .before)
 
 -- the transition's head is at most h
 abbrev pub upTo : List ℕ → Candidate → Bool
@@ -181,12 +178,12 @@ module _ (loc : ℕ → Processes) (log : List Record) (k : Transition) where
 -- ---- the round, one head after the other
 module _ (sys : System) (log : List Record) (ok : Rule → Bool)
     (skip : Each (λ (r : Rule). ok r ≡ false → (p : Path) → List·Memᴰ p (paths (sys .loc) log (r .written) (r .after)) → inLog (added (sys .loc) r (p .end)) log ≡ true) (sys .rules)) where
-  abbrev pub groupAdditions : ℕ → Group → List Candidate
-  groupAdditions a b = collect log (candidatesOf (sys .loc) log (λ r. ok r && isHead a b r) (sys .rules) 0) []
+  abbrev pub additionsOf : ℕ → Group → List Candidate
+  additionsOf a b = collect log (candidatesOf (sys .loc) log (λ r. ok r && isHead a b r) (sys .rules) 0) []
 
-  -- the group has nothing for a key with another head
-  group-other : (a : ℕ) (b : Group) (k : Transition) → (headDigits k ≡ headOf a b → ⊥) → firstOf k (groupAdditions a b) ≡ none
-  group-other a b k ne = by-test (inLog k log)
+  -- the head has nothing for a key with another
+  head-other-key : (a : ℕ) (b : Group) (k : Transition) → (headDigits k ≡ headOf a b → ⊥) → firstOf k (additionsOf a b) ≡ none
+  head-other-key a b k ne = by-test (inLog k log)
       (λ y. collect-chosen log (candidatesOf (sys .loc) log (λ r. ok r && isHead a b r) (sys .rules) 0) .lacks k y)
       (λ n. collect-chosen log (candidatesOf (sys .loc) log (λ r. ok r && isHead a b r) (sys .rules) 0) .firsts k n
       ∙ of-none (sys .loc) log k (λ r. ok r && isHead a b r) (sys .rules) 0
@@ -194,9 +191,9 @@ module _ (sys : System) (log : List Record) (ok : Rule → Bool)
       (λ r i e m. other-head-none (sys .loc) log k r m (λ q. ne (sym q ∙ isHead-true a b r (and-right (ok r) (isHead a b r) e))))))
 
   -- and for a key with its head what the whole round has
-  group-same : (a : ℕ) (b : Group) (k : Transition) → headDigits k ≡ headOf a b → firstOf k (groupAdditions a b) ≡ firstOf k (additions sys log)
+  head-same-key : (a : ℕ) (b : Group) (k : Transition) → headDigits k ≡ headOf a b → firstOf k (additionsOf a b) ≡ firstOf k (additions sys log)
   unfolding additions
-  group-same a b k same = by-test (inLog k log)
+  head-same-key a b k same = by-test (inLog k log)
       (λ y. collect-chosen log (candidatesOf (sys .loc) log (λ r. ok r && isHead a b r) (sys .rules) 0) .lacks k y ∙ sym (collect-chosen log (candidates (sys .loc) log (sys .rules) 0) .lacks k y))
       (λ n. collect-chosen log (candidatesOf (sys .loc) log (λ r. ok r && isHead a b r) (sys .rules) 0) .firsts k n
       ∙ first-chosen (sys .loc) log (λ r. ok r && isHead a b r) k (sys .rules) 0
@@ -234,24 +231,24 @@ module _ (sys : System) (log : List Record) (ok : Rule → Bool)
     abbrev keyUpTo : List ℕ → Transition → Bool
     keyUpTo h k = not (lexLess h (headDigits k))
 
-    next-first : (k : Transition) → cond (keyUpTo (headOf a b) k) (firstOf k (additions sys log)) none ≡ orElse (cond (keyUpTo last k) (firstOf k (additions sys log)) none) (firstOf k (groupAdditions a b))
+    next-first : (k : Transition) → cond (keyUpTo (headOf a b) k) (firstOf k (additions sys log)) none ≡ orElse (cond (keyUpTo last k) (firstOf k (additions sys log)) none) (firstOf k (additionsOf a b))
     next-first k = by-test (lexLess last (headDigits k)) above below
       where
         -- past the last head: none before, and this head's or none
-        above : lexLess last (headDigits k) ≡ true → cond (keyUpTo (headOf a b) k) (firstOf k (additions sys log)) none ≡ orElse (cond (keyUpTo last k) (firstOf k (additions sys log)) none) (firstOf k (groupAdditions a b))
+        above : lexLess last (headDigits k) ≡ true → cond (keyUpTo (headOf a b) k) (firstOf k (additions sys log)) none ≡ orElse (cond (keyUpTo last k) (firstOf k (additions sys log)) none) (firstOf k (additionsOf a b))
         above y = rw y (⊎-elim
-            (λ (e : headDigits k ≡ headOf a b). rw (group-same a b k e) (by-test (lexLess (headOf a b) (headDigits k)) (λ z. absurd (lex-irrefl (headOf a b) (subst (λ (h : List ℕ). lexLess (headOf a b) h ≡ true) e z))) (λ n. rw n)))
-            (λ (ne : headDigits k ≡ headOf a b → ⊥). rw (group-other a b k ne) (by-test (lexLess (headOf a b) (headDigits k)) (λ z. rw z) (λ n. rw (n, between ne n))))
+            (λ (e : headDigits k ≡ headOf a b). rw (head-same-key a b k e) (by-test (lexLess (headOf a b) (headDigits k)) (λ z. absurd (lex-irrefl (headOf a b) (subst (λ (h : List ℕ). lexLess (headOf a b) h ≡ true) e z))) (λ n. rw n)))
+            (λ (ne : headDigits k ≡ headOf a b → ⊥). rw (head-other-key a b k ne) (by-test (lexLess (headOf a b) (headDigits k)) (λ z. rw z) (λ n. rw (n, between ne n))))
             (sameDigits (headDigits k) (headOf a b)))
           where
             between : (headDigits k ≡ headOf a b → ⊥) → lexLess (headOf a b) (headDigits k) ≡ false → firstOf k (additions sys log) ≡ none
             between ne n = head-none k (each-map (λ (r : Rule). ok r ≡ true → lexLess last (ruleHead r) ≡ true → lexLess (ruleHead r) (headOf a b) ≡ false) (λ (r : Rule). ok r ≡ true → ruleHead r ≡ headDigits k → ⊥)
                 (λ r g o q. true≢false (sym (lex-total (headOf a b) (headDigits k) (λ e. ne (sym e)) n) ∙ subst (λ (h : List ℕ). lexLess h (headOf a b) ≡ false) q (g o (subst (λ (h : List ℕ). lexLess last h ≡ true) (sym q) y)))) (sys .rules) gap)
 
-        below : lexLess last (headDigits k) ≡ false → cond (keyUpTo (headOf a b) k) (firstOf k (additions sys log)) none ≡ orElse (cond (keyUpTo last k) (firstOf k (additions sys log)) none) (firstOf k (groupAdditions a b))
+        below : lexLess last (headDigits k) ≡ false → cond (keyUpTo (headOf a b) k) (firstOf k (additions sys log)) none ≡ orElse (cond (keyUpTo last k) (firstOf k (additions sys log)) none) (firstOf k (additionsOf a b))
         below n =
             let less : lexLess (headDigits k) (headOf a b) ≡ true = lex-le-lt (headDigits k) last (headOf a b) n later in
-            rw (n, group-other a b k (λ e. lex-irrefl (headOf a b) (subst (λ (h : List ℕ). lexLess h (headOf a b) ≡ true) e less)))
+            rw (n, head-other-key a b k (λ e. lex-irrefl (headOf a b) (subst (λ (h : List ℕ). lexLess h (headOf a b) ≡ true) e less)))
             (by-test (lexLess (headOf a b) (headDigits k)) (λ z. absurd (lex-irrefl (headDigits k) (lex-trans (headDigits k) (headOf a b) (headDigits k) less z))) (λ m. rw m (or-none (firstOf k (additions sys log)))))
           where
             or-none : (o : Option Candidate) → o ≡ orElse o none
@@ -269,23 +266,23 @@ module _ (sys : System) (log : List Record) (ok : Rule → Bool)
             (each-any (λ (p : Path). ruleHead r ≡ headOf a b) (λ p. isHead-true a b r (and-right (ok r) (isHead a b r) y)) (paths (sys .loc) log (r .written) (r .after)))))
             (λ z. rw z tt)
 
-    next-sorted : Sorted (filter (upTo last) (additions sys log) ++ groupAdditions a b)
-    next-sorted = sorted-append (filter (upTo last) (additions sys log)) (groupAdditions a b) (filter-sorted (upTo last) (additions sys log) (additions-sorted sys log))
+    next-sorted : Sorted (filter (upTo last) (additions sys log) ++ additionsOf a b)
+    next-sorted = sorted-append (filter (upTo last) (additions sys log)) (additionsOf a b) (filter-sorted (upTo last) (additions sys log) (additions-sorted sys log))
         (collect-sorted log (candidatesOf (sys .loc) log (λ r. ok r && isHead a b r) (sys .rules) 0) [] tt)
-        (each-map (λ (c : Candidate). upTo last c ≡ true) (λ (c : Candidate). Each (λ (d : Candidate). Less (c .key) (d .key)) (groupAdditions a b))
+        (each-map (λ (c : Candidate). upTo last c ≡ true) (λ (c : Candidate). Each (λ (d : Candidate). Less (c .key) (d .key)) (additionsOf a b))
         (λ c u. each-map (λ (d : Candidate). headDigits (d .key) ≡ headOf a b) (λ (d : Candidate). Less (c .key) (d .key))
         (λ d e. head-less (c .key) (d .key) (subst (λ (h : List ℕ). lexLess (headDigits (c .key)) h ≡ true) (sym e) (lex-le-lt (headDigits (c .key)) last (headOf a b) (not-true (lexLess last (headDigits (c .key))) u) later)))
-        (groupAdditions a b)
+        (additionsOf a b)
         (each-collect (λ (d : Candidate). headDigits (d .key) ≡ headOf a b) log (candidatesOf (sys .loc) log (λ r. ok r && isHead a b r) (sys .rules) 0) [] (of-head (sys .rules) 0) tt))
         (filter (upTo last) (additions sys log)) (filter-holds (upTo last) (additions sys log)))
 
-    -- what the round has up to this head is what it has up to the last, and this group's
-    pub next-head : filter (upTo (headOf a b)) (additions sys log) ≡ filter (upTo last) (additions sys log) ++ groupAdditions a b
-    next-head = sorted-ext (filter (upTo (headOf a b)) (additions sys log)) (filter (upTo last) (additions sys log) ++ groupAdditions a b)
+    -- what the round has up to this head is what it has up to the last, and this head's
+    pub next-head : filter (upTo (headOf a b)) (additions sys log) ≡ filter (upTo last) (additions sys log) ++ additionsOf a b
+    next-head = sorted-ext (filter (upTo (headOf a b)) (additions sys log)) (filter (upTo last) (additions sys log) ++ additionsOf a b)
         (filter-sorted (upTo (headOf a b)) (additions sys log) (additions-sorted sys log)) next-sorted
         (λ k. first-filter (keyUpTo (headOf a b)) k (additions sys log) ∙ next-first k
-        ∙ ap (λ (o : Option Candidate). orElse o (firstOf k (groupAdditions a b))) (sym (first-filter (keyUpTo last) k (additions sys log)))
-        ∙ sym (first-both k (filter (upTo last) (additions sys log)) (groupAdditions a b)))
+        ∙ ap (λ (o : Option Candidate). orElse o (firstOf k (additionsOf a b))) (sym (first-filter (keyUpTo last) k (additions sys log)))
+        ∙ sym (first-both k (filter (upTo last) (additions sys log)) (additionsOf a b)))
 
   -- before the first head there is nothing
   pub no-head : filter (upTo []) (additions sys log) ≡ []
