@@ -89,6 +89,9 @@ cond-within : {A : Type 0} (l m : Bool) (x y z : A) → (m ≡ true → l ≡ tr
 cond-within l true x y z h = rw (h refl)
 cond-within l false x y z h = refl
 
+pub merge-within : (L M : Processes) (x y g : Group) → Within M L → merge L (merge M x y) g ≡ merge M x (merge L y g)
+merge-within L M x y g h = ext (λ i. simp at-merge (cond-within (has L i) (has M i) (at x i) (at y i) (at g i) (h i)))
+
 pub merge-cong : (L : Processes) (x y g : Group) → restrict L x ≡ restrict L y → merge L x g ≡ merge L y g
 merge-cong L x y g e = sym (merge-restrict L x g) ∙ ap (λ (z : Group). merge L z g) e ∙ merge-restrict L y g
 
