@@ -35,7 +35,8 @@ numbering-start L groups k s j e empty = record {
   members = λ x h. empty x ∙ sym (ap (λ (l : List Group). isNumberOf L l x) (drop-of-length-le groups {i = j} (omega arith)));
 }
 
-pub numbering-turn : (L : Processes) (groups : List Group) (d : Group) (k j : ℕ) (s t : List ℕ) → setPlace k + setLength ≤ length s → 0 < j → ownNumber L (getD groups (j - 1) d) < stateCount
+pub numbering-turn : (L : Processes) (groups : List Group) (d : Group) (k j : ℕ) (s t : List ℕ) → setPlace k + setLength ≤ length s → 0 < j
+    → ownNumber L (getD groups (j - 1) d) < stateCount
     → Numbering L groups k j s t
     → Numbering L groups k (j - 1) s (withState t k (ownNumber L (getD groups (j - 1) d)))
 unfolding isNumberOf

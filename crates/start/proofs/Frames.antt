@@ -39,7 +39,8 @@ wide-span own last k n e is = by-test (eqb k 1)
     })
 
 -- one or eight, as the bits tell
-bits-tell : (rest : ℕ) (b c : Bool) → RestBits rest (cond b 1 8) (cond c 1 8) → (_≡_ {A = ℕ} (cond (hasBit rest 8) 8 1) (cond b 1 8)) × (_≡_ {A = ℕ} (cond (hasBit rest 1) 8 1) (cond c 1 8))
+bits-tell : (rest : ℕ) (b c : Bool) → RestBits rest (cond b 1 8) (cond c 1 8)
+    → (_≡_ {A = ℕ} (cond (hasBit rest 8) 8 1) (cond b 1 8)) × (_≡_ {A = ℕ} (cond (hasBit rest 1) 8 1) (cond c 1 8))
 bits-tell rest true true r = (rw (r 8 (omega arith)), rw (r 1 (omega arith)))
 bits-tell rest true false r = (rw (r 8 (omega arith)), rw (r 1 (omega arith)))
 bits-tell rest false true r = (rw (r 8 (omega arith)), rw (r 1 (omega arith)))

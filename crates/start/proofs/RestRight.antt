@@ -38,7 +38,8 @@ use Rattle.stack.proofs.RoundLogs.{round-fits, round-reads}
 use Rattle.start.specs.declared.Letter.{Letter}
 use Rattle.scratch.specs.Regions.{ringsAt}
 use Rattle.start.specs.Regions.{setAt, setsEnd, Linked, SameBut, OnlySet}
-use Rattle.start.specs.RestSets.{processesOfTable, noStates, plainGroup, ownNumber, LetterAt, leads, firstLead, someLead, EmptySet, Filled, isNumberOf, acceptsFrom, SetRight, RightForLog}
+use Rattle.start.specs.RestSets.{processesOfTable, noStates, plainGroup, ownNumber}
+use Rattle.start.specs.RestSets.{LetterAt, leads, firstLead, someLead, EmptySet, Filled, isNumberOf, acceptsFrom, SetRight, RightForLog}
 use Rattle.start.specs.OwnGroups.{lastStates, Numbered, FrameTo, Added}
 use Rattle.start.specs.declared.Frame.{Frame}
 use Rattle.start.proofs.ScratchRegions.{linked-same, set-same}
@@ -121,11 +122,13 @@ module _ {table : List ℕ} {t : Table} {round : ℕ} {log : List ℕ} {count : 
 
   -- 0 for 255 at the processes that the table lacks makes no difference
   reads-is : (g : Group) → Over (processesOfTable t) g → (r : ℕ) → r < count
-      → recordReads log (a .number) (packed (restrict (processesOf (a .bits)) (plainGroup (processesOfTable t) g))) r ≡ readsAt (systemIn table .loc) (pileIn table i) g (recordAt (logAt (systemIn table) round) r)
+      → recordReads log (a .number) (packed (restrict (processesOf (a .bits)) (plainGroup (processesOfTable t) g))) r
+      ≡ readsAt (systemIn table .loc) (pileIn table i) g (recordAt (logAt (systemIn table) round) r)
   reads-is g o r h =
-      ap (λ (h : Group). recordReads log (a .number) (packed h) r) (restrict-within (processesOfTable t) (processesOf (a .bits)) (plainGroup (processesOfTable t) g) g own-within (restrict-merge (processesOfTable t) g noStates))
+      let L = processesOfTable t in
+      ap (λ (h : Group). recordReads log (a .number) (packed h) r) (restrict-within L (processesOf (a .bits)) (plainGroup L g) g own-within (restrict-merge L g noStates))
       ∙ ap₂ (λ (b : ℕ) (L : Processes). recordReads log b (packed (restrict L g)) r) (letter .number) (letter .bits .same)
-      ∙ reads-model (sys .loc) log (pileIn table i) g r (recordAt records r) (round-reads lent r h) (round-fits lent r h) (over-bytes (processesOfTable t) g o)
+      ∙ reads-model (sys .loc) log (pileIn table i) g r (recordAt records r) (round-reads lent r h) (round-fits lent r h) (over-bytes L g o)
 
   -- where a record that reads the letter leads
   pub target-is : (g : Group) (r : ℕ) → r < count → readsAt (systemIn table .loc) (pileIn table i) g (recordAt (logAt (systemIn table) round) r) ≡ true
@@ -143,7 +146,8 @@ module _ {table : List ℕ} {t : Table} {round : ℕ} {log : List ℕ} {count : 
       (ground .below round r (omega (arith, lent .size))) o
 
   module _ (s : List ℕ) (next : SetRight table t round s (i + 1)) (g : Group) (o : Over (processesOfTable t) g) where
-    lead-is : (r : ℕ) → r < count → leads log (setAt s (i + 1)) a (plainGroup (processesOfTable t) g) r ≡ goesOn (systemIn table) (logAt (systemIn table) round) (pileIn table i) (drop (i + 1) (systemIn table .start .word)) g r
+    lead-is : (r : ℕ) → r < count → leads log (setAt s (i + 1)) a (plainGroup (processesOfTable t) g) r
+        ≡ goesOn (systemIn table) (logAt (systemIn table) round) (pileIn table i) (drop (i + 1) (systemIn table .start .word)) g r
     unfolding ownNumber
     lead-is r h = by-test (readsAt (sys .loc) (pileIn table i) g (recordAt records r))
         (λ y. rw y (lead-reads log (setAt s (i + 1)) a (plainGroup (processesOfTable t) g) r (reads-is g o r h ∙ y)
@@ -156,7 +160,8 @@ module _ {table : List ℕ} {t : Table} {round : ℕ} {log : List ℕ} {count : 
         ≡ firstFrom (goesOn (systemIn table) (logAt (systemIn table) round) (pileIn table i) (drop (i + 1) (systemIn table .start .word)) g) 0 (length (logAt (systemIn table) round))
     unfolding firstLead
     first-is-lead =
-        first-agree (leads log (setAt s (i + 1)) a (plainGroup (processesOfTable t) g)) (goesOn sys records (pileIn table i) (drop (i + 1) (sys .start .word)) g) 0 count (λ r p q. lead-is r (omega arith))
+        first-agree (leads log (setAt s (i + 1)) a (plainGroup (processesOfTable t) g)) (goesOn sys records (pileIn table i) (drop (i + 1) (sys .start .word)) g) 0 count
+        (λ r p q. lead-is r (omega arith))
         ∙ ap (λ (k : ℕ). firstFrom (goesOn sys records (pileIn table i) (drop (i + 1) (sys .start .word)) g) 0 k) (sym (lent .size))
 
     pub lead-accepts : someLead log count (setAt s (i + 1)) a (plainGroup (processesOfTable t) g) ≡ acceptsFrom table round i g
@@ -170,8 +175,10 @@ module _ {table : List ℕ} {t : Table} {round : ℕ} {log : List ℕ} {count : 
 
   under-last : (g : Group) → acceptsFrom table round i g ≡ true → (j : Process) → at (plainGroup (processesOfTable t) g) j % 8 ≤ at (lastStates table t) j % 8
   unfolding lastStates
-  under-last g y j = rw (at-merge (processesOfTable t) g noStates j, at-merge (processesOfTable t) (build (λ j. statesIn table j - 1)) noStates j, at-build (λ j. statesIn table j - 1) j)
-      (by-test (has (processesOfTable t) j)
+  under-last g y j =
+      let L = processesOfTable t in
+      let last : Process → ℕ = λ j. statesIn table j - 1 in
+      rw (at-merge L g noStates j, at-merge L (build last) noStates j, at-build last j) (by-test (has L j)
       (λ m. rw m (omega (arith, ground .accepted round i g y j, ground .states j m .0, ground .states j m .1)))
       (λ n. rw n (omega arith)))
 

@@ -28,7 +28,7 @@ ghost use Rattle.table.specs.Reading.{Holds};
 ghost use Rattle.start.specs.Regions.{setPlace, setAt, Linked};
 ghost use Rattle.start.specs.RestSets.{processesOfTable, plainGroup, LetterAt, firstLead};
 
-// g with 0 at the processes that the table lacks.
+// g with 0 at the processes that the table lacks, as it counts in the numbers of the sets.
 pub fn plain(t: Table, g: Group) -> Group
     ensures { λ r. ⌜ r ≡ plainGroup (processesOfTable t) g ⌝ }
 {

@@ -25,7 +25,8 @@ loop-holds : tie.Need-loop-holds Inv-loop μ-loop
 loop-holds c =
     let a = c .before .before .args in
     let p = c .before .before .pre in
-    numbering-start (processesOfTable (a .t)) (systemIn (a .table .now) .accepting) (a .t .pile) (a .scratch .now) (a .t .accepting) (sym (accepting-count (a .table .now) (a .t) (p .0))) (p .2)
+    numbering-start (processesOfTable (a .t)) (systemIn (a .table .now) .accepting) (a .t .pile) (a .scratch .now) (a .t .accepting)
+    (sym (accepting-count (a .table .now) (a .t) (p .0))) (p .2)
 
 add-accepting-requires : tie.Need-add-accepting-requires Inv-loop μ-loop
 add-accepting-requires c κs =
@@ -47,7 +48,8 @@ loop-again c =
     let m = at-loop .loop in
     let room : setPlace (a .t .pile) + setLength ≤ length (a .scratch .now) = omega (arith, p .1, table-modest (a .table .now) (a .t) (p .0) .pile) in
     rw (at-add-accepting .add-accepting .ensures)
-    (numbering-turn (processesOfTable (a .t)) (systemIn (a .table .now) .accepting) (groupOf [] 0) (a .t .pile) (m .j) (a .scratch .now) (m .scratch) room (at-loop-test .loop-test .taken)
+    (numbering-turn (processesOfTable (a .t)) (systemIn (a .table .now) .accepting) (groupOf [] 0) (a .t .pile) (m .j) (a .scratch .now) (m .scratch) room
+    (at-loop-test .loop-test .taken)
     (own-below (processesOfTable (a .t)) (acceptingIn (a .table .now) (m .j - 1))) (m .inv))
 
 same-length : tie.Need-same-length Inv-loop μ-loop
