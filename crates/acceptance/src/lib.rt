@@ -3,6 +3,7 @@
 use automaton::groups;
 use automaton::sets;
 use automaton::states;
+use automaton::states::STATES;
 use model::Group;
 use numbers::wide;
 use scratch::HERE;
@@ -95,7 +96,7 @@ fn read_members(table: &[u8], t: Table, letter: u8, scratch: &mut [u8])
     ensures { λ _. ⌜ Extends (systemIn (now (table .entry))) (presentIn t) (there (now (scratch .entry))) (there (now (scratch .exit))) (λ w. someAccepts (systemIn (now (table .entry))) (presentIn t) (here (now (scratch .entry))) (letter ∷ w)) ⌝ }
 {
     let mut n = sets::next_member(&scratch[HERE..THERE], 0);
-    while n < 4096 {
+    while n < STATES {
         n = read_member(table, t, letter, n, scratch);
     }
 }
@@ -143,7 +144,7 @@ fn has_accepting(table: &[u8], t: Table, members: &[u8]) -> bool
     ensures { λ r. ⌜ r ≡ someAccepts (systemIn (now (table .entry))) (presentIn t) (now (members .entry)) [] ⌝ }
 {
     let mut n = sets::next_member(members, 0);
-    while n < 4096 {
+    while n < STATES {
         if is_accepting(table, t, states::numbered(present(t), n)) {
             return true;
         }

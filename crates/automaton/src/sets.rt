@@ -1,11 +1,11 @@
 // Sets of state numbers in lent bytes, eight numbers to a byte.
+use crate::states::STATES;
 ghost use mathlib.Core.Path.{_≡_};
 ghost use Prim.Native.Nat.{_+_, _*_, _-_, _%_, _<_, _≤_};
 ghost use lib.ListN.{length};
 ghost use Rattle.model.specs.Calls.{zeros};
 ghost use Rattle.automaton.specs.StateNumbers.{stateCount};
 ghost use Rattle.automaton.specs.StateSets.{setLength, member, inserted, oneIfEqual, countEqual, firstFrom, nextMember, NoneFrom, Cleared};
-
 // The bytes of a set that are looked at at a time.
 const BLOCK: usize = 64;
 
@@ -127,7 +127,7 @@ pub fn next_member(members: &[u8], from: usize) -> usize
     ensures { λ r. ⌜ r ≡ nextMember (now (members .entry)) from ⌝ }
 {
     let mut n = from;
-    while n < 4096 {
+    while n < STATES {
         let next = past_block(members, n);
         if next == n {
             let m = next_in_byte(members, n);

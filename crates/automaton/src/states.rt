@@ -6,6 +6,9 @@ ghost use Prim.Native.Nat.{_%_, _<_};
 ghost use Rattle.model.specs.Groups.{processesOf};
 ghost use Rattle.automaton.specs.StateNumbers.{stateCount, stateNumber, groupNumbered};
 
+// How many there are.
+pub const STATES: usize = 4096;
+
 fn low_bits(s: u8) -> usize
     ensures { λ r. ⌜ (r ≡ s % 8) × (r < 8) ⌝ }
 {

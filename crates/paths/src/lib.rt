@@ -1,6 +1,7 @@
 // Search of the paths of the log for what a rule adds: depth first, in rising record numbers. From round 2 on only paths with a record of the last round
 // are gone through, since no other adds anything. The first path to an end that the head's search has not come by adds a record.
 use automaton::sets;
+use automaton::states::STATES;
 use model::WRITTEN_PLACES;
 use packs::after_at;
 use packs::merged;
@@ -133,9 +134,9 @@ fn slot(level: usize, found: bool) -> usize
     ensures { λ r. ⌜ (r ≡ 8 * passedAt + (2 * level + cond found 1 0) * 4096) × (r + 4096 ≤ 8 * (passedAt + 12 * setBytes)) ⌝ }
 {
     if found {
-        return 8 * PASSED + (2 * level + 1) * 4096;
+        return 8 * PASSED + (2 * level + 1) * STATES;
     }
-    8 * PASSED + 2 * level * 4096
+    8 * PASSED + 2 * level * STATES
 }
 
 // Whether the search has come by the state at this depth, so that it leads to nothing new.

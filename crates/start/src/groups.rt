@@ -1,11 +1,10 @@
 // The groups of a letter's processes in turn, and what the records with such a group before add to a set.
 use crate::Frame;
 use crate::Letter;
-use crate::SET_LENGTH;
-use crate::STATES;
 use crate::letters::plain;
 use automaton::groups::merged;
 use automaton::states;
+use automaton::states::STATES;
 use automaton::states::numbered;
 use model::Group;
 use packs::after_at;
@@ -14,6 +13,7 @@ use packs::pack;
 use rings::first_match;
 use rings::next_match;
 use scratch::RINGS;
+use scratch::SET_BYTES;
 use table::Table;
 use table::local_states;
 use wordsets::add_record;
@@ -107,8 +107,8 @@ fn add_group(
         let y = own_after(log, r, f.mask);
         let common = add_record(
             scratch,
-            SET_LENGTH * (k + 1),
-            SET_LENGTH * k,
+            SET_BYTES * (k + 1),
+            SET_BYTES * k,
             y,
             x,
             f.rest,

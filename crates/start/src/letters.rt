@@ -1,6 +1,5 @@
 // The letters of the start word, and the records that read one.
 use crate::Letter;
-use crate::SET_LENGTH;
 use automaton::groups::chosen;
 use automaton::groups::merged;
 use automaton::groups::restricted;
@@ -13,6 +12,7 @@ use records::after_at;
 use rings::first_match;
 use rings::next_match;
 use scratch::RINGS;
+use scratch::SET_BYTES;
 use table::Table;
 use table::letter_bits;
 use table::pile_letter;
@@ -57,8 +57,8 @@ fn enters(log: &[u8], scratch: &[u8], k: usize, bits: u8, g: Group, r: usize) ->
 {
     let after = after_at(log, r);
     let x = number(merged(bits, after, g));
-    let at = SET_LENGTH * k;
-    contains(&scratch[at..at + SET_LENGTH], x)
+    let at = SET_BYTES * k;
+    contains(&scratch[at..at + SET_BYTES], x)
 }
 
 // The lowest record that reads the letter in the state g and leads into set k, or count.

@@ -11,6 +11,7 @@ use crate::sets::fill_sets;
 use automaton::sets::contains;
 use automaton::states::number;
 use model::Group;
+use scratch::SET_BYTES;
 use table::Table;
 use table::start_group;
 ghost use mathlib.Core.Path.{_≡_};
@@ -22,10 +23,6 @@ ghost use Rattle.scratch.specs.Regions.{ringsAt};
 ghost use Rattle.start.specs.Regions.{Linked};
 ghost use Rattle.start.specs.RestSets.{startIn};
 ghost use Rattle.start.specs.Search.{Sought};
-
-pub const SET_LENGTH: usize = 512;
-
-pub const STATES: usize = 4096;
 
 // Whether the start has an accepting path, and its steps.
 pub enum StartPath {
@@ -61,7 +58,7 @@ fn is_accepted(table: &[u8], t: Table, scratch: &[u8]) -> bool
     ensures { λ b. ⌜ b ≡ startIn (now (table .entry)) t (now (scratch .entry)) ⌝ }
 {
     let g = start_group(table, t);
-    contains(&scratch[0..SET_LENGTH], number(plain(t, g)))
+    contains(&scratch[0..SET_BYTES], number(plain(t, g)))
 }
 
 // Finds the start's path and leaves it on the stack; what the rest of the scratch holds is not decided. n is the number of records that the scratch has room

@@ -1,5 +1,4 @@
 // The sets of states from which the rest of the start word is accepted, from the last one to the first.
-use crate::SET_LENGTH;
 use crate::groups::add_groups;
 use crate::groups::frame_of;
 use crate::groups::last_states;
@@ -8,6 +7,7 @@ use crate::letters::plain;
 use automaton::sets::clear;
 use automaton::sets::insert;
 use automaton::states::number;
+use scratch::SET_BYTES;
 use table::Table;
 use table::accepting_group;
 ghost use mathlib.Core.Path.{_≡_};
@@ -24,16 +24,16 @@ fn clear_set(scratch: &mut [u8], k: usize)
     requires { ⌜ (k ≤ 64) × (ringsAt ≤ length (now scratch)) ⌝ }
     ensures { λ _. ⌜ OnlySet k (now (scratch .entry)) (now (scratch .exit)) × EmptySet (now (scratch .exit)) k ⌝ }
 {
-    let at = SET_LENGTH * k;
-    clear(&mut scratch[at..at + SET_LENGTH]);
+    let at = SET_BYTES * k;
+    clear(&mut scratch[at..at + SET_BYTES]);
 }
 
 fn insert_state(scratch: &mut [u8], k: usize, x: usize)
     requires { ⌜ (k ≤ 64) × (x < stateCount) × (ringsAt ≤ length (now scratch)) ⌝ }
     ensures { λ _. ⌜ now (scratch .exit) ≡ withState (now (scratch .entry)) k x ⌝ }
 {
-    let at = SET_LENGTH * k;
-    insert(&mut scratch[at..at + SET_LENGTH], x);
+    let at = SET_BYTES * k;
+    insert(&mut scratch[at..at + SET_BYTES], x);
 }
 
 // Set i from set i + 1.

@@ -37,15 +37,4 @@ returns c =
     following-end (systemIn (a .table .now)) (presentIn (a .t)) (a .letter) (a .g) (a .next .now) (c .before .before .loop .next) (c .before .before .loop .k) (omega (arith, transitions-count (a .table .now) (a .t) (c .before .before .before .before .before .pre .0), c .if1 .left)) (c .before .before .loop .inv)
 
 pub follow-all-spec : {M : Type 1} → statement M
-follow-all-spec =
-    tie.close
-    (tie.spec
-    Inv-loop
-    μ-loop
-    loop-holds
-    follow-requires
-    (λ c. omega arith)
-    (λ c. omega arith)
-    loop-again
-    same-length
-    returns)
+follow-all-spec = tie.close (tie.spec Inv-loop μ-loop loop-holds follow-requires (λ c. omega arith) (λ c. omega arith) loop-again same-length returns)

@@ -46,19 +46,5 @@ returns-2 : tie.Need-returns-2 Inv-loop μ-loop
 returns-2 c = searching-end (systemIn (c .before .before .before .before .before .args .table .now)) (presentIn (c .before .before .before .before .before .args .t)) (c .before .before .before .before .before .args .members .now) (c .before .loop .n) (c .loop-test .left) (c .before .loop .inv)
 
 pub has-accepting-spec : {M : Type 1} → statement M
-has-accepting-spec =
-    tie.close
-    (tie.spec
-    Inv-loop
-    μ-loop
-    (λ c κs. search needs)
-    loop-holds
-    present-requires
-    (λ c κs. search needs)
-    (λ c κs. search needs)
-    returns
-    (λ c. omega arith)
-    (λ c κs. search needs)
-    loop-less
-    loop-again
-    returns-2)
+has-accepting-spec = tie.close (tie.spec Inv-loop μ-loop (λ c κs. search needs) loop-holds present-requires (λ c κs. search needs) (λ c κs. search needs) returns
+    (λ c. omega arith) (λ c κs. search needs) loop-less loop-again returns-2)

@@ -25,13 +25,4 @@ returns-2 c =
     ∙ rw (← c .before .before .before .before .before .transition-letter .ensures, eq-eqb _ _ (c .before .before .before .before .if1 .left)) refl
 
 pub is-read-spec : {M : Type 1} → statement M
-is-read-spec =
-    tie.close
-    (tie.spec
-    (λ c κs. search needs)
-    returns
-    (λ c κs. search needs)
-    letter-bits-requires
-    (λ c κs. search needs)
-    (λ c κs. search needs)
-    returns-2)
+is-read-spec = tie.close (tie.spec (λ c κs. search needs) returns (λ c κs. search needs) letter-bits-requires (λ c κs. search needs) (λ c κs. search needs) returns-2)

@@ -14,14 +14,5 @@ returns c =
     (c .before .before .before .before .before .before .before .before .before .before .clear .ensures) (c .before .before .before .before .before .before .read-members .kept .1 .1 .1 .0) (c .before .before .before .before .before .before .read-members .ensures) (c .before .before .move-front .ensures)
 
 pub read-letter-spec : {M : Type 1} → statement M
-read-letter-spec =
-    tie.close
-    (tie.spec
-    (λ c. search needs)
-    (λ c. search needs)
-    (λ c. search needs)
-    (λ c κs. search needs)
-    (λ c κs. search needs)
-    (λ c κs. search needs)
-    (λ c. search needs)
-    returns)
+read-letter-spec = tie.close (tie.spec (λ c. search needs) (λ c. search needs) (λ c. search needs) (λ c κs. search needs) (λ c κs. search needs) (λ c κs. search needs)
+    (λ c. search needs) returns)

@@ -43,19 +43,5 @@ returns c =
     )
 
 pub read-member-spec : {M : Type 1} → statement M
-read-member-spec =
-    tie.close
-    (tie.spec
-    present-requires
-    (λ c κs. search needs)
-    (λ c. search needs)
-    (λ c. search needs)
-    (λ c. search needs)
-    follow-all-requires
-    (λ c. search needs)
-    (λ c. search needs)
-    (λ c. search needs)
-    (λ c. search needs)
-    (λ c κs. search needs)
-    (λ c. search needs)
-    returns)
+read-member-spec = tie.close (tie.spec present-requires (λ c κs. search needs) (λ c. search needs) (λ c. search needs) (λ c. search needs) follow-all-requires
+    (λ c. search needs) (λ c. search needs) (λ c. search needs) (λ c. search needs) (λ c κs. search needs) (λ c. search needs) returns)

@@ -50,18 +50,5 @@ returns : tie.Need-returns Inv-loop μ-loop
 returns c = let a = c .before .before .before .before .before .before .before .args in collected-end (systemIn (a .table .now)) (presentIn (a .t)) (a .letter) (here (a .scratch .now)) (there (a .scratch .now)) (there (c .before .loop .scratch)) (c .before .loop .n) (c .loop-test .left) (c .before .loop .inv .2)
 
 pub read-members-spec : {M : Type 1} → statement M
-read-members-spec =
-    tie.close
-    (tie.spec
-    Inv-loop
-    μ-loop
-    (λ c. omega arith)
-    (λ c. omega arith)
-    (λ c. omega arith)
-    (λ c κs. search needs)
-    loop-holds
-    read-member-requires
-    loop-less
-    loop-again
-    same-length
-    returns)
+read-members-spec = tie.close (tie.spec Inv-loop μ-loop (λ c. omega arith) (λ c. omega arith) (λ c. omega arith) (λ c κs. search needs) loop-holds read-member-requires
+    loop-less loop-again same-length returns)

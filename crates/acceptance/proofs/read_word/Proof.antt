@@ -32,16 +32,5 @@ returns : tie.Need-returns Inv-loop μ-loop
 returns c = let a = c .before .before .before .before .before .args in ahead-end (systemIn (a .table .now)) (presentIn (a .t)) (a .word .now) (a .scratch .now) (c .before .loop .scratch) (c .before .loop .i) (c .loop-test .left) (c .before .loop .inv)
 
 pub read-word-spec : {M : Type 1} → statement M
-read-word-spec =
-    tie.close
-    (tie.spec
-    Inv-loop
-    μ-loop
-    loop-holds
-    (λ c. omega arith)
-    read-letter-requires
-    (λ c. omega arith)
-    (λ c. omega arith)
-    loop-again
-    same-length
+read-word-spec = tie.close (tie.spec Inv-loop μ-loop loop-holds (λ c. omega arith) read-letter-requires (λ c. omega arith) (λ c. omega arith) loop-again same-length
     returns)

@@ -22,13 +22,5 @@ returns c =
     (c .number .ensures .0 ∙ ap stateNumber (c .before .merged .ensures ∙ ap₂ (λ (L : Processes) (y : Group). merge L y (s .g)) l (c .before .before .transition-after .ensures)), c .number .ensures .1)
 
 pub target-spec : {M : Type 1} → statement M
-target-spec =
-    tie.close
-    (tie.spec
-    (λ c κs. search needs)
-    (λ c κs. search needs)
-    letter-bits-requires
-    (λ c κs. search needs)
-    (λ c κs. search needs)
-    (λ c κs. search needs)
+target-spec = tie.close (tie.spec (λ c κs. search needs) (λ c κs. search needs) letter-bits-requires (λ c κs. search needs) (λ c κs. search needs) (λ c κs. search needs)
     returns)

@@ -14,15 +14,5 @@ returns c =
     ap (λ (l : List ℕ). sixteen (l ++ (x .from ∷ []))) (eight (x .values .now) (c .before .before .before .before .before .before .before .before .before .pre))
 
 pub put-walk-spec : {M : Type 1} → statement M
-put-walk-spec =
-    tie.close
-    (tie.spec
-    (λ c. search needs)
-    (λ c. search needs)
-    (λ c. search needs)
-    (λ c. search needs)
-    (λ c. search needs)
-    (λ c. search needs)
-    (λ c. search needs)
-    (λ c. search needs)
-    returns)
+put-walk-spec = tie.close (tie.spec (λ c. search needs) (λ c. search needs) (λ c. search needs) (λ c. search needs) (λ c. search needs) (λ c. search needs)
+    (λ c. search needs) (λ c. search needs) returns)

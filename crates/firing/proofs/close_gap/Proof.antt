@@ -33,17 +33,5 @@ returns c =
     m .inv .3 ∙ ap (λ (j : ℕ). closed (c .before .before .args .pile .now) j (c .before .before .args .p)) e
 
 pub close-gap-spec : {M : Type 1} → statement M
-close-gap-spec =
-    tie.close
-    (tie.spec
-    Inv-loop
-    μ-loop
-    loop-holds
-    (λ c. omega arith)
-    (λ c. omega arith)
-    (λ c. omega arith)
-    (λ c. omega arith)
-    (λ c. omega arith)
-    loop-again
-    same-length
-    returns)
+close-gap-spec = tie.close (tie.spec Inv-loop μ-loop loop-holds (λ c. omega arith) (λ c. omega arith) (λ c. omega arith) (λ c. omega arith) (λ c. omega arith) loop-again
+    same-length returns)

@@ -46,20 +46,5 @@ returns-3 c =
     finding-end (systemIn (s .table .now) .loc) (s .a) (s .pile .now) (s .top) (c .before .loop .p) (c .before .loop .inv) (c .loop-test .left)
 
 pub find-spec : {M : Type 1} → statement M
-find-spec =
-    tie.close
-    (tie.spec
-    Inv-loop
-    μ-loop
-    (λ c κs. search needs)
-    (λ c κs. search needs)
-    loop-holds
-    (λ c. omega arith)
-    returns
-    (λ c. omega arith)
-    is-apart-requires
-    returns-2
-    (λ c. omega arith)
-    (λ c. omega arith)
-    loop-again
-    returns-3)
+find-spec = tie.close (tie.spec Inv-loop μ-loop (λ c κs. search needs) (λ c κs. search needs) loop-holds (λ c. omega arith) returns (λ c. omega arith) is-apart-requires
+    returns-2 (λ c. omega arith) (λ c. omega arith) loop-again returns-3)

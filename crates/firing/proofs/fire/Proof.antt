@@ -53,19 +53,5 @@ returns-3 c =
     (c .before .before .before .rewrite .ensures ∙ ap (λ (n : ℕ). rewritten (a .pile .now) (a .c .top) n (r .written)) (c .before .before .before .before .before .before .before .before .firing-place .ensures))
 
 pub fire-spec : {M : Type 1} → statement M
-fire-spec =
-    tie.close
-    (tie.spec
-    (λ c κs. search needs)
-    (λ c. search needs)
-    returns
-    (λ c κs. search needs)
-    (λ c. search needs)
-    (λ c. search needs)
-    returns-2
-    rewrite-requires
-    (λ c κs. search needs)
-    (λ c. search needs)
-    (λ c. search needs)
-    (λ c. search needs)
-    returns-3)
+fire-spec = tie.close (tie.spec (λ c κs. search needs) (λ c. search needs) returns (λ c κs. search needs) (λ c. search needs) (λ c. search needs) returns-2
+    rewrite-requires (λ c κs. search needs) (λ c. search needs) (λ c. search needs) (λ c. search needs) returns-3)

@@ -38,14 +38,5 @@ returns-2 c =
     place-none loc r (s .pile .now) (s .c) (test-known loc r (s .c .states) (processesOf (c .before .before .before .before .letter-bits .result)) (c .before .before .before .rule-before .result) (c .before .reads .result) false (c .before .reads .ensures) l (c .before .before .before .rule-before .ensures) (c .if1 .left))
 
 pub firing-place-spec : {M : Type 1} → statement M
-firing-place-spec =
-    tie.close
-    (tie.spec
-    (λ c κs. search needs)
-    (λ c κs. search needs)
-    letter-bits-requires
-    (λ c κs. search needs)
-    (λ c κs. search needs)
-    find-requires
-    returns
-    returns-2)
+firing-place-spec = tie.close (tie.spec (λ c κs. search needs) (λ c κs. search needs) letter-bits-requires (λ c κs. search needs) (λ c κs. search needs) find-requires
+    returns returns-2)

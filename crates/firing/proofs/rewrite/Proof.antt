@@ -19,13 +19,5 @@ returns c =
     ∙ closed-written (s .args .pile .now) w (s .args .top) (s .args .p) (s .pre .2) (s .pre .3) (s .pre .4)
 
 pub rewrite-spec : {M : Type 1} → statement M
-rewrite-spec =
-    tie.close
-    (tie.spec
-    (λ c κs. search needs)
-    (λ c κs. search needs)
-    (λ c. search needs)
-    (λ c. search needs)
-    (λ c κs. search needs)
-    (λ c. search needs)
+rewrite-spec = tie.close (tie.spec (λ c κs. search needs) (λ c κs. search needs) (λ c. search needs) (λ c. search needs) (λ c κs. search needs) (λ c. search needs)
     returns)

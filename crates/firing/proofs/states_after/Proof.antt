@@ -20,12 +20,4 @@ returns c =
     c .merged .ensures ∙ ap₂ (λ (L : Processes) (g : Group). merge L g (s .states)) l (c .before .rule-after .ensures)
 
 pub states-after-spec : {M : Type 1} → statement M
-states-after-spec =
-    tie.close
-    (tie.spec
-    (λ c κs. search needs)
-    (λ c κs. search needs)
-    letter-bits-requires
-    (λ c κs. search needs)
-    (λ c κs. search needs)
-    returns)
+states-after-spec = tie.close (tie.spec (λ c κs. search needs) (λ c κs. search needs) letter-bits-requires (λ c κs. search needs) (λ c κs. search needs) returns)

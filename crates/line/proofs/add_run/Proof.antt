@@ -28,13 +28,4 @@ returns c =
     (subst (λ (l : List ℕ). Puts (a .out .now) (a .at) (runLines (c .before .before .before .before .before .before .before .before .before .before .before .run .result) l) 60064 (q .result) (q .last .0)) (o .page-left) (puts-within 60064 (q .ensures) (omega (arith, c .before .before .before .before .before .before .before .before .before .before .before .run .kept .1 .1 .1 .0))))
 
 pub add-run-spec : {M : Type 1} → statement M
-add-run-spec =
-    tie.close
-    (tie.spec
-    (λ c κs. search needs)
-    put-ran-requires
-    (λ c. search needs)
-    (λ c. search needs)
-    (λ c. search needs)
-    (λ c. search needs)
-    returns)
+add-run-spec = tie.close (tie.spec (λ c κs. search needs) put-ran-requires (λ c. search needs) (λ c. search needs) (λ c. search needs) (λ c. search needs) returns)

@@ -33,19 +33,5 @@ returns-2 c =
     (front .0 ∙ text-alone (a .input .now) (a .log .now) (a .scratch .now) (a .page .now) (r .result) (s .pre .0) (r .ensures .0 .answer) (sym (c .before .is-reachable .ensures) ∙ c .if1 .left), front .1)
 
 pub respond-spec : {M : Type 1} → statement M
-respond-spec =
-    tie.close
-    (tie.spec
-    (λ c κs. search needs)
-    (λ c κs. search needs)
-    (λ c κs. search needs)
-    (λ c κs. search needs)
-    (λ c. search needs)
-    (λ c. search needs)
-    (λ c. search needs)
-    (λ c. search needs)
-    returns
-    (λ c. search needs)
-    (λ c. search needs)
-    (λ c. search needs)
-    returns-2)
+respond-spec = tie.close (tie.spec (λ c κs. search needs) (λ c κs. search needs) (λ c κs. search needs) (λ c κs. search needs) (λ c. search needs) (λ c. search needs)
+    (λ c. search needs) (λ c. search needs) returns (λ c. search needs) (λ c. search needs) (λ c. search needs) returns-2)

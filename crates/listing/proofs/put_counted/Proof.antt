@@ -15,13 +15,5 @@ returns c =
     puts-then (v + 61) (puts-then (v + 33) (c .before .before .before .before .before .before .before .before .before .before .before .before .put-bytes .ensures) (c .before .before .before .before .before .before .before .put-line .ensures) (omega arith) (omega arith)) (c .before .before .put-line2 .ensures) (omega arith) (omega arith)
 
 pub put-counted-spec : {M : Type 1} → statement M
-put-counted-spec =
-    tie.close
-    (tie.spec
-    (λ c κs. search needs)
-    (λ c. search needs)
-    (λ c κs. search needs)
-    (λ c. search needs)
-    (λ c κs. search needs)
-    (λ c. search needs)
+put-counted-spec = tie.close (tie.spec (λ c κs. search needs) (λ c. search needs) (λ c κs. search needs) (λ c. search needs) (λ c κs. search needs) (λ c. search needs)
     returns)

@@ -21,13 +21,4 @@ returns c =
     puts-as 20 (c .before .before .put-bytes .ensures) (decimal-front (d .result) n (d .last .1 .0) (d .ensures .1 .0) (d .ensures .1 .1)) (decimal-most 19 n (omega arith))
 
 pub put-number-spec : {M : Type 1} → statement M
-put-number-spec =
-    tie.close
-    (tie.spec
-    (λ c κs. search needs)
-    (λ c. search needs)
-    (λ c. search needs)
-    (λ c. search needs)
-    put-bytes-requires
-    (λ c. search needs)
-    returns)
+put-number-spec = tie.close (tie.spec (λ c κs. search needs) (λ c. search needs) (λ c. search needs) (λ c. search needs) put-bytes-requires (λ c. search needs) returns)

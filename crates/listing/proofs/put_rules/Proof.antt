@@ -29,17 +29,5 @@ returns : tie.Need-returns Inv-loop μ-loop
 returns c = puts-rules (c .before .before .before .before .args .rules .now) (c .before .loop .i) (c .before .loop .inv .1) (omega arith)
 
 pub put-rules-spec : {M : Type 1} → statement M
-put-rules-spec =
-    tie.close
-    (tie.spec
-    Inv-loop
-    μ-loop
-    loop-holds
-    (λ c. omega arith)
-    (λ c. omega arith)
-    (λ c κs. omega arith)
-    (λ c. omega arith)
-    (λ c. omega arith)
-    loop-again
-    same-length
-    returns)
+put-rules-spec = tie.close (tie.spec Inv-loop μ-loop loop-holds (λ c. omega arith) (λ c. omega arith) (λ c κs. omega arith) (λ c. omega arith) (λ c. omega arith)
+    loop-again same-length returns)

@@ -46,31 +46,7 @@ returns c =
     rw (add-one i, e2, e3, e4, e5, e6, e7)
 
 pub put-eight-spec : {M : Type 1} → statement M
-put-eight-spec =
-    tie.close
-    (tie.spec
-    (λ c. search needs)
-    (λ c. search needs)
-    (λ c. search needs)
-    (λ c. search needs)
-    slice-write-s-2
-    (λ c. search needs)
-    (λ c. search needs)
-    slice-write-s-3
-    (λ c. search needs)
-    (λ c. search needs)
-    slice-write-s-4
-    (λ c. search needs)
-    (λ c. search needs)
-    slice-write-s-5
-    (λ c. search needs)
-    (λ c. search needs)
-    slice-write-s-6
-    (λ c. search needs)
-    (λ c. search needs)
-    slice-write-s-7
-    (λ c. search needs)
-    (λ c. search needs)
-    slice-write-s-8
-    same-length
-    returns)
+put-eight-spec = tie.close (tie.spec (λ c. search needs) (λ c. search needs) (λ c. search needs) (λ c. search needs) slice-write-s-2 (λ c. search needs)
+    (λ c. search needs) slice-write-s-3 (λ c. search needs) (λ c. search needs) slice-write-s-4 (λ c. search needs) (λ c. search needs) slice-write-s-5
+    (λ c. search needs) (λ c. search needs) slice-write-s-6 (λ c. search needs) (λ c. search needs) slice-write-s-7 (λ c. search needs) (λ c. search needs)
+    slice-write-s-8 same-length returns)

@@ -16,17 +16,5 @@ returns c =
     (omega (arith, a .0, b .0, d .0, e .0), bytes-of (c .before .before .before .before .args .g) (omega (arith, a .0, a .1)) (omega (arith, b .0, b .1)) (omega (arith, d .0, d .1)) (omega (arith, e .0, e .1)))
 
 pub pack-spec : {M : Type 1} → statement M
-pack-spec =
-    tie.close
-    (tie.spec
-    (λ c κs. search needs)
-    (λ c κs. search needs)
-    (λ c κs. search needs)
-    (λ c κs. search needs)
-    (λ c. search needs)
-    (λ c. search needs)
-    (λ c. search needs)
-    (λ c. search needs)
-    (λ c. search needs)
-    (λ c. search needs)
-    returns)
+pack-spec = tie.close (tie.spec (λ c κs. search needs) (λ c κs. search needs) (λ c κs. search needs) (λ c κs. search needs) (λ c. search needs) (λ c. search needs)
+    (λ c. search needs) (λ c. search needs) (λ c. search needs) (λ c. search needs) returns)

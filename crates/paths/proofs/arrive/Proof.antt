@@ -38,21 +38,5 @@ returns-3 c =
     (at-insert .insert .ensures) (at-store .store .ensures .0) (at-store .store .ensures .1 ∙ ap (λ (y : ℕ). storedEnd (a .log .now) (a .job) y (a .trail) (a .count)) (at-number .before .restricted .ensures))
 
 pub arrive-spec : {M : Type 1} → statement M
-arrive-spec =
-    tie.close
-    (tie.spec
-    returns
-    (λ c κs. search needs)
-    (λ c κs. search needs)
-    (λ c. search needs)
-    (λ c. search needs)
-    (λ c κs. search needs)
-    (λ c. search needs)
-    returns-2
-    (λ c. search needs)
-    (λ c. search needs)
-    (λ c κs. search needs)
-    (λ c κs. search needs)
-    (λ c. search needs)
-    (λ c. search needs)
-    returns-3)
+arrive-spec = tie.close (tie.spec returns (λ c κs. search needs) (λ c κs. search needs) (λ c. search needs) (λ c. search needs) (λ c κs. search needs) (λ c. search needs)
+    returns-2 (λ c. search needs) (λ c. search needs) (λ c κs. search needs) (λ c κs. search needs) (λ c. search needs) (λ c. search needs) returns-3)

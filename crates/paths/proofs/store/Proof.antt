@@ -25,14 +25,5 @@ unfolding storedEnd
 returns-2 c = (omega (arith, c .before .if1 .left, c .before .before .before .before .pre .2), rw (le-ltb _ _ (c .before .if1 .left)) refl)
 
 pub store-spec : {M : Type 1} → statement M
-store-spec =
-    tie.close
-    (tie.spec
-    (λ c κs. search needs)
-    (λ c κs. search needs)
-    (λ c κs. search needs)
-    (λ c. search needs)
-    (λ c. search needs)
-    returns
-    (λ c. search needs)
+store-spec = tie.close (tie.spec (λ c κs. search needs) (λ c κs. search needs) (λ c κs. search needs) (λ c. search needs) (λ c. search needs) returns (λ c. search needs)
     returns-2)

@@ -25,14 +25,5 @@ returns-2 c =
     (o, (answer-holds (a .table .now) (a .log .now) (a .scratch .now) _ _ _ o, answer-demand (a .table .now) (a .log .now) (a .scratch .now) _ _ _ o))
 
 pub answer-spec : {M : Type 1} → statement M
-answer-spec =
-    tie.close
-    (tie.spec
-    (λ c κs. search needs)
-    (λ c. search needs)
-    (λ c. search needs)
-    answer-table-requires
-    returns
-    (λ c. search needs)
-    (λ c. search needs)
+answer-spec = tie.close (tie.spec (λ c κs. search needs) (λ c. search needs) (λ c. search needs) answer-table-requires returns (λ c. search needs) (λ c. search needs)
     returns-2)

@@ -38,18 +38,5 @@ returns-2 c =
     limit-left (a .table .now) (a .t) (a .n) (a .log .now) (a .scratch .now) (p .0) (p .1) _ _ _ _ _ (at-count .count .given .1) (at-saturate .saturate .ensures) _ (at-clear-behind .clear-behind .ensures)
 
 pub fill-log-spec : {M : Type 1} → statement M
-fill-log-spec =
-    tie.close
-    (tie.spec
-    (λ c κs. search needs)
-    enum-told
-    (λ c κs. search needs)
-    (λ c κs. search needs)
-    (λ c. search needs)
-    clear-behind-requires
-    (λ c. search needs)
-    (λ c. search needs)
-    returns
-    (λ c. search needs)
-    (λ c. search needs)
-    returns-2)
+fill-log-spec = tie.close (tie.spec (λ c κs. search needs) enum-told (λ c κs. search needs) (λ c κs. search needs) (λ c. search needs) clear-behind-requires
+    (λ c. search needs) (λ c. search needs) returns (λ c. search needs) (λ c. search needs) returns-2)

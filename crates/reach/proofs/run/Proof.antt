@@ -28,15 +28,5 @@ returns-2 c =
     (o, (run-holds (a .table .now) (a .log .now) (a .scratch .now) (a .page .now) _ _ _ _ o, run-demand (a .table .now) (a .log .now) (a .scratch .now) (a .page .now) _ _ _ _ o))
 
 pub run-spec : {M : Type 1} → statement M
-run-spec =
-    tie.close
-    (tie.spec
-    (λ c κs. search needs)
-    (λ c. search needs)
-    (λ c. search needs)
-    run-table-requires
-    returns
-    (λ c. search needs)
-    (λ c. search needs)
-    (λ c. search needs)
-    returns-2)
+run-spec = tie.close (tie.spec (λ c κs. search needs) (λ c. search needs) (λ c. search needs) run-table-requires returns (λ c. search needs) (λ c. search needs)
+    (λ c. search needs) returns-2)

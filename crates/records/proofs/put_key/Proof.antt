@@ -27,17 +27,5 @@ returns : tie.Need-returns
 returns c = all-set (c .args .letter ∷ groupBytes (c .args .b) ++ groupBytes (c .args .a)) (c .args .out .now) (c .pre)
 
 pub put-key-spec : {M : Type 1} → statement M
-put-key-spec =
-    tie.close
-    (tie.spec
-    (λ c. search needs)
-    (λ c. search needs)
-    (λ c. search needs)
-    (λ c. search needs)
-    slice-write-out-5
-    slice-write-out-6
-    slice-write-out-7
-    slice-write-out-8
-    slice-write-out-9
-    (λ c. search needs)
-    returns)
+put-key-spec = tie.close (tie.spec (λ c. search needs) (λ c. search needs) (λ c. search needs) (λ c. search needs) slice-write-out-5 slice-write-out-6 slice-write-out-7
+    slice-write-out-8 slice-write-out-9 (λ c. search needs) returns)

@@ -51,18 +51,5 @@ returns c =
     front-all (at-loop .loop .inv .1) (omega (arith, entry .pre, all)) ∙ ap (λ (k : ℕ). pathBytes k (entry .args .t2)) all
 
 pub put-places-spec : {M : Type 1} → statement M
-put-places-spec =
-    tie.close
-    (tie.spec
-    Inv-loop
-    μ-loop
-    loop-holds
-    (λ c. omega arith)
-    (λ c. omega arith)
-    (λ c. omega arith)
-    put-two-requires
-    (λ c. omega arith)
-    (λ c. omega arith)
-    loop-again
-    same-length
-    returns)
+put-places-spec = tie.close (tie.spec Inv-loop μ-loop loop-holds (λ c. omega arith) (λ c. omega arith) (λ c. omega arith) put-two-requires (λ c. omega arith)
+    (λ c. omega arith) loop-again same-length returns)

@@ -14,13 +14,4 @@ returns c =
     with-loan (a .log .now) (w .last .0) (a .n) (a .n * recordLength) (a .e) refl (w .ensures)
 
 pub put-record-spec : {M : Type 1} → statement M
-put-record-spec =
-    tie.close
-    (tie.spec
-    (λ c. search needs)
-    (λ c. search needs)
-    (λ c. search needs)
-    (λ c. search needs)
-    (λ c κs. search needs)
-    (λ c. search needs)
-    returns)
+put-record-spec = tie.close (tie.spec (λ c. search needs) (λ c. search needs) (λ c. search needs) (λ c. search needs) (λ c κs. search needs) (λ c. search needs) returns)

@@ -45,14 +45,4 @@ returns-3 c =
     walks-first w (c .follow .ensures) ∙ ap (λ (k : ℕ). firstFrom (recordReads (a .log .now) (a .letter) (a .g)) 0 k) (omega arith)
 
 pub first-match-spec : {M : Type 1} → statement M
-first-match-spec =
-    tie.close
-    (tie.spec
-    returns
-    (λ c κs. search needs)
-    (λ c κs. search needs)
-    returns-2
-    add-link-at
-    link-at-requires-2
-    follow-requires
-    returns-3)
+first-match-spec = tie.close (tie.spec returns (λ c κs. search needs) (λ c κs. search needs) returns-2 add-link-at link-at-requires-2 follow-requires returns-3)

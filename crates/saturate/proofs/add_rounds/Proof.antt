@@ -52,22 +52,10 @@ returns-2 c =
     saturating-limit (at-loop .loop .inv) (c .before .before .goes-on .ensures) (c .before .if1 .left) (c .if2 .left) (first .log-length) (first .scratch-length)
 
 pub add-rounds-spec : {M : Type 1} → statement M
-add-rounds-spec =
-    tie.close
-    (tie.spec
-    Inv-loop
-    μ-loop
-    (λ c κs. c .before .before .before .before .before .pre)
-    loop-holds
-    (λ c κs. search needs)
-    add-round
-    add-add-round
-    add-round-requires-2
-    loop-less
-    loop-again
+add-rounds-spec = tie.close (tie.spec Inv-loop μ-loop (λ c κs. c .before .before .before .before .before .pre) loop-holds (λ c κs. search needs) add-round add-add-round
+    add-round-requires-2 loop-less loop-again
     (λ c. c .before .before .before .loop .inv .log-length ∙ c .before .before .before .before .before .before .before .before .add-round .ensures .log-length)
     (λ c. c .before .before .before .loop .inv .scratch-length ∙ c .before .before .before .before .before .before .before .before .add-round .ensures .scratch-length)
-    returns
-    (λ c. c .before .before .before .loop .inv .log-length ∙ c .before .before .before .before .before .before .before .before .add-round .ensures .log-length)
+    returns (λ c. c .before .before .before .loop .inv .log-length ∙ c .before .before .before .before .before .before .before .before .add-round .ensures .log-length)
     (λ c. c .before .before .before .loop .inv .scratch-length ∙ c .before .before .before .before .before .before .before .before .add-round .ensures .scratch-length)
     returns-2)

@@ -51,15 +51,5 @@ returns-2 c =
     (at-rounds .add-rounds .result) _ _ (at-rounds .add-rounds .ensures)
 
 pub saturate-spec : {M : Type 1} → statement M
-saturate-spec =
-    tie.close
-    (tie.spec
-    write-initial-requires
-    (λ c. search needs)
-    (λ c. search needs)
-    returns
-    (λ c κs. search needs)
-    add-rounds-requires
-    (λ c. search needs)
-    (λ c. search needs)
-    returns-2)
+saturate-spec = tie.close (tie.spec write-initial-requires (λ c. search needs) (λ c. search needs) returns (λ c κs. search needs) add-rounds-requires (λ c. search needs)
+    (λ c. search needs) returns-2)

@@ -28,17 +28,5 @@ returns c =
     c .before .loop .inv .1 .is ∙ ap (fronted (c .before .before .args .buffer .now) (c .before .before .args .from)) e
 
 pub move-front-spec : {M : Type 1} → statement M
-move-front-spec =
-    tie.close
-    (tie.spec
-    Inv-loop
-    μ-loop
-    loop-holds
-    (λ c. omega arith)
-    (λ c. omega arith)
-    (λ c. omega arith)
-    (λ c. omega arith)
-    (λ c. omega arith)
-    loop-again
-    same-length
-    returns)
+move-front-spec = tie.close (tie.spec Inv-loop μ-loop loop-holds (λ c. omega arith) (λ c. omega arith) (λ c. omega arith) (λ c. omega arith) (λ c. omega arith) loop-again
+    same-length returns)

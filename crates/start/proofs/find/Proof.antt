@@ -26,13 +26,4 @@ returns-2 : tie.Need-returns-2
 returns-2 c = sought-none _ (c .before .before .before .before .before .fill-sets .ensures .right 0 (omega arith)) (sym (c .before .is-accepted .ensures) ∙ c .if1 .left)
 
 pub find-spec : {M : Type 1} → statement M
-find-spec =
-    tie.close
-    (tie.spec
-    (λ c κs. search needs)
-    is-accepted-requires
-    write-path-requires
-    (λ c. search needs)
-    returns
-    (λ c. search needs)
-    returns-2)
+find-spec = tie.close (tie.spec (λ c κs. search needs) is-accepted-requires write-path-requires (λ c. search needs) returns (λ c. search needs) returns-2)

@@ -22,14 +22,5 @@ returns c =
     (c .before .number .ensures .0 ∙ ap stateNumber (at-plain .plain .ensures ∙ ap (plainGroup (processesOfTable (a .t))) (at-start-group .start-group .ensures)))
 
 pub is-accepted-spec : {M : Type 1} → statement M
-is-accepted-spec =
-    tie.close
-    (tie.spec
-    (λ c κs. search needs)
-    (λ c. search needs)
-    (λ c. search needs)
-    (λ c. search needs)
-    (λ c κs. search needs)
-    (λ c κs. search needs)
-    (λ c κs. search needs)
-    returns)
+is-accepted-spec = tie.close (tie.spec (λ c κs. search needs) (λ c. search needs) (λ c. search needs) (λ c. search needs) (λ c κs. search needs) (λ c κs. search needs)
+    (λ c κs. search needs) returns)

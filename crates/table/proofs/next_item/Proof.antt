@@ -69,19 +69,5 @@ returns-5 c =
     step-accepted b c′ (c .before .before .before .before .before .before .before .before .pre) r z (c .before .before .if3 .left) (c .before .if4 .left)
 
 pub next-item-spec : {M : Type 1} → statement M
-next-item-spec =
-    tie.close
-    (tie.spec
-    returns
-    (λ c. search needs)
-    (λ c κs. search needs)
-    returns-2
-    (λ c. search needs)
-    body-length-requires
-    add-next-2
-    advance-requires
-    returns-3
-    (λ c. search needs)
-    (λ c. search needs)
-    returns-4
-    returns-5)
+next-item-spec = tie.close (tie.spec returns (λ c. search needs) (λ c κs. search needs) returns-2 (λ c. search needs) body-length-requires add-next-2 advance-requires
+    returns-3 (λ c. search needs) (λ c. search needs) returns-4 returns-5)

@@ -29,16 +29,4 @@ returns : tie.Need-returns Inv-loop μ-loop
 returns c = pushing-end (c .loop-test .left) (c .before .loop .inv)
 
 pub push-path-spec : {M : Type 1} → statement M
-push-path-spec =
-    tie.close
-    (tie.spec
-    Inv-loop
-    μ-loop
-    loop-holds
-    (λ c. omega arith)
-    place-at-requires
-    push-place-requires
-    (λ c. omega arith)
-    loop-again
-    same-length
-    returns)
+push-path-spec = tie.close (tie.spec Inv-loop μ-loop loop-holds (λ c. omega arith) place-at-requires push-place-requires (λ c. omega arith) loop-again same-length returns)

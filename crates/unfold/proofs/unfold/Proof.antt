@@ -66,16 +66,4 @@ returns c =
     working-end (p .0) (a .scratch .now) (a .page .now) (a .top) (p .1) (p .2) (m .scratch) (m .page) (m .w) (c .before .if1 .left) (m .inv)
 
 pub unfold-spec : {M : Type 1} → statement M
-unfold-spec =
-    tie.close
-    (tie.spec
-    Inv-loop
-    μ-loop
-    loop-holds
-    work-one-requires
-    loop-less
-    loop-again
-    cast-result
-    same-length
-    same-length-2
-    returns)
+unfold-spec = tie.close (tie.spec Inv-loop μ-loop loop-holds work-one-requires loop-less loop-again cast-result same-length same-length-2 returns)

@@ -39,16 +39,5 @@ returns-2 c =
     }
 
 pub work-one-spec : {M : Type 1} → statement M
-work-one-spec =
-    tie.close
-    (tie.spec
-    (λ c. search needs)
-    (λ c κs. search needs)
-    (λ c κs. search needs)
-    (λ c. search needs)
-    (λ c. search needs)
-    returns
-    replace-requires
-    (λ c. search needs)
-    (λ c. search needs)
-    returns-2)
+work-one-spec = tie.close (tie.spec (λ c. search needs) (λ c κs. search needs) (λ c κs. search needs) (λ c. search needs) (λ c. search needs) returns replace-requires
+    (λ c. search needs) (λ c. search needs) returns-2)

@@ -19,12 +19,4 @@ returns c =
     (c .stated-verdict .ensures ∙ ap (λ (k : ℕ). stated (f .result) k (a .rounds)) (c .before .figure .ensures) ∙ given, at-clear .clear .ensures ∙ zeros-same (f .last .1 .1 .1 .0) (a .scratch .now) (f .kept .1 .1 .1 .0))
 
 pub answer-limit-spec : {M : Type 1} → statement M
-answer-limit-spec =
-    tie.close
-    (tie.spec
-    (λ c κs. search needs)
-    (λ c κs. search needs)
-    (λ c κs. search needs)
-    (λ c κs. search needs)
-    (λ c. search needs)
-    returns)
+answer-limit-spec = tie.close (tie.spec (λ c κs. search needs) (λ c κs. search needs) (λ c κs. search needs) (λ c κs. search needs) (λ c. search needs) returns)

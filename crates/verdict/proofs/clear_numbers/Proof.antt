@@ -33,16 +33,5 @@ returns c =
     m .inv .2 ∙ fill-end (c .before .before .args .page .now) 0 (m .i) (omega arith) (omega arith)
 
 pub clear-numbers-spec : {M : Type 1} → statement M
-clear-numbers-spec =
-    tie.close
-    (tie.spec
-    Inv-loop
-    μ-loop
-    loop-holds
-    (λ c. search needs)
-    (λ c. omega arith)
-    (λ c. omega arith)
-    (λ c. omega arith)
-    loop-again
-    same-length
+clear-numbers-spec = tie.close (tie.spec Inv-loop μ-loop loop-holds (λ c. search needs) (λ c. omega arith) (λ c. omega arith) (λ c. omega arith) loop-again same-length
     returns)

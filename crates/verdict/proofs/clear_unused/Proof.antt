@@ -11,13 +11,4 @@ returns c =
     zeros-behind (a .page .now) (w .last .0) (a .used) (w .ensures)
 
 pub clear-unused-spec : {M : Type 1} → statement M
-clear-unused-spec =
-    tie.close
-    (tie.spec
-    (λ c. search needs)
-    (λ c. search needs)
-    (λ c. search needs)
-    (λ c. search needs)
-    (λ c κs. search needs)
-    (λ c. search needs)
-    returns)
+clear-unused-spec = tie.close (tie.spec (λ c. search needs) (λ c. search needs) (λ c. search needs) (λ c. search needs) (λ c κs. search needs) (λ c. search needs) returns)

@@ -32,16 +32,5 @@ returns-2 c =
     run-back (entry .pre) (f .result) (f .last .1 .1 .1 .0) (f .ensures) (f .kept .1 .1 .1 .0) (at-write-run .write-run .ensures)
 
 pub run-limit-spec : {M : Type 1} → statement M
-run-limit-spec =
-    tie.close
-    (tie.spec
-    (λ c κs. search needs)
-    (λ c. search needs)
-    (λ c κs. search needs)
-    (λ c. search needs)
-    returns
-    (λ c. search needs)
-    write-run-requires
-    (λ c. search needs)
-    (λ c. search needs)
-    returns-2)
+run-limit-spec = tie.close (tie.spec (λ c κs. search needs) (λ c. search needs) (λ c κs. search needs) (λ c. search needs) returns (λ c. search needs) write-run-requires
+    (λ c. search needs) (λ c. search needs) returns-2)

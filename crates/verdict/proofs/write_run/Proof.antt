@@ -50,18 +50,5 @@ returns-2 c =
     (c .figure .result) (at-wide-four .wide-four .result) (u .result) (u .ensures) (at-wide-four .wide-four .ensures .0) (c .figure .ensures) (p .ensures) (u .kept .1 .1 .1 .0) (z .ensures)
 
 pub write-run-spec : {M : Type 1} → statement M
-write-run-spec =
-    tie.close
-    (tie.spec
-    (λ c κs. search needs)
-    (λ c κs. search needs)
-    (λ c. search needs)
-    returns
-    unfold-requires
-    (λ c κs. search needs)
-    clear-unused-requires
-    (λ c κs. search needs)
-    (λ c κs. search needs)
-    (λ c. search needs)
-    (λ c. search needs)
-    returns-2)
+write-run-spec = tie.close (tie.spec (λ c κs. search needs) (λ c κs. search needs) (λ c. search needs) returns unfold-requires (λ c κs. search needs)
+    clear-unused-requires (λ c κs. search needs) (λ c κs. search needs) (λ c. search needs) (λ c. search needs) returns-2)

@@ -32,17 +32,5 @@ returns-4 c =
     step-done (a .table .now) (a .t) (c .before .before .before .before .before .before .before .before .before .before .pre .0) (a .n) (a .pile .now) (a .c) (omega arith) (c .before .before .before .before .before .fire .last .1 .1 .1 .0) (c .before .d .given .0 .0) (c .before .before .before .before .before .before .before .before .before .before .pre .1) (rw e at (c .before .before .before .before .before .fire .ensures))
 
 pub take-step-spec : {M : Type 1} → statement M
-take-step-spec =
-    tie.close
-    (tie.spec
-    returns
-    (λ c κs. search needs)
-    enum-told
-    (λ c. search needs)
-    returns-2
-    (λ c. search needs)
-    (λ c. search needs)
-    returns-3
-    (λ c. search needs)
-    (λ c. search needs)
-    returns-4)
+take-step-spec = tie.close (tie.spec returns (λ c κs. search needs) enum-told (λ c. search needs) returns-2 (λ c. search needs) (λ c. search needs) returns-3
+    (λ c. search needs) (λ c. search needs) returns-4)

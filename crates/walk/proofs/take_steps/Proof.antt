@@ -72,22 +72,5 @@ returns-2 c =
     going-end (a .table .now) (a .t) (a .list .now) (a .pile .now) (a .start) (at-loop .loop .pile) (at-loop .loop .c) (at-loop .loop .k) (c .loop-test .left) (at-loop .loop .inv)
 
 pub take-steps-spec : {M : Type 1} → statement M
-take-steps-spec =
-    tie.close
-    (tie.spec
-    Inv-loop
-    μ-loop
-    loop-holds
-    (λ c. omega arith)
-    (λ c. omega arith)
-    (λ c κs. search needs)
-    take-step-requires
-    (λ c. search needs)
-    same-length
-    returns
-    (λ c. search needs)
-    (λ c. omega arith)
-    (λ c. omega arith)
-    loop-again
-    same-length-2
-    returns-2)
+take-steps-spec = tie.close (tie.spec Inv-loop μ-loop loop-holds (λ c. omega arith) (λ c. omega arith) (λ c κs. search needs) take-step-requires (λ c. search needs)
+    same-length returns (λ c. search needs) (λ c. omega arith) (λ c. omega arith) loop-again same-length-2 returns-2)

@@ -15,13 +15,5 @@ returns c =
     (c .before .before .before .before .before .before .before .before .before .before .before .before .take-steps .ensures) (c .before .before .before .before .before .before .before .conclude .ensures .0) (c .before .before .before .before .before .before .before .conclude .ensures .1) (c .before .before .settle .ensures)
 
 pub walk-placed-spec : {M : Type 1} → statement M
-walk-placed-spec =
-    tie.close
-    (tie.spec
-    (λ c κs. search needs)
-    take-steps-requires
-    (λ c κs. search needs)
-    (λ c κs. search needs)
-    (λ c. search needs)
-    (λ c. search needs)
+walk-placed-spec = tie.close (tie.spec (λ c κs. search needs) take-steps-requires (λ c κs. search needs) (λ c κs. search needs) (λ c. search needs) (λ c. search needs)
     returns)

@@ -20,15 +20,5 @@ walk-accepted-requires c κs =
     record { reading = sym (c .before .before .before .before .before .read .ensures) ∙ e }
 
 pub walk-table-spec : {M : Type 1} → statement M
-walk-table-spec =
-    tie.close
-    (tie.spec
-    (λ c κs. search needs)
-    (λ c. search needs)
-    (λ c κs. search needs)
-    returns
-    (λ c. search needs)
-    walk-accepted-requires
-    (λ c. search needs)
-    (λ c. search needs)
-    (λ c. search needs))
+walk-table-spec = tie.close (tie.spec (λ c κs. search needs) (λ c. search needs) (λ c κs. search needs) returns (λ c. search needs) walk-accepted-requires
+    (λ c. search needs) (λ c. search needs) (λ c. search needs))

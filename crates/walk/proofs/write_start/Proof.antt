@@ -38,17 +38,5 @@ returns c =
     c .before .loop .inv .1 .is ∙ ap (paste (a .pile .now) (a .at) (systemIn (a .table .now) .start .word)) e
 
 pub write-start-spec : {M : Type 1} → statement M
-write-start-spec =
-    tie.close
-    (tie.spec
-    Inv-loop
-    μ-loop
-    loop-holds
-    (λ c κs. search needs)
-    (λ c. omega arith)
-    (λ c. omega arith)
-    (λ c. omega arith)
-    (λ c. omega arith)
-    loop-again
-    same-length
-    returns)
+write-start-spec = tie.close (tie.spec Inv-loop μ-loop loop-holds (λ c κs. search needs) (λ c. omega arith) (λ c. omega arith) (λ c. omega arith) (λ c. omega arith)
+    loop-again same-length returns)

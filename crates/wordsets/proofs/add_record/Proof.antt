@@ -52,18 +52,5 @@ returns c =
     subst (λ (k : ℕ). RecordAdded (a .from) (a .to) (a .y) (a .x) (a .rest) k (a .words) (a .s .now) (t .s) (t .common)) e (t .inv .1)
 
 pub add-record-spec : {M : Type 1} → statement M
-add-record-spec =
-    tie.close
-    (tie.spec
-    Inv-loop
-    μ-loop
-    loop-holds
-    mul-add-row
-    mul-add-row-2
-    add-add-row
-    add-row-requires
-    (λ c. omega arith)
-    (λ c. omega arith)
-    loop-again
-    same-length
-    returns)
+add-record-spec = tie.close (tie.spec Inv-loop μ-loop loop-holds mul-add-row mul-add-row-2 add-add-row add-row-requires (λ c. omega arith) (λ c. omega arith) loop-again
+    same-length returns)

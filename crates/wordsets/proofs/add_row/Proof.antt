@@ -38,21 +38,5 @@ returns c =
     subst (λ (k : ℕ). RowAdded (a .from) (a .to) (a .y) (a .x) (a .rest) (a .low) k (a .s .now) (t .s) (t .common)) e (t .inv .1 .row)
 
 pub add-row-spec : {M : Type 1} → statement M
-add-row-spec =
-    tie.close
-    (tie.spec
-    Inv-loop
-    μ-loop
-    loop-holds
-    (λ c. omega arith)
-    (λ c. omega arith)
-    (λ c. omega arith)
-    (λ c. omega arith)
-    (λ c. omega arith)
-    (λ c. omega arith)
-    add-word-requires
-    (λ c. omega arith)
-    (λ c. omega arith)
-    loop-again
-    same-length
-    returns)
+add-row-spec = tie.close (tie.spec Inv-loop μ-loop loop-holds (λ c. omega arith) (λ c. omega arith) (λ c. omega arith) (λ c. omega arith) (λ c. omega arith)
+    (λ c. omega arith) add-word-requires (λ c. omega arith) (λ c. omega arith) loop-again same-length returns)

@@ -22,14 +22,4 @@ unfolding sameGroup restrict
 returns-4 c = simp (← (c .before .chosen4 .ensures), eq-eqb _ _ (c .before .before .if3 .left), ← (c .before .before .before .before .chosen3 .ensures), eq-eqb _ _ (c .before .before .before .before .before .if2 .left), ← (c .before .before .before .before .before .before .before .chosen2 .ensures), eq-eqb _ _ (c .before .before .before .before .before .before .before .before .if1 .left), ← (c .before .before .before .before .before .before .before .before .before .before .chosen .ensures))
 
 pub reads-spec : {M : Type 1} → statement M
-reads-spec =
-    tie.close
-    (tie.spec
-    (λ c κs. search needs)
-    returns
-    (λ c κs. search needs)
-    returns-2
-    (λ c κs. search needs)
-    returns-3
-    (λ c κs. search needs)
-    returns-4)
+reads-spec = tie.close (tie.spec (λ c κs. search needs) returns (λ c κs. search needs) returns-2 (λ c κs. search needs) returns-3 (λ c κs. search needs) returns-4)

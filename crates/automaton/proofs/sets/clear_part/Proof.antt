@@ -35,15 +35,4 @@ returns c =
     cleared-all (a .from) (at-loop .loop .i) (a .to) (a .buffer .now) (at-loop .loop .buffer) (at-loop .loop .inv .1) (c .loop-test .left) (at-loop .loop .inv .2)
 
 pub clear-part-spec : {M : Type 1} → statement M
-clear-part-spec =
-    tie.close
-    (tie.spec
-    Inv-loop
-    μ-loop
-    loop-holds
-    slice-write-buffer
-    (λ c. omega arith)
-    (λ c. omega arith)
-    loop-again
-    same-length
-    returns)
+clear-part-spec = tie.close (tie.spec Inv-loop μ-loop loop-holds slice-write-buffer (λ c. omega arith) (λ c. omega arith) loop-again same-length returns)

@@ -35,17 +35,5 @@ returns c =
     counting-end (a .bytes .now) (a .at) (a .n) (a .x) (t .m) (t .i) (c .loop-test .left) (t .inv)
 
 pub count-equal-spec : {M : Type 1} → statement M
-count-equal-spec =
-    tie.close
-    (tie.spec
-    Inv-loop
-    μ-loop
-    loop-holds
-    (λ c. omega arith)
-    (λ c. omega arith)
-    one-if-equal-requires
-    (λ c. omega arith)
-    (λ c. omega arith)
-    (λ c. omega arith)
-    loop-again
-    returns)
+count-equal-spec = tie.close (tie.spec Inv-loop μ-loop loop-holds (λ c. omega arith) (λ c. omega arith) one-if-equal-requires (λ c. omega arith) (λ c. omega arith)
+    (λ c. omega arith) loop-again returns)

@@ -37,16 +37,5 @@ returns-2 c =
     first-is (member (a .members .now)) (a .n) (8 - a .n % 8) (m .m) (record { low = m .inv .0; high = omega arith; passes = λ h. absurd (omega arith); fails = m .inv .2 })
 
 pub next-bit-spec : {M : Type 1} → statement M
-next-bit-spec =
-    tie.close
-    (tie.spec
-    Inv-loop
-    μ-loop
-    (λ c κs. omega arith)
-    loop-holds
-    (λ c κs. omega arith)
-    returns
-    (λ c. omega arith)
-    (λ c. omega arith)
-    loop-again
+next-bit-spec = tie.close (tie.spec Inv-loop μ-loop (λ c κs. omega arith) loop-holds (λ c κs. omega arith) returns (λ c. omega arith) (λ c. omega arith) loop-again
     returns-2)

@@ -68,18 +68,5 @@ returns-2 c =
     next-is (a .members .now) (a .from) (t .n) (record { low = t .inv .0; high = omega arith; passes = λ h. absurd (omega arith); fails = t .inv .2 })
 
 pub next-member-spec : {M : Type 1} → statement M
-next-member-spec =
-    tie.close
-    (tie.spec
-    Inv-loop
-    μ-loop
-    loop-holds
-    past-block-requires
-    next-in-byte-requires
-    (λ c κs. omega arith)
-    returns
-    (λ c. omega arith)
-    loop-again
-    loop-less-2
-    loop-again-2
-    returns-2)
+next-member-spec = tie.close (tie.spec Inv-loop μ-loop loop-holds past-block-requires next-in-byte-requires (λ c κs. omega arith) returns (λ c. omega arith) loop-again
+    loop-less-2 loop-again-2 returns-2)

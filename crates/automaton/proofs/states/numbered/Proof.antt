@@ -9,15 +9,5 @@ unfolding groupNumbered
 returns c = simp (← (c .chosen4 .ensures), ← (c .before .chosen3 .ensures), ← (c .before .before .chosen2 .ensures), ← (c .before .before .before .chosen .ensures))
 
 pub numbered-spec : {M : Type 1} → statement M
-numbered-spec =
-    tie.close
-    (tie.spec
-    (λ c. search needs)
-    (λ c κs. search needs)
-    (λ c. search needs)
-    (λ c κs. search needs)
-    (λ c. search needs)
-    (λ c κs. search needs)
-    (λ c. search needs)
-    (λ c κs. search needs)
-    returns)
+numbered-spec = tie.close (tie.spec (λ c. search needs) (λ c κs. search needs) (λ c. search needs) (λ c κs. search needs) (λ c. search needs) (λ c κs. search needs)
+    (λ c. search needs) (λ c κs. search needs) returns)

@@ -38,12 +38,4 @@ returns c =
     }
 
 pub job-of-spec : {M : Type 1} → statement M
-job-of-spec =
-    tie.close
-    (tie.spec
-    (λ c κs. search needs)
-    (λ c κs. search needs)
-    (λ c κs. search needs)
-    cast-t11
-    (λ c κs. search needs)
-    returns)
+job-of-spec = tie.close (tie.spec (λ c κs. search needs) (λ c κs. search needs) (λ c κs. search needs) cast-t11 (λ c κs. search needs) returns)

@@ -58,14 +58,5 @@ returns c =
     _ _ (c .with-letter .ensures .0) (c .with-letter .ensures .1)
 
 pub read-letter-spec : {M : Type 1} → statement M
-read-letter-spec =
-    tie.close
-    (tie.spec
-    (λ c κs. search needs)
-    (λ c κs. search needs)
-    letter-bits-requires
-    (λ c κs. search needs)
-    (λ c κs. search needs)
-    last-fresh-requires
-    with-letter-requires
-    returns)
+read-letter-spec = tie.close (tie.spec (λ c κs. search needs) (λ c κs. search needs) letter-bits-requires (λ c κs. search needs) (λ c κs. search needs)
+    last-fresh-requires with-letter-requires returns)

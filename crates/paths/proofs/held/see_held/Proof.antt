@@ -53,18 +53,5 @@ returns : tie.Need-returns Inv-loop μ-loop
 returns c = holding-end _ _ _ _ _ _ _ _ (omega arith) (c .before .loop .inv)
 
 pub see-held-spec : {M : Type 1} → statement M
-see-held-spec =
-    tie.close
-    (tie.spec
-    Inv-loop
-    μ-loop
-    (λ c κs. search needs)
-    loop-holds
-    after-at-requires
-    (λ c κs. search needs)
-    see-requires
-    next-match-requires
-    loop-less
-    loop-again
-    same-length
-    returns)
+see-held-spec = tie.close (tie.spec Inv-loop μ-loop (λ c κs. search needs) loop-holds after-at-requires (λ c κs. search needs) see-requires next-match-requires loop-less
+    loop-again same-length returns)

@@ -53,20 +53,5 @@ returns c =
     set-added (a .from) (a .to) (a .s .now) (at-loop .loop .s) all
 
 pub add-spec : {M : Type 1} → statement M
-add-spec =
-    tie.close
-    (tie.spec
-    Inv-loop
-    μ-loop
-    loop-holds
-    (λ c. omega arith)
-    slice-read-s
-    (λ c. omega arith)
-    slice-read-s-2
-    (λ c. omega arith)
-    slice-write-s
-    (λ c. omega arith)
-    (λ c. omega arith)
-    loop-again
-    same-length
-    returns)
+add-spec = tie.close (tie.spec Inv-loop μ-loop loop-holds (λ c. omega arith) slice-read-s (λ c. omega arith) slice-read-s-2 (λ c. omega arith) slice-write-s
+    (λ c. omega arith) (λ c. omega arith) loop-again same-length returns)

@@ -38,16 +38,4 @@ returns c =
     bytes-all (a .at) (λ _. 0) (at-loop .loop .i) (a .n) (a .s .now) (at-loop .loop .s) (at-loop .loop .inv .0) (c .loop-test .left) (at-loop .loop .inv .1)
 
 pub clear-spec : {M : Type 1} → statement M
-clear-spec =
-    tie.close
-    (tie.spec
-    Inv-loop
-    μ-loop
-    loop-holds
-    (λ c. omega arith)
-    slice-write-s
-    (λ c. omega arith)
-    (λ c. omega arith)
-    loop-again
-    same-length
-    returns)
+clear-spec = tie.close (tie.spec Inv-loop μ-loop loop-holds (λ c. omega arith) slice-write-s (λ c. omega arith) (λ c. omega arith) loop-again same-length returns)

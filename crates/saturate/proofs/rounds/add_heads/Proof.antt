@@ -42,17 +42,5 @@ returns : tie.Need-returns Inv-loop μ-loop
 returns c = heads-end (c .before .before .loop .inv) (c .before .goes-on .ensures) (c .if1 .left)
 
 pub add-heads-spec : {M : Type 1} → statement M
-add-heads-spec =
-    tie.close
-    (tie.spec
-    Inv-loop
-    μ-loop
-    next-active-requires
-    loop-holds
-    (λ c κs. search needs)
-    add-head-requires
-    loop-less
-    loop-again
-    (λ c. c .before .before .loop .inv .log-length)
-    (λ c. c .before .before .loop .inv .scratch-length)
-    returns)
+add-heads-spec = tie.close (tie.spec Inv-loop μ-loop next-active-requires loop-holds (λ c κs. search needs) add-head-requires loop-less loop-again
+    (λ c. c .before .before .loop .inv .log-length) (λ c. c .before .before .loop .inv .scratch-length) returns)

@@ -32,13 +32,4 @@ returns c =
     added-before (at-active .set-active .ensures .kept .size ∙ at-append .append .ensures .0 .size) (at-heads .add-heads .ensures)
 
 pub add-round-spec : {M : Type 1} → statement M
-add-round-spec =
-    tie.close
-    (tie.spec
-    (λ c κs. search needs)
-    (λ c κs. search needs)
-    set-active-requires
-    add-heads-requires
-    (λ c. search needs)
-    (λ c. search needs)
-    returns)
+add-round-spec = tie.close (tie.spec (λ c κs. search needs) (λ c κs. search needs) set-active-requires add-heads-requires (λ c. search needs) (λ c. search needs) returns)

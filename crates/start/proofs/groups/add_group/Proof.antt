@@ -112,24 +112,5 @@ returns-2 c =
     taking-end (a .log .now) (a .count) (setAt (a .scratch .now) (a .k + 1)) (a .a) (a .f) (a .k) (a .x) _ (m .r) (a .scratch .now) (m .scratch) (c .loop-test .left) (m .inv)
 
 pub add-group-spec : {M : Type 1} → statement M
-add-group-spec =
-    tie.close
-    (tie.spec
-    Inv-loop
-    μ-loop
-    (λ c κs. search needs)
-    (λ c κs. search needs)
-    first-match-requires
-    loop-holds
-    own-after-requires
-    (λ c. omega arith)
-    (λ c. omega arith)
-    (λ c. omega arith)
-    add-record-requires
-    same-length
-    returns
-    next-match-requires
-    loop-less
-    loop-again
-    same-length-2
-    returns-2)
+add-group-spec = tie.close (tie.spec Inv-loop μ-loop (λ c κs. search needs) (λ c κs. search needs) first-match-requires loop-holds own-after-requires (λ c. omega arith)
+    (λ c. omega arith) (λ c. omega arith) add-record-requires same-length returns next-match-requires loop-less loop-again same-length-2 returns-2)

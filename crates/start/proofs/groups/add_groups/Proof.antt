@@ -61,15 +61,4 @@ returns c =
     going-end (a .log .now) (a .count) (setAt (a .scratch .now) (a .k + 1)) (a .a) (a .f) (a .k) (t .x) (a .scratch .now) (t .scratch) (c .loop-test .left) (t .inv)
 
 pub add-groups-spec : {M : Type 1} → statement M
-add-groups-spec =
-    tie.close
-    (tie.spec
-    Inv-loop
-    μ-loop
-    loop-holds
-    add-group-requires
-    next-under-requires
-    loop-less
-    loop-again
-    same-length
-    returns)
+add-groups-spec = tie.close (tie.spec Inv-loop μ-loop loop-holds add-group-requires next-under-requires loop-less loop-again same-length returns)

@@ -34,18 +34,5 @@ returns-2 c =
     raising-end (start .args .top) (start .args .x) (c .before .loop .k) (start .pre .0) (c .loop-test .left) (c .before .loop .inv)
 
 pub next-under-spec : {M : Type 1} → statement M
-next-under-spec =
-    tie.close
-    (tie.spec
-    Inv-loop
-    μ-loop
-    loop-holds
-    (λ c. omega arith)
-    (λ c. omega arith)
-    add-result
-    (λ c. omega arith)
-    returns
-    (λ c. omega arith)
-    (λ c. omega arith)
-    loop-again
-    returns-2)
+next-under-spec = tie.close (tie.spec Inv-loop μ-loop loop-holds (λ c. omega arith) (λ c. omega arith) add-result (λ c. omega arith) returns (λ c. omega arith)
+    (λ c. omega arith) loop-again returns-2)

@@ -23,16 +23,5 @@ returns c =
     (at-number .number .ensures .0 ∙ ap stateNumber (at-merged .merged .ensures ∙ ap (λ (h : Group). merge (processesOf (a .bits)) h (a .g)) (at-after-at .after-at .ensures)))
 
 pub enters-spec : {M : Type 1} → statement M
-enters-spec =
-    tie.close
-    (tie.spec
-    (λ c κs. search needs)
-    (λ c κs. search needs)
-    (λ c κs. search needs)
-    (λ c. search needs)
-    (λ c. search needs)
-    (λ c. search needs)
-    (λ c. search needs)
-    (λ c. search needs)
-    (λ c κs. search needs)
-    returns)
+enters-spec = tie.close (tie.spec (λ c κs. search needs) (λ c κs. search needs) (λ c κs. search needs) (λ c. search needs) (λ c. search needs) (λ c. search needs)
+    (λ c. search needs) (λ c. search needs) (λ c κs. search needs) returns)

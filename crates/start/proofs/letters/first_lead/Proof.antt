@@ -55,18 +55,5 @@ returns-2 : tie.Need-returns-2 Inv-loop μ-loop
 returns-2 c = seeking-none _ _ _ _ (c .before .loop .inv) (c .loop-test .left)
 
 pub first-lead-spec : {M : Type 1} → statement M
-first-lead-spec =
-    tie.close
-    (tie.spec
-    Inv-loop
-    μ-loop
-    (λ c κs. search needs)
-    (λ c κs. search needs)
-    first-match-requires
-    loop-holds
-    enters-requires
-    returns
-    next-match-requires
-    loop-less
-    loop-again
-    returns-2)
+first-lead-spec = tie.close (tie.spec Inv-loop μ-loop (λ c κs. search needs) (λ c κs. search needs) first-match-requires loop-holds enters-requires returns
+    next-match-requires loop-less loop-again returns-2)

@@ -78,20 +78,5 @@ returns c =
     (c .add-steps .ensures ∙ ap (λ (k : ℕ). min (a .c .steps + k) stepsCap) (c .before .steps-at .ensures))
 
 pub advance-spec : {M : Type 1} → statement M
-advance-spec =
-    tie.close
-    (tie.spec
-    (λ c κs. search needs)
-    (λ c. search needs)
-    (λ c κs. search needs)
-    first-lead-requires
-    (λ c. search needs)
-    (λ c. search needs)
-    cast-put-number
-    put-number-requires
-    after-at-requires
-    (λ c κs. search needs)
-    steps-at-requires
-    add-steps-requires
-    (λ c. search needs)
-    returns)
+advance-spec = tie.close (tie.spec (λ c κs. search needs) (λ c. search needs) (λ c κs. search needs) first-lead-requires (λ c. search needs) (λ c. search needs)
+    cast-put-number put-number-requires after-at-requires (λ c κs. search needs) steps-at-requires add-steps-requires (λ c. search needs) returns)

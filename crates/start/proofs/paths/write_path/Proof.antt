@@ -50,16 +50,5 @@ returns c =
     tracing-end (pile-count (a .table .now) (a .t) (entry .pre .0 .1 .holds)) (c .if1 .left) (at-loop .loop .inv)
 
 pub write-path-spec : {M : Type 1} → statement M
-write-path-spec =
-    tie.close
-    (tie.spec
-    Inv-loop
-    μ-loop
-    start-group-requires
-    loop-holds
-    advance-requires
-    (λ c. omega arith)
-    (λ c. omega arith)
-    loop-again
-    same-length
+write-path-spec = tie.close (tie.spec Inv-loop μ-loop start-group-requires loop-holds advance-requires (λ c. omega arith) (λ c. omega arith) loop-again same-length
     returns)

@@ -62,15 +62,4 @@ returns c =
     numbering-end (processesOfTable (a .t)) (systemIn (a .table .now) .accepting) (a .t .pile) (m .j) (a .scratch .now) (m .scratch) (c .loop-test .left) (m .inv)
 
 pub add-all-accepting-spec : {M : Type 1} → statement M
-add-all-accepting-spec =
-    tie.close
-    (tie.spec
-    Inv-loop
-    μ-loop
-    loop-holds
-    (λ c. omega arith)
-    add-accepting-requires
-    (λ c. omega arith)
-    loop-again
-    same-length
-    returns)
+add-all-accepting-spec = tie.close (tie.spec Inv-loop μ-loop loop-holds (λ c. omega arith) add-accepting-requires (λ c. omega arith) loop-again same-length returns)

@@ -13,14 +13,5 @@ returns c =
     set-cleared (a .scratch .now) (a .k) (at-clear .clear .last .0) (omega (arith, entry .pre)) (at-clear .clear .ensures)
 
 pub clear-set-spec : {M : Type 1} → statement M
-clear-set-spec =
-    tie.close
-    (tie.spec
-    (λ c. search needs)
-    (λ c. search needs)
-    (λ c. search needs)
-    (λ c. search needs)
-    (λ c. search needs)
-    (λ c κs. search needs)
-    (λ c. search needs)
-    returns)
+clear-set-spec = tie.close (tie.spec (λ c. search needs) (λ c. search needs) (λ c. search needs) (λ c. search needs) (λ c. search needs) (λ c κs. search needs)
+    (λ c. search needs) returns)

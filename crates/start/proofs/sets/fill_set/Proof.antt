@@ -49,13 +49,5 @@ returns c =
     )
 
 pub fill-set-spec : {M : Type 1} → statement M
-fill-set-spec =
-    tie.close
-    (tie.spec
-    (λ c κs. search needs)
-    clear-set-requires
-    (λ c κs. search needs)
-    (λ c κs. search needs)
-    add-groups-requires
-    (λ c. search needs)
+fill-set-spec = tie.close (tie.spec (λ c κs. search needs) clear-set-requires (λ c κs. search needs) (λ c κs. search needs) add-groups-requires (λ c. search needs)
     returns)

@@ -55,16 +55,5 @@ returns c =
     record { linked = m .inv .linked; right = λ k h. m .inv .right k (omega (arith, c .loop-test .left)) h }
 
 pub fill-sets-spec : {M : Type 1} → statement M
-fill-sets-spec =
-    tie.close
-    (tie.spec
-    Inv-loop
-    μ-loop
-    fill-accepting-requires
-    loop-holds
-    (λ c. omega arith)
-    fill-set-requires
-    (λ c. omega arith)
-    loop-again
-    same-length
+fill-sets-spec = tie.close (tie.spec Inv-loop μ-loop fill-accepting-requires loop-holds (λ c. omega arith) fill-set-requires (λ c. omega arith) loop-again same-length
     returns)

@@ -18,14 +18,5 @@ returns c =
     ∙ ap (λ (l : List ℕ). withSet s (a .k) l) (c .before .before .insert .ensures ∙ ap (λ (l : List ℕ). inserted l (a .x)) (set-part s (a .k)))
 
 pub insert-state-spec : {M : Type 1} → statement M
-insert-state-spec =
-    tie.close
-    (tie.spec
-    (λ c. search needs)
-    (λ c. search needs)
-    (λ c. search needs)
-    (λ c. search needs)
-    (λ c. search needs)
-    (λ c κs. search needs)
-    (λ c. search needs)
-    returns)
+insert-state-spec = tie.close (tie.spec (λ c. search needs) (λ c. search needs) (λ c. search needs) (λ c. search needs) (λ c. search needs) (λ c κs. search needs)
+    (λ c. search needs) returns)

@@ -23,14 +23,4 @@ unfolding groupFits
 returns-4 c = c .state-fits4 .ensures ∙ sym (four-3 _ _ _ _ (sym (c .before .before .before .before .before .before .state-fits .ensures) ∙ c .before .before .before .before .before .if1 .taken) (sym (c .before .before .before .before .state-fits2 .ensures) ∙ c .before .before .before .if2 .taken) (sym (c .before .before .state-fits3 .ensures) ∙ c .before .if3 .taken))
 
 pub group-fits-spec : {M : Type 1} → statement M
-group-fits-spec =
-    tie.close
-    (tie.spec
-    (λ c κs. search needs)
-    returns
-    (λ c κs. search needs)
-    returns-2
-    (λ c κs. search needs)
-    returns-3
-    (λ c κs. search needs)
-    returns-4)
+group-fits-spec = tie.close (tie.spec (λ c κs. search needs) returns (λ c κs. search needs) returns-2 (λ c κs. search needs) returns-3 (λ c κs. search needs) returns-4)

@@ -43,14 +43,4 @@ returns-3 c =
     rw (eq-eqb _ _ (c .before .before .before .before .before .before .if1 .left), sym same ∙ sym (c .before .leaves-control .ensures) ∙ c .if2 .left)
 
 pub is-reentry-spec : {M : Type 1} → statement M
-is-reentry-spec =
-    tie.close
-    (tie.spec
-    returns
-    shared-slice-read-wide
-    (λ c κs. search needs)
-    bits-of-requires
-    group-at-requires
-    (λ c κs. search needs)
-    returns-2
-    returns-3)
+is-reentry-spec = tie.close (tie.spec returns shared-slice-read-wide (λ c κs. search needs) bits-of-requires group-at-requires (λ c κs. search needs) returns-2 returns-3)

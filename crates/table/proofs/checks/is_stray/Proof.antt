@@ -64,19 +64,5 @@ returns-3 c =
     rw (eq-eqb _ _ (c .before .before .before .before .before .before .before .before .if1 .left), sym same ∙ sym (c .before .are-within .ensures) ∙ c .if2 .left)
 
 pub is-stray-spec : {M : Type 1} → statement M
-is-stray-spec =
-    tie.close
-    (tie.spec
-    returns
-    shared-slice-read-wide
-    (λ c κs. search needs)
-    bits-of-requires
-    shared-slice-read-wide-2
-    (λ c κs. search needs)
-    (λ c. search needs)
-    (λ c. search needs)
-    (λ c. search needs)
-    part-are-within-end
-    are-within-requires
-    returns-2
-    returns-3)
+is-stray-spec = tie.close (tie.spec returns shared-slice-read-wide (λ c κs. search needs) bits-of-requires shared-slice-read-wide-2 (λ c κs. search needs)
+    (λ c. search needs) (λ c. search needs) (λ c. search needs) part-are-within-end are-within-requires returns-2 returns-3)

@@ -18,14 +18,4 @@ returns-4 : tie.Need-returns-4
 returns-4 c = c .implies4 .ensures ∙ sym (four-3 _ _ _ _ (sym (c .before .before .before .before .before .before .implies .ensures) ∙ c .before .before .before .before .before .if1 .taken) (sym (c .before .before .before .before .implies2 .ensures) ∙ c .before .before .before .if2 .taken) (sym (c .before .before .implies3 .ensures) ∙ c .before .if3 .taken))
 
 pub is-within-spec : {M : Type 1} → statement M
-is-within-spec =
-    tie.close
-    (tie.spec
-    (λ c κs. search needs)
-    returns
-    (λ c κs. search needs)
-    returns-2
-    (λ c κs. search needs)
-    returns-3
-    (λ c κs. search needs)
-    returns-4)
+is-within-spec = tie.close (tie.spec (λ c κs. search needs) returns (λ c κs. search needs) returns-2 (λ c κs. search needs) returns-3 (λ c κs. search needs) returns-4)

@@ -18,14 +18,5 @@ returns-4 : tie.Need-returns-4
 returns-4 c = c .is-outside4 .ensures ∙ sym (four-3 _ _ _ _ (sym (c .before .before .before .before .before .before .is-outside .ensures) ∙ c .before .before .before .before .before .if1 .taken) (sym (c .before .before .before .before .is-outside2 .ensures) ∙ c .before .before .before .if2 .taken) (sym (c .before .before .is-outside3 .ensures) ∙ c .before .if3 .taken))
 
 pub leaves-control-spec : {M : Type 1} → statement M
-leaves-control-spec =
-    tie.close
-    (tie.spec
-    (λ c κs. search needs)
-    returns
-    (λ c κs. search needs)
-    returns-2
-    (λ c κs. search needs)
-    returns-3
-    (λ c κs. search needs)
+leaves-control-spec = tie.close (tie.spec (λ c κs. search needs) returns (λ c κs. search needs) returns-2 (λ c κs. search needs) returns-3 (λ c κs. search needs)
     returns-4)

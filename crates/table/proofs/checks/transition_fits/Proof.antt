@@ -39,16 +39,5 @@ returns-3 c =
     sym (fits-2 ls bound (transitionOf (x .body .now)) (omega (arith, c .before .before .before .before .before .before .if1 .left)) (rw (← a, ← (c .before .before .before .before .before .bits-of .ensures), ← (c .before .before .before .before .group-at .ensures)) (sym (c .before .before .before .group-fits .ensures) ∙ c .before .before .if2 .taken)) ∙ rw (← a, ← (c .before .before .before .before .before .bits-of .ensures), ← (c .before .group-at2 .ensures)) (sym (c .group-fits2 .ensures)))
 
 pub transition-fits-spec : {M : Type 1} → statement M
-transition-fits-spec =
-    tie.close
-    (tie.spec
-    (λ c. search needs)
-    (λ c κs. search needs)
-    returns
-    (λ c κs. search needs)
-    (λ c κs. search needs)
-    (λ c κs. search needs)
-    returns-2
-    (λ c κs. search needs)
-    (λ c κs. search needs)
-    returns-3)
+transition-fits-spec = tie.close (tie.spec (λ c. search needs) (λ c κs. search needs) returns (λ c κs. search needs) (λ c κs. search needs) (λ c κs. search needs)
+    returns-2 (λ c κs. search needs) (λ c κs. search needs) returns-3)

@@ -64,22 +64,5 @@ unfolding valueFits
 returns-8 c = rw (is-end (c .before .before .before .before .before .before .before .before .before .args .kind) (c .before .before .before .before .before .before .before .before .before .pre .some) (c .before .before .before .before .before .before .before .before .before .pre .known) (c .before .before .before .before .before .before .if1 .left) (c .before .before .before .before .before .if2 .left) (c .before .before .before .before .if3 .left) (c .before .before .before .if4 .left) (c .before .before .if5 .left) (c .before .if6 .left) (c .if7 .left)) refl
 
 pub value-fits-spec : {M : Type 1} → statement M
-value-fits-spec =
-    tie.close
-    (tie.spec
-    process-fits-requires
-    returns
-    letter-fits-requires
-    returns-2
-    rule-fits-requires
-    returns-3
-    transition-fits-requires
-    returns-4
-    full-group-fits-requires
-    returns-5
-    full-group-fits-requires-2
-    returns-6
-    shared-slice-read-wide
-    (λ c κs. search needs)
-    returns-7
-    returns-8)
+value-fits-spec = tie.close (tie.spec process-fits-requires returns letter-fits-requires returns-2 rule-fits-requires returns-3 transition-fits-requires returns-4
+    full-group-fits-requires returns-5 full-group-fits-requires-2 returns-6 shared-slice-read-wide (λ c κs. search needs) returns-7 returns-8)

@@ -27,20 +27,5 @@ returns-3 c =
     sym (rw (← n) (written-2 (c .before .before .before .before .before .before .before .before .before .args .letters) (c .before .before .before .before .before .before .wide .result) (drop 10 l) (c .before .before .before .before .before .if1 .left) (rw (← (part-front l 10 (c .before .before .before .before .before .before .wide .result))) (sym (c .before .before .before .are-letters .ensures) ∙ c .before .before .if2 .taken)) ∙ rw (← (part-behind l 10 (c .before .before .before .before .before .before .wide .result))) (sym (c .are-spare .ensures))))
 
 pub written-fit-spec : {M : Type 1} → statement M
-written-fit-spec =
-    tie.close
-    (tie.spec
-    (λ c. search needs)
-    (λ c κs. search needs)
-    returns
-    (λ c. search needs)
-    (λ c. search needs)
-    (λ c. search needs)
-    (λ c. search needs)
-    (λ c κs. search needs)
-    returns-2
-    (λ c. search needs)
-    (λ c. search needs)
-    (λ c. search needs)
-    (λ c κs. search needs)
-    returns-3)
+written-fit-spec = tie.close (tie.spec (λ c. search needs) (λ c κs. search needs) returns (λ c. search needs) (λ c. search needs) (λ c. search needs) (λ c. search needs)
+    (λ c κs. search needs) returns-2 (λ c. search needs) (λ c. search needs) (λ c. search needs) (λ c κs. search needs) returns-3)

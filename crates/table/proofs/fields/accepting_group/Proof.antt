@@ -50,12 +50,4 @@ returns c =
     c .group-at .ensures ∙ ap (λ (l : List ℕ). groupOf l 0) (c .before .body-at .ensures ∙ ap (bodyAt b 4) o) ∙ sym (accepting-in b t (c .before .before .before .before .pre .0) (c .before .before .before .before .args .k) (c .before .before .before .before .pre .1))
 
 pub accepting-group-spec : {M : Type 1} → statement M
-accepting-group-spec =
-    tie.close
-    (tie.spec
-    accepting-at-requires
-    mul-body-at
-    add-body-at
-    body-at-requires
-    group-at-requires
-    returns)
+accepting-group-spec = tie.close (tie.spec accepting-at-requires mul-body-at add-body-at body-at-requires group-at-requires returns)

@@ -26,12 +26,4 @@ returns c =
     sym (bodies-byte (x .bytes .now) 1 (3 * x .t .processes) (x .t .letters) (x .a) 0 (15 ∷ []) (c .before .before .before .pre .1) (omega arith) ∙ ap (λ (i : ℕ). getD (x .bytes .now) i 0) o)
 
 pub bits-of-spec : {M : Type 1} → statement M
-bits-of-spec =
-    tie.close
-    (tie.spec
-    (λ c κs. search needs)
-    (λ c. search needs)
-    add-result
-    add-result-2
-    shared-slice-read-result
-    returns)
+bits-of-spec = tie.close (tie.spec (λ c κs. search needs) (λ c. search needs) add-result add-result-2 shared-slice-read-result returns)

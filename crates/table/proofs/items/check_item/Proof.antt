@@ -84,18 +84,5 @@ returns-3 c =
     c .check-body .ensures ∙ ap (bodyRefusal (itemsBefore b c′) k) e ∙ late-found (c .before .before .before .before .before .before .is-out-of-turn .result) (leb (c .before .before .before .before .before .ceiling-of .result) (c .before .before .before .before .count-of .result)) (leb (length b - c′ .at) (c .before .before .before .before .before .before .before .body-length .result)) (bodyRefusal (itemsBefore b c′) k (bodyAt b (bodyLength k) (c′ .at))) (sym (c .before .before .before .early-refusal .ensures) ∙ c .before .before .if2 .left) ∙ sym known
 
 pub check-item-spec : {M : Type 1} → statement M
-check-item-spec =
-    tie.close
-    (tie.spec
-    (λ c κs. search needs)
-    returns
-    body-length-requires
-    (λ c κs. search needs)
-    ceiling-of-requires
-    count-of-requires
-    (λ c. search needs)
-    (λ c κs. search needs)
-    returns-2
-    body-at-requires
-    check-body-requires
-    returns-3)
+check-item-spec = tie.close (tie.spec (λ c κs. search needs) returns body-length-requires (λ c κs. search needs) ceiling-of-requires count-of-requires (λ c. search needs)
+    (λ c κs. search needs) returns-2 body-at-requires check-body-requires returns-3)

@@ -36,19 +36,5 @@ returns-2 : tie.Need-returns-2 Inv-loop μ-loop
 returns-2 c = sym (left-end (c .before .loop .inv) (c .loop-test .left))
 
 pub is-seen-spec : {M : Type 1} → statement M
-is-seen-spec =
-    tie.close
-    (tie.spec
-    Inv-loop
-    μ-loop
-    loop-holds
-    (λ c. omega arith)
-    add-same-bytes-2
-    same-bytes-requires
-    returns
-    add-place
-    add-place-2
-    (λ c. omega arith)
-    (λ c. omega arith)
-    loop-again
-    returns-2)
+is-seen-spec = tie.close (tie.spec Inv-loop μ-loop loop-holds (λ c. omega arith) add-same-bytes-2 same-bytes-requires returns add-place add-place-2 (λ c. omega arith)
+    (λ c. omega arith) loop-again returns-2)
