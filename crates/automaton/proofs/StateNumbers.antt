@@ -43,10 +43,7 @@ numbered-number L g o = ext (λ i. at-numbered L (stateNumber g) i ∙ by-test (
 
 -- the group that a number stands for is one of the processes L
 pub numbered-over : (L : Processes) (n : ℕ) → Over L (groupNumbered L n)
-numbered-over L n = record {
-  inside = λ i h. rw (at-numbered L n i, h) (digit-below i);
-  outside = λ i h. rw (at-numbered L n i, h) refl;
-}
+numbered-over L n = record { inside = λ i h. rw (at-numbered L n i, h) (digit-below i); outside = λ i h. rw (at-numbered L n i, h) refl }
   where
     digit-below : (i : Process) → digit n i < 8
     digit-below p0 = omega arith
@@ -68,10 +65,7 @@ digits-number n h = rw (← div-div-eq-div-mul n 64 8, ← div-div-eq-div-mul n 
 
 -- the number of a group of the processes L is such a number
 pub number-over : (L : Processes) (g : Group) → Over L g → NumberOver L (stateNumber g)
-number-over L g o = record {
-  below = stateNumber-below g;
-  outside = λ i h. digit-number g i ∙ ap (λ (s : ℕ). s % 8) (o .outside i h);
-}
+number-over L g o = record { below = stateNumber-below g; outside = λ i h. digit-number g i ∙ ap (λ (s : ℕ). s % 8) (o .outside i h) }
 
 pub number-injective : (L : Processes) (g h : Group) → Over L g → Over L h → stateNumber g ≡ stateNumber h → g ≡ h
 number-injective L g h o q e = sym (numbered-number L g o) ∙ ap (λ (n : ℕ). groupNumbered L n) e ∙ numbered-number L h q

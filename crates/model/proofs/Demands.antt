@@ -41,13 +41,7 @@ steps-figure : (sys : System) (p : Path) → startPath sys ≡ some p → pathSt
 steps-figure sys p e = answer-steps sys (saturatedAt sys) (sys .start) p e
 
 pub found-counts : (sys : System) (p : Path) → startPath sys ≡ some p → Counts sys (length (emitted (limit sys) (p .numbers)))
-found-counts sys p e = record {
-  path = p;
-  is = e;
-  run = emitted (limit sys) (p .numbers);
-  unfolds = path-unfolds sys (saturatedAt sys) (sys .start) p e;
-  counted = refl;
-}
+found-counts sys p e = record { path = p; is = e; run = emitted (limit sys) (p .numbers); unfolds = path-unfolds sys (saturatedAt sys) (sys .start) p e; counted = refl }
 
 -- the rules emitted are those of the function
 counts-emitted : (sys : System) (n : ℕ) (p : Path) → startPath sys ≡ some p → (c : Counts sys n) → c .run ≡ emitted (limit sys) (p .numbers)

@@ -44,10 +44,7 @@ front-number {pre} {l} {q} {r} {a} k x w h e =
     let before : take a q ≡ pre = ap (take a) (w .same) ∙ take-at pre (drop a l) a (w .size) in
     let behind : drop (a + length bs) q ≡ drop (a + k) l =
     ap (λ (m : ℕ). drop (a + m) q) n ∙ sym (drop-drop k a q) ∙ ap (drop k) (ap (drop a) (w .same) ∙ drop-at pre (drop a l) a (w .size)) ∙ drop-drop k a l in
-    record {
-      same = e ∙ sets-eq bs q a room ∙ ap₂ (λ (x y : List ℕ). x ++ bs ++ y) before behind;
-      size = length-append pre bs ∙ omega (arith, w .size);
-    }
+    record { same = e ∙ sets-eq bs q a room ∙ ap₂ (λ (x y : List ℕ). x ++ bs ++ y) before behind; size = length-append pre bs ∙ omega (arith, w .size) }
 
 -- to the end
 pub front-all : {pre l q : List ℕ} {a : ℕ} → Front pre l a q → length l ≤ a → q ≡ pre

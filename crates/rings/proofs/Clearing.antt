@@ -29,7 +29,4 @@ clearing-turn {n} {at} {h} {s} {t} l room w = record {
 }
 
 pub clearing-end : {n at h : ℕ} {s t : List ℕ} (log : List ℕ) → n ≤ h → Clearing n at h s t → Ringed log 0 n at t
-clearing-end log l w = record {
-  tail = λ k q. inl (record { is = w .empty k (omega arith); none = λ j a b. absurd (omega arith) });
-  next = λ r q. absurd (omega arith);
-}
+clearing-end log l w = record { tail = λ k q. inl (record { is = w .empty k (omega arith); none = λ j a b. absurd (omega arith) }); next = λ r q. absurd (omega arith) }

@@ -14,10 +14,7 @@ use Rattle.rings.specs.Rings.{recordBucket, inBucket, linkPlace, linkAt,
 
 -- tails and next links decide
 pub ringed-kept : (log : List ℕ) (base n at : ℕ) (s t : List ℕ) → base ≤ n → ((k : ℕ) → k < 2 * n → linkAt t at k ≡ linkAt s at k) → Ringed log base n at s → Ringed log base n at t
-ringed-kept log base n at s t fits kept w = record {
-  tail = λ h l. rw (kept h (omega arith)) (w .tail h l);
-  next = λ r l. rw (kept (n + r) (omega arith)) (w .next r l);
-}
+ringed-kept log base n at s t fits kept w = record { tail = λ h l. rw (kept h (omega arith)) (w .tail h l); next = λ r l. rw (kept (n + r) (omega arith)) (w .next r l) }
 
 -- in any scratch with the same links
 pub ringed-scratch : (log : List ℕ) (base n at : ℕ) (s t : List ℕ) → base ≤ n → ((i : ℕ) → at ≤ i → i < at + 6 * n → getD t i 0 ≡ getD s i 0) → Ringed log base n at s → Ringed log base n at t

@@ -45,11 +45,7 @@ pub outside-none : (n at : ℕ) (s : List ℕ) → OutsideSame n at s s
 outside-none n at s = record { size = refl; before = λ i h. refl; behind = λ i h. refl }
 
 pub outside-join : {n at : ℕ} {s t u : List ℕ} → OutsideSame n at s t → OutsideSame n at t u → OutsideSame n at s u
-outside-join p q = record {
-  size = q .size ∙ p .size;
-  before = λ i h. q .before i h ∙ p .before i h;
-  behind = λ i h. q .behind i h ∙ p .behind i h;
-}
+outside-join p q = record { size = q .size ∙ p .size; before = λ i h. q .before i h ∙ p .before i h; behind = λ i h. q .behind i h ∙ p .behind i h }
 
 pub outside-link : (n at : ℕ) (s : List ℕ) (k x : ℕ) → k < 3 * n → OutsideSame n at s (withLink s at k x)
 outside-link n at s k x l = record {

@@ -27,10 +27,7 @@ pub kept-wider : (at n to m : ℕ) (s t : List ℕ) → to ≤ at → at + n ≤
 kept-wider at n to m s t a b k = record { size = k .size; outside = λ i d. k .outside i (⊎-elim (λ h. inl (omega arith)) (λ h. inr (omega arith)) d) }
 
 kept-set : (at n i v : ℕ) (s : List ℕ) → at ≤ i → i < at + n → KeptOutside at n s (set s i v)
-kept-set at n i v s a b = record {
-  size = length-set s i v;
-  outside = λ j d. getD-set-other s i j v 0 (λ e. ⊎-elim (λ h. omega arith) (λ h. omega arith) d);
-}
+kept-set at n i v s a b = record { size = length-set s i v; outside = λ j d. getD-set-other s i j v 0 (λ e. ⊎-elim (λ h. omega arith) (λ h. omega arith) d) }
 
 -- ---- bytes one after the other
 pub bytes-none : (at : ℕ) (byte : ℕ → ℕ) (s : List ℕ) → BytesWritten at byte 0 s s

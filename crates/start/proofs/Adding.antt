@@ -212,9 +212,4 @@ module _ (log : List ℕ) (count : ℕ) (members : List ℕ) (a : Letter) (f : F
   }
 
   pub going-end : (x : ℕ) (s t : List ℕ) → stateCount ≤ x → Going x s t → Added log count members a f (λ (z : ℕ). z < stateCount) k s t
-  going-end x s t h w = record {
-    same = w .added .same;
-    kept = w .added .kept;
-    sound = w .added .sound;
-    complete = λ g i l y. w .added .complete g i (omega arith) y;
-  }
+  going-end x s t h w = record { same = w .added .same; kept = w .added .kept; sound = w .added .sound; complete = λ g i l y. w .added .complete g i (omega arith) y }

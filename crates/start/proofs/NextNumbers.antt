@@ -34,11 +34,7 @@ low-turn top x z k m h u f l = by-shift (λ (k : ℕ). top / 2 ^ k % 8 ≤ x / 2
     (λ f l. omega (arith, u p3)) (λ f l. omega (arith, u p2)) (λ f l. omega (arith, u p1)) (λ f l. omega (arith, u p0)) k m h f l
 
 pub raising-turn : (top x k : ℕ) → k < 12 → top / 2 ^ k % 8 ≤ x / 2 ^ k % 8 → Raising top x k → Raising top x (k + 3)
-raising-turn top x k h f w = record {
-  shift = omega (arith, w .shift);
-  within = omega (arith, w .shift);
-  low = λ z u. low-turn top x z k (w .shift) h u f (w .low z u);
-}
+raising-turn top x k h f w = record { shift = omega (arith, w .shift); within = omega (arith, w .shift); low = λ z u. low-turn top x z k (w .shift) h u f (w .low z u) }
 
 pub raising-end : (top x k : ℕ) → x < stateCount → 12 ≤ k → Raising top x k → NextUnder top x stateCount
 raising-end top x k b h w =

@@ -19,11 +19,7 @@ pub same-none : (low high : ℕ) (s : List ℕ) → SameBut low high s s
 same-none low high s = record { size = refl; before = λ i h. refl; behind = λ i h. refl }
 
 pub same-join : {low high : ℕ} {s t u : List ℕ} → SameBut low high s t → SameBut low high t u → SameBut low high s u
-same-join p q = record {
-  size = q .size ∙ p .size;
-  before = λ i h. q .before i h ∙ p .before i h;
-  behind = λ i h. q .behind i h ∙ p .behind i h;
-}
+same-join p q = record { size = q .size ∙ p .size; before = λ i h. q .before i h ∙ p .before i h; behind = λ i h. q .behind i h ∙ p .behind i h }
 
 -- rings behind what has changed stay
 pub linked-same : {log : List ℕ} {count n low high : ℕ} {s t : List ℕ} → high ≤ ringsAt → SameBut low high s t → Linked log count n s → Linked log count n t

@@ -271,10 +271,7 @@ sought-none {table} s right e round lent =
     let records = logAt sys round in
     let missing : roundPath table round ≡ none = no-some (roundPath table round)
     (sym (accepts-is (sys .loc) records (sys .accepting) (sys .start .word) (sys .start .states)) ∙ sym (start-right s right round lent) ∙ e) in
-    record {
-      given = sym (ap (startFound records) missing);
-      stack = λ p is. absurd (clash p (sym missing ∙ is));
-    }
+    record { given = sym (ap (startFound records) missing); stack = λ p is. absurd (clash p (sym missing ∙ is)) }
   where
     clash : (p : Path) → none ≡ some p → ⊥
     clash p q = let z : _≡_ {A = ℕ} 0 1 = cc in omega arith

@@ -132,10 +132,7 @@ module _ (bytes : List ℕ) (c : Cursor) (p : Passed bytes c) (inside : c .at < 
 
 -- ---- how an item ends the reading
 done-with : (bytes : List ℕ) (c : Cursor) (p : Parsed) → ((fuel : ℕ) → parsed (readOn bytes c (suc fuel)) ≡ p) → Stepped bytes c (Done p)
-done-with bytes c p f = record {
-  next = λ d e. let z : _≡_ {A = ℕ} 0 1 = cc in absurd (omega arith);
-  done = λ q e fuel. f fuel ∙ (let s : p ≡ q = cc in s);
-}
+done-with bytes c p f = record { next = λ d e. let z : _≡_ {A = ℕ} 0 1 = cc in absurd (omega arith); done = λ q e fuel. f fuel ∙ (let s : p ≡ q = cc in s) }
 
 next-with : (bytes : List ℕ) (c d : Cursor) → Onward bytes c d → Stepped bytes c (Next d)
 next-with bytes c d o = record {

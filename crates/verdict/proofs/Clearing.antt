@@ -24,12 +24,7 @@ pub linked-cleared : {log log′ : List ℕ} {count n : ℕ} {s : List ℕ} → 
     → Linked log count n s → Linked log′ count n s
 unfolding letterAt packedBefore
 linked-cleared {log} {log′} {count} {n} {s} e w = record {
-  room = record {
-    fits = w .room .fits;
-    short = w .room .short;
-    records = omega (arith, ap length e, length-append front rest, long);
-    room = w .room .room;
-  };
+  room = record { fits = w .room .fits; short = w .room .short; records = omega (arith, ap length e, length-append front rest, long); room = w .room .room };
   ringed = ringed-log log log′ count n ringsAt s (λ r l. byte (r * recordLength) (omega arith))
       (λ r l. number-same 4 log log′ _ (λ m p q. byte m (omega arith))) (w .room .fits) (w .ringed);
 }

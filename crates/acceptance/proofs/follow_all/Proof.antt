@@ -28,13 +28,11 @@ loop-again c =
     let a = c .before .before .before .before .before .before .before .before .before .args in
     following-turn (systemIn (a .table .now)) (presentIn (a .t)) (a .letter) (a .g) (a .next .now) (c .before .before .before .before .before .before .loop .next) (c .before .before .follow .last .1 .1 .1 .1 .1 .0) (c .before .before .before .before .before .before .loop .k) (transitionOf []) (omega (arith, transitions-count (a .table .now) (a .t) (c .before .before .before .before .before .before .before .before .before .pre .0))) (c .before .before .follow .kept .1 .1 .1 .1 .1 .0) (c .before .before .before .before .before .before .loop .inv) (c .before .before .follow .ensures)
 
-same-length : tie.Need-same-length Inv-loop μ-loop
-same-length c = c .before .before .loop .inv .size
-
 returns : tie.Need-returns Inv-loop μ-loop
 returns c =
     let a = c .before .before .before .before .before .args in
     following-end (systemIn (a .table .now)) (presentIn (a .t)) (a .letter) (a .g) (a .next .now) (c .before .before .loop .next) (c .before .before .loop .k) (omega (arith, transitions-count (a .table .now) (a .t) (c .before .before .before .before .before .pre .0), c .if1 .left)) (c .before .before .loop .inv)
 
 pub follow-all-spec : {M : Type 1} → statement M
-follow-all-spec = tie.close (tie.spec Inv-loop μ-loop loop-holds follow-requires (λ c. omega arith) (λ c. omega arith) loop-again same-length returns)
+follow-all-spec = tie.close (tie.spec Inv-loop μ-loop loop-holds follow-requires (λ c. omega arith) (λ c. omega arith) loop-again
+    (λ c. c .before .before .loop .inv .size) returns)

@@ -18,9 +18,6 @@ Inv-loop table t g k₀ k = Unfound (sameGroup g) (systemIn table .accepting) (g
 abbrev μ-loop : tie.MeasureT-loop
 μ-loop table t g k₀ k = t .accepting - k
 
-loop-holds : tie.Need-loop-holds Inv-loop μ-loop
-loop-holds c = record { same = refl }
-
 returns : tie.Need-returns Inv-loop μ-loop
 returns c =
     unfound-here (sameGroup (c .before .before .before .before .before .before .before .args .g)) (systemIn (c .before .before .before .before .before .before .before .args .table .now) .accepting) (groupOf [] 0) (c .before .before .before .before .before .loop .k) (omega (arith, accepting-count (c .before .before .before .before .before .before .before .args .table .now) (c .before .before .before .before .before .before .before .args .t) (c .before .before .before .before .before .before .before .pre))) (c .before .before .before .before .before .loop .inv)
@@ -36,5 +33,5 @@ returns-2 c =
     unfound-end (sameGroup (c .before .before .before .before .args .g)) (systemIn (c .before .before .before .before .args .table .now) .accepting) (groupOf [] 0) (c .before .before .loop .k) (omega (arith, accepting-count (c .before .before .before .before .args .table .now) (c .before .before .before .before .args .t) (c .before .before .before .before .pre), c .if1 .left)) (c .before .before .loop .inv)
 
 pub is-accepting-spec : {M : Type 1} → statement M
-is-accepting-spec = tie.close (tie.spec Inv-loop μ-loop loop-holds (λ c κs. search needs) (λ c κs. search needs) returns (λ c. omega arith) (λ c. omega arith) loop-again
-    returns-2)
+is-accepting-spec = tie.close (tie.spec Inv-loop μ-loop (λ c. record { same = refl }) (λ c κs. search needs) (λ c κs. search needs) returns (λ c. omega arith)
+    (λ c. omega arith) loop-again returns-2)

@@ -10,9 +10,6 @@ use borrow.Author.Needs.{needs}
 use Rattle.acceptance.proofs.is_read.Statement.{statement}
 use Rattle.acceptance.proofs.is_read.Tie as tie
 
-returns : tie.Need-returns
-returns c = rw (← c .before .transition-letter .ensures, ne-eqb _ _ (c .if1 .taken)) refl
-
 letter-bits-requires : tie.Need-letter-bits-requires
 letter-bits-requires c κs = (c .before .before .before .before .pre .0, (let l = transition-letter-in (c .before .before .before .before .args .table .now) (c .before .before .before .before .args .t) (c .before .before .before .before .pre .0) (c .before .before .before .before .args .k) (c .before .before .before .before .pre .1) in omega (arith, c .wide .ensures .0, c .before .before .transition-letter .ensures)))
 
@@ -25,4 +22,5 @@ returns-2 c =
     ∙ rw (← c .before .before .before .before .before .transition-letter .ensures, eq-eqb _ _ (c .before .before .before .before .if1 .left)) refl
 
 pub is-read-spec : {M : Type 1} → statement M
-is-read-spec = tie.close (tie.spec (λ c κs. search needs) returns (λ c κs. search needs) letter-bits-requires (λ c κs. search needs) (λ c κs. search needs) returns-2)
+is-read-spec = tie.close (tie.spec (λ c κs. search needs) (λ c. rw (← c .before .transition-letter .ensures, ne-eqb _ _ (c .if1 .taken)) refl) (λ c κs. search needs)
+    letter-bits-requires (λ c κs. search needs) (λ c κs. search needs) returns-2)

@@ -43,12 +43,9 @@ loop-again c =
           (e .1 ∙ ap (λ (l : List ℕ). nextMember l (m .n + 1)) (m .inv .1)) (e .2),
     )
 
-same-length : tie.Need-same-length Inv-loop μ-loop
-same-length c = c .before .loop .inv .0
-
 returns : tie.Need-returns Inv-loop μ-loop
 returns c = let a = c .before .before .before .before .before .before .before .args in collected-end (systemIn (a .table .now)) (presentIn (a .t)) (a .letter) (here (a .scratch .now)) (there (a .scratch .now)) (there (c .before .loop .scratch)) (c .before .loop .n) (c .loop-test .left) (c .before .loop .inv .2)
 
 pub read-members-spec : {M : Type 1} → statement M
 read-members-spec = tie.close (tie.spec Inv-loop μ-loop (λ c. omega arith) (λ c. omega arith) (λ c. omega arith) (λ c κs. search needs) loop-holds read-member-requires
-    loop-less loop-again same-length returns)
+    loop-less loop-again (λ c. c .before .loop .inv .0) returns)

@@ -25,12 +25,9 @@ loop-again c =
     let a = c .before .before .before .before .before .before .before .before .before .before .args in
     ahead-turn (systemIn (a .table .now)) (presentIn (a .t)) (a .word .now) (a .scratch .now) (c .before .before .before .before .before .before .loop .scratch) (c .before .before .read-letter .last .1 .1 .1 .0) (c .before .before .before .before .before .before .loop .i) (c .before .before .before .before .before .loop-test .taken) (c .before .before .read-letter .kept .1 .1 .1 .0) (c .before .before .before .before .before .before .loop .inv) (c .before .before .read-letter .ensures)
 
-same-length : tie.Need-same-length Inv-loop μ-loop
-same-length c = c .before .loop .inv .size
-
 returns : tie.Need-returns Inv-loop μ-loop
 returns c = let a = c .before .before .before .before .before .args in ahead-end (systemIn (a .table .now)) (presentIn (a .t)) (a .word .now) (a .scratch .now) (c .before .loop .scratch) (c .before .loop .i) (c .loop-test .left) (c .before .loop .inv)
 
 pub read-word-spec : {M : Type 1} → statement M
-read-word-spec = tie.close (tie.spec Inv-loop μ-loop loop-holds (λ c. omega arith) read-letter-requires (λ c. omega arith) (λ c. omega arith) loop-again same-length
-    returns)
+read-word-spec = tie.close (tie.spec Inv-loop μ-loop loop-holds (λ c. omega arith) read-letter-requires (λ c. omega arith) (λ c. omega arith) loop-again
+    (λ c. c .before .loop .inv .size) returns)

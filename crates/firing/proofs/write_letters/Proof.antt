@@ -27,9 +27,6 @@ loop-again c =
     let less : m .j < length w = omega (arith, c .before .before .before .written-count .ensures) in
     (omega arith, pasting-turn (s .args .pile .now) w (s .args .at) (m .pile) (m .j) (c .written-letter .result) (m .inv .1) (omega (arith, s .pre .2)) less (c .written-letter .ensures))
 
-same-length : tie.Need-same-length Inv-loop μ-loop
-same-length c = c .before .loop .inv .1 .size
-
 returns : tie.Need-returns Inv-loop μ-loop
 returns c =
     let s = c .before .before .before .before .before .args in
@@ -39,4 +36,4 @@ returns c =
 
 pub write-letters-spec : {M : Type 1} → statement M
 write-letters-spec = tie.close (tie.spec Inv-loop μ-loop (λ c κs. search needs) loop-holds (λ c κs. search needs) (λ c. omega arith) (λ c. omega arith) (λ c. omega arith)
-    (λ c. omega arith) loop-again same-length returns)
+    (λ c. omega arith) loop-again (λ c. c .before .loop .inv .1 .size) returns)

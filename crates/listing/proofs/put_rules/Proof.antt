@@ -14,20 +14,14 @@ Inv-loop out₀ at rules end₀ i₀ out end i = (i ≤ length rules) × Puts ou
 abbrev μ-loop : tie.MeasureT-loop
 μ-loop out₀ at rules end₀ i₀ out end i = length rules - i
 
-loop-holds : tie.Need-loop-holds Inv-loop μ-loop
-loop-holds c = (omega arith, puts-none _ _ _ (omega arith))
-
 loop-again : tie.Need-loop-again Inv-loop μ-loop
 loop-again c =
     let m = c .before .before .before .before .before .before .loop in
     (omega arith, puts-rule (c .before .before .before .before .before .before .before .before .before .args .rules .now) (m .i) (m .inv .1) (c .before .before .put-rule .ensures) (omega arith) (omega arith))
 
-same-length : tie.Need-same-length Inv-loop μ-loop
-same-length c = c .before .loop .inv .1 .size
-
 returns : tie.Need-returns Inv-loop μ-loop
 returns c = puts-rules (c .before .before .before .before .args .rules .now) (c .before .loop .i) (c .before .loop .inv .1) (omega arith)
 
 pub put-rules-spec : {M : Type 1} → statement M
-put-rules-spec = tie.close (tie.spec Inv-loop μ-loop loop-holds (λ c. omega arith) (λ c. omega arith) (λ c κs. omega arith) (λ c. omega arith) (λ c. omega arith)
-    loop-again same-length returns)
+put-rules-spec = tie.close (tie.spec Inv-loop μ-loop (λ c. (omega arith, puts-none _ _ _ (omega arith))) (λ c. omega arith) (λ c. omega arith) (λ c κs. omega arith)
+    (λ c. omega arith) (λ c. omega arith) loop-again (λ c. c .before .loop .inv .1 .size) returns)

@@ -9,30 +9,6 @@ use borrow.Author.Needs.{needs}
 use Rattle.numbers.proofs.put_eight.Statement.{statement}
 use Rattle.numbers.proofs.put_eight.Tie as tie
 
-slice-write-s-2 : tie.Need-slice-write-s-2
-slice-write-s-2 c = simp length-set (omega arith)
-
-slice-write-s-3 : tie.Need-slice-write-s-3
-slice-write-s-3 c = simp length-set (omega arith)
-
-slice-write-s-4 : tie.Need-slice-write-s-4
-slice-write-s-4 c = simp length-set (omega arith)
-
-slice-write-s-5 : tie.Need-slice-write-s-5
-slice-write-s-5 c = simp length-set (omega arith)
-
-slice-write-s-6 : tie.Need-slice-write-s-6
-slice-write-s-6 c = simp length-set (omega arith)
-
-slice-write-s-7 : tie.Need-slice-write-s-7
-slice-write-s-7 c = simp length-set (omega arith)
-
-slice-write-s-8 : tie.Need-slice-write-s-8
-slice-write-s-8 c = simp length-set (omega arith)
-
-same-length : tie.Need-same-length
-same-length c = simp length-set
-
 returns : tie.Need-returns
 unfolding withNumber
 returns c =
@@ -46,7 +22,8 @@ returns c =
     rw (add-one i, e2, e3, e4, e5, e6, e7)
 
 pub put-eight-spec : {M : Type 1} → statement M
-put-eight-spec = tie.close (tie.spec (λ c. search needs) (λ c. search needs) (λ c. search needs) (λ c. search needs) slice-write-s-2 (λ c. search needs)
-    (λ c. search needs) slice-write-s-3 (λ c. search needs) (λ c. search needs) slice-write-s-4 (λ c. search needs) (λ c. search needs) slice-write-s-5
-    (λ c. search needs) (λ c. search needs) slice-write-s-6 (λ c. search needs) (λ c. search needs) slice-write-s-7 (λ c. search needs) (λ c. search needs)
-    slice-write-s-8 same-length returns)
+put-eight-spec = tie.close (tie.spec (λ c. search needs) (λ c. search needs) (λ c. search needs) (λ c. search needs) (λ c. simp length-set (omega arith))
+    (λ c. search needs) (λ c. search needs) (λ c. simp length-set (omega arith)) (λ c. search needs) (λ c. search needs) (λ c. simp length-set (omega arith))
+    (λ c. search needs) (λ c. search needs) (λ c. simp length-set (omega arith)) (λ c. search needs) (λ c. search needs) (λ c. simp length-set (omega arith))
+    (λ c. search needs) (λ c. search needs) (λ c. simp length-set (omega arith)) (λ c. search needs) (λ c. search needs) (λ c. simp length-set (omega arith))
+    (λ c. simp length-set) returns)

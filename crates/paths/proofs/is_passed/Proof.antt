@@ -26,4 +26,5 @@ returns-2 c =
     rw (no, c .before .before .if1 .left) (c .contains2 .ensures ∙ ap (λ (n : ℕ). member (a .scratch .now) (n + a .x)) (c .before .slot2 .ensures .0))
 
 pub is-passed-spec : {M : Type 1} → statement M
-is-passed-spec = tie.close (tie.spec (λ c κs. search needs) (λ c. search needs) (λ c κs. search needs) returns (λ c κs. search needs) (λ c. search needs) (λ c κs. search needs) returns-2)
+is-passed-spec = tie.close (tie.spec (λ c κs. search needs) (λ c. search needs) (λ c κs. search needs) returns (λ c κs. search needs) (λ c. search needs)
+    (λ c κs. search needs) returns-2)

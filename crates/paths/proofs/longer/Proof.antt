@@ -16,4 +16,5 @@ returns c =
     ap (λ (x : ℕ). record { places = set (a .trail .places) (a .level) (a .r); steps = x }) steps
 
 pub longer-spec : {M : Type 1} → statement M
-longer-spec = tie.close (tie.spec (λ c. search needs) (λ c. search needs) (λ c. search needs) (λ c κs. search needs) (λ c κs. search needs) (λ c. search needs) (λ c κs. search needs) returns)
+longer-spec = tie.close (tie.spec (λ c. search needs) (λ c. search needs) (λ c. search needs) (λ c κs. search needs) (λ c κs. search needs) (λ c. search needs)
+    (λ c κs. search needs) returns)

@@ -4,9 +4,6 @@ use borrow.Author.Needs.{needs}
 use Rattle.reach.proofs.fill_log.Statement.{statement}
 use Rattle.reach.proofs.fill_log.Tie as tie
 
-enum-told : tie.Need-enum-told
-enum-told c = search needs
-
 clear-behind-requires : tie.Need-clear-behind-requires
 clear-behind-requires c κs =
     let at-count = c .before .before in
@@ -38,5 +35,5 @@ returns-2 c =
     limit-left (a .table .now) (a .t) (a .n) (a .log .now) (a .scratch .now) (p .0) (p .1) _ _ _ _ _ (at-count .count .given .1) (at-saturate .saturate .ensures) _ (at-clear-behind .clear-behind .ensures)
 
 pub fill-log-spec : {M : Type 1} → statement M
-fill-log-spec = tie.close (tie.spec (λ c κs. search needs) enum-told (λ c κs. search needs) (λ c κs. search needs) (λ c. search needs) clear-behind-requires
+fill-log-spec = tie.close (tie.spec (λ c κs. search needs) (λ c. search needs) (λ c κs. search needs) (λ c κs. search needs) (λ c. search needs) clear-behind-requires
     (λ c. search needs) (λ c. search needs) returns (λ c. search needs) (λ c. search needs) returns-2)

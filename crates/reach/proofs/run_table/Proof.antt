@@ -12,9 +12,6 @@ returns c =
     let p = entry .pre in
     runs-short (a .table .now) (a .log .now) (a .scratch .now) (a .t) p (a .page .now) (needs-more _ _ _ (c .before .records-in .ensures .0) (c .if1 .taken))
 
-enum-told : tie.Need-enum-told
-enum-told c = search needs
-
 figure-requires : tie.Need-figure-requires
 figure-requires c κs =
     let at-count = c .before .before .before .before in
@@ -56,5 +53,5 @@ returns-3 c =
     runs-limit (a .table .now) (a .log .now) (a .scratch .now) (a .t) p (a .page .now) (needs-no-more _ _ _ (at-records-in .records-in .ensures .0) (at-if1 .if1 .left)) _ _ _ (at-records-in .records-in .ensures .0) _ _ _ _ (left-limit (a .table .now) (a .t) _ (a .log .now) (a .scratch .now) _ _ _ (at-fill-log .fill-log .ensures) _ _ (at-count .count .given .1)) _ (at-run-limit .run-limit .ensures)
 
 pub run-table-spec : {M : Type 1} → statement M
-run-table-spec = tie.close (tie.spec (λ c κs. search needs) (λ c. search needs) (λ c. search needs) returns (λ c κs. search needs) enum-told (λ c. search needs)
+run-table-spec = tie.close (tie.spec (λ c κs. search needs) (λ c. search needs) (λ c. search needs) returns (λ c κs. search needs) (λ c. search needs) (λ c. search needs)
     figure-requires run-limit-requires (λ c. search needs) (λ c. search needs) returns-2 (λ c. search needs) (λ c. search needs) (λ c. search needs) returns-3)

@@ -13,12 +13,6 @@ Inv-loop out₀ at part place₀ j₀ out place j = (j ≤ length part) × (leng
 abbrev μ-loop : tie.MeasureT-loop
 μ-loop out₀ at part place₀ j₀ out place j = length part - j
 
-loop-holds : tie.Need-loop-holds Inv-loop μ-loop
-loop-holds c = (omega arith, refl)
-
-loop-again : tie.Need-loop-again Inv-loop μ-loop
-loop-again c = (omega arith, search needs)
-
 pub append-spec : {M : Type 1} → statement M
-append-spec = tie.close (tie.spec Inv-loop μ-loop loop-holds (λ c. omega arith) (λ c κs. search needs) (λ c. omega arith) (λ c. omega arith) loop-again
-    (λ c. search needs) (λ c. search needs))
+append-spec = tie.close (tie.spec Inv-loop μ-loop (λ c. (omega arith, refl)) (λ c. omega arith) (λ c κs. search needs) (λ c. omega arith) (λ c. omega arith)
+    (λ c. (omega arith, search needs)) (λ c. search needs) (λ c. search needs))

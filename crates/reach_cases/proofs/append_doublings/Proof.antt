@@ -13,12 +13,6 @@ Inv-loop out₀ at last place₀ i₀ out place i = (i ≤ last) × (length out 
 abbrev μ-loop : tie.MeasureT-loop
 μ-loop out₀ at last place₀ i₀ out place i = last - i
 
-loop-holds : tie.Need-loop-holds Inv-loop μ-loop
-loop-holds c = (omega arith, refl)
-
-loop-again : tie.Need-loop-again Inv-loop μ-loop
-loop-again c = (omega arith, search needs)
-
 pub append-doublings-spec : {M : Type 1} → statement M
-append-doublings-spec = tie.close (tie.spec Inv-loop μ-loop loop-holds (λ c. omega arith) (λ c κs. search needs) (λ c. omega arith) (λ c. omega arith) loop-again
-    (λ c. search needs) (λ c. search needs))
+append-doublings-spec = tie.close (tie.spec Inv-loop μ-loop (λ c. (omega arith, refl)) (λ c. omega arith) (λ c κs. search needs) (λ c. omega arith) (λ c. omega arith)
+    (λ c. (omega arith, search needs)) (λ c. search needs) (λ c. search needs))

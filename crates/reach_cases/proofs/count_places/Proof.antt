@@ -12,12 +12,6 @@ Inv-loop page x n₀ i₀ n i = (i ≤ length page) × (n ≤ i)
 abbrev μ-loop : tie.MeasureT-loop
 μ-loop page x n₀ i₀ n i = length page - i
 
-loop-holds : tie.Need-loop-holds Inv-loop μ-loop
-loop-holds c = (omega arith, omega arith)
-
-loop-again : tie.Need-loop-again Inv-loop μ-loop
-loop-again c = (omega arith, omega arith)
-
 pub count-places-spec : {M : Type 1} → statement M
-count-places-spec = tie.close (tie.spec Inv-loop μ-loop loop-holds (λ c. omega arith) (λ c. omega arith) (λ c κs. search needs) (λ c. omega arith) (λ c. omega arith)
-    (λ c. omega arith) loop-again (λ c. search needs))
+count-places-spec = tie.close (tie.spec Inv-loop μ-loop (λ c. (omega arith, omega arith)) (λ c. omega arith) (λ c. omega arith) (λ c κs. search needs) (λ c. omega arith)
+    (λ c. omega arith) (λ c. omega arith) (λ c. (omega arith, omega arith)) (λ c. search needs))

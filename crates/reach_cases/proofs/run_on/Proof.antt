@@ -6,11 +6,6 @@ use borrow.Author.Needs.{needs}
 use Rattle.reach_cases.proofs.run_on.Statement.{statement}
 use Rattle.reach_cases.proofs.run_on.Tie as tie
 
-slice-aggregate-run-in-parts : tie.Need-slice-aggregate-run-in-parts
-slice-aggregate-run-in-parts c = sym (length-replicate {0} {A = ℕ} 600 7)
-
-slice-aggregate-run-in-parts-2 : tie.Need-slice-aggregate-run-in-parts-2
-slice-aggregate-run-in-parts-2 c = sym (length-replicate {0} {A = ℕ} 34200 7)
-
 pub run-on-spec : {M : Type 1} → statement M
-run-on-spec = tie.close (tie.spec slice-aggregate-run-in-parts slice-aggregate-run-in-parts-2 (λ c κs. search needs) (λ c. search needs) (λ c. search needs))
+run-on-spec = tie.close (tie.spec (λ c. sym (length-replicate {0} {A = ℕ} 600 7)) (λ c. sym (length-replicate {0} {A = ℕ} 34200 7)) (λ c κs. search needs)
+    (λ c. search needs) (λ c. search needs))

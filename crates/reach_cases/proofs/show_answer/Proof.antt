@@ -6,11 +6,6 @@ use borrow.Author.Needs.{needs}
 use Rattle.reach_cases.proofs.show_answer.Statement.{statement}
 use Rattle.reach_cases.proofs.show_answer.Tie as tie
 
-slice-aggregate-answer-in-parts : tie.Need-slice-aggregate-answer-in-parts
-slice-aggregate-answer-in-parts c = sym (length-replicate {0} {A = ℕ} 600 7)
-
-slice-aggregate-answer-in-parts-2 : tie.Need-slice-aggregate-answer-in-parts-2
-slice-aggregate-answer-in-parts-2 c = sym (length-replicate {0} {A = ℕ} 34200 7)
-
 pub show-answer-spec : {M : Type 1} → statement M
-show-answer-spec = tie.close (tie.spec slice-aggregate-answer-in-parts slice-aggregate-answer-in-parts-2 (λ c κs. search needs) (λ c. search needs))
+show-answer-spec = tie.close (tie.spec (λ c. sym (length-replicate {0} {A = ℕ} 600 7)) (λ c. sym (length-replicate {0} {A = ℕ} 34200 7)) (λ c κs. search needs)
+    (λ c. search needs))

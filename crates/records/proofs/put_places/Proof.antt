@@ -17,9 +17,6 @@ Inv-loop out₀ path j₀ out j = (j ≤ writtenPlaces) × Front (pathBytes j pa
 abbrev μ-loop : tie.MeasureT-loop
 μ-loop out₀ path j₀ out j = writtenPlaces - j
 
-loop-holds : tie.Need-loop-holds Inv-loop μ-loop
-loop-holds c = (omega arith, front-none (c .before .args .out .now))
-
 put-two-requires : tie.Need-put-two-requires Inv-loop μ-loop
 put-two-requires c κs =
     let at-loop = c .before .before in
@@ -51,5 +48,5 @@ returns c =
     front-all (at-loop .loop .inv .1) (omega (arith, entry .pre, all)) ∙ ap (λ (k : ℕ). pathBytes k (entry .args .t2)) all
 
 pub put-places-spec : {M : Type 1} → statement M
-put-places-spec = tie.close (tie.spec Inv-loop μ-loop loop-holds (λ c. omega arith) (λ c. omega arith) (λ c. omega arith) put-two-requires (λ c. omega arith)
-    (λ c. omega arith) loop-again same-length returns)
+put-places-spec = tie.close (tie.spec Inv-loop μ-loop (λ c. (omega arith, front-none (c .before .args .out .now))) (λ c. omega arith) (λ c. omega arith)
+    (λ c. omega arith) put-two-requires (λ c. omega arith) (λ c. omega arith) loop-again same-length returns)

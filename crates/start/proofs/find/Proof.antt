@@ -19,11 +19,9 @@ write-path-requires c κs =
     let entry = at-fill-sets .before .before .before .before .before in
     (entry .pre .0, at-fill-sets .fill-sets .ensures, sym (at-is-accepted .is-accepted .ensures) ∙ c .before .if1 .taken)
 
-returns : tie.Need-returns
-returns c = λ round lent. sought-path (c .before .before .write-path .ensures round lent)
-
 returns-2 : tie.Need-returns-2
 returns-2 c = sought-none _ (c .before .before .before .before .before .fill-sets .ensures .right 0 (omega arith)) (sym (c .before .is-accepted .ensures) ∙ c .if1 .left)
 
 pub find-spec : {M : Type 1} → statement M
-find-spec = tie.close (tie.spec (λ c κs. search needs) is-accepted-requires write-path-requires (λ c. search needs) returns (λ c. search needs) returns-2)
+find-spec = tie.close (tie.spec (λ c κs. search needs) is-accepted-requires write-path-requires (λ c. search needs)
+    (λ c. λ round lent. sought-path (c .before .before .write-path .ensures round lent)) (λ c. search needs) returns-2)

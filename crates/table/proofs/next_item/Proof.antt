@@ -13,9 +13,6 @@ use Rattle.table.proofs.Steps.{step-end, step-refused, step-next, step-
 use Rattle.table.proofs.next_item.Statement.{statement}
 use Rattle.table.proofs.next_item.Tie as tie
 
-returns : tie.Need-returns
-returns c = step-end (c .before .before .args .bytes .now) (c .before .before .args .c) (c .if1 .taken)
-
 returns-2 : tie.Need-returns-2
 returns-2 c =
     let b = c .before .before .before .before .before .args .bytes .now in
@@ -69,5 +66,6 @@ returns-5 c =
     step-accepted b c′ (c .before .before .before .before .before .before .before .before .pre) r z (c .before .before .if3 .left) (c .before .if4 .left)
 
 pub next-item-spec : {M : Type 1} → statement M
-next-item-spec = tie.close (tie.spec returns (λ c. search needs) (λ c κs. search needs) returns-2 (λ c. search needs) body-length-requires add-next-2 advance-requires
-    returns-3 (λ c. search needs) (λ c. search needs) returns-4 returns-5)
+next-item-spec = tie.close (tie.spec (λ c. step-end (c .before .before .args .bytes .now) (c .before .before .args .c) (c .if1 .taken)) (λ c. search needs)
+    (λ c κs. search needs) returns-2 (λ c. search needs) body-length-requires add-next-2 advance-requires returns-3 (λ c. search needs) (λ c. search needs) returns-4
+    returns-5)

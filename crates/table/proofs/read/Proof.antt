@@ -15,12 +15,6 @@ Inv-loop bytes c₀ c = Going bytes c
 abbrev μ-loop : tie.MeasureT-loop
 μ-loop bytes c₀ c = length bytes - c .at
 
-loop-holds : tie.Need-loop-holds Inv-loop μ-loop
-loop-holds c = going-start (c .before .before .args .bytes .now) _ (rw (c .empty .ensures) refl)
-
-next-item-requires : tie.Need-next-item-requires Inv-loop μ-loop
-next-item-requires c κs = c .loop .inv .passed
-
 loop-less : tie.Need-loop-less Inv-loop μ-loop
 loop-less c =
     let e : c .before .before .before .next-item .result ≡ Next (c .before .n .given .0 .0) = c .before .n .given .1 in
@@ -44,4 +38,5 @@ returns c =
     going-end b (m .c) (m .inv) (c .before .p .given .0 .0) (c .before .before .before .next-item .ensures .done (c .before .p .given .0 .0) e)
 
 pub read-spec : {M : Type 1} → statement M
-read-spec = tie.close (tie.spec Inv-loop μ-loop (λ c κs. search needs) loop-holds next-item-requires (λ c. search needs) loop-less loop-again (λ c. search needs) returns)
+read-spec = tie.close (tie.spec Inv-loop μ-loop (λ c κs. search needs) (λ c. going-start (c .before .before .args .bytes .now) _ (rw (c .empty .ensures) refl))
+    (λ c κs. c .loop .inv .passed) (λ c. search needs) loop-less loop-again (λ c. search needs) returns)

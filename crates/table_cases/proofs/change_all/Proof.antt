@@ -13,12 +13,6 @@ Inv-loop out₀ list j₀ out j = (2 * j ≤ length list) × (length out ≡ len
 abbrev μ-loop : tie.MeasureT-loop
 μ-loop out₀ list j₀ out j = length list - j
 
-loop-holds : tie.Need-loop-holds Inv-loop μ-loop
-loop-holds c = (omega arith, refl)
-
-loop-again : tie.Need-loop-again Inv-loop μ-loop
-loop-again c = (omega arith, search needs)
-
 pub change-all-spec : {M : Type 1} → statement M
-change-all-spec = tie.close (tie.spec Inv-loop μ-loop loop-holds (λ c. omega arith) (λ c. omega arith) (λ c. omega arith) (λ c. omega arith) (λ c. omega arith)
-    (λ c κs. search needs) (λ c. omega arith) (λ c. omega arith) loop-again (λ c. search needs) (λ c. search needs))
+change-all-spec = tie.close (tie.spec Inv-loop μ-loop (λ c. (omega arith, refl)) (λ c. omega arith) (λ c. omega arith) (λ c. omega arith) (λ c. omega arith)
+    (λ c. omega arith) (λ c κs. search needs) (λ c. omega arith) (λ c. omega arith) (λ c. (omega arith, search needs)) (λ c. search needs) (λ c. search needs))

@@ -13,20 +13,13 @@ abbrev μ-loop : tie.MeasureT-loop
 loop-holds : tie.Need-loop-holds Inv-loop μ-loop
 loop-holds c = let a = c .before .before .args in pushing-start (a .log .now) (a .scratch .now) (a .top) (a .x)
 
-place-at-requires : tie.Need-place-at-requires Inv-loop μ-loop
-place-at-requires c κs = (c .before .before .before .before .pre .0, omega (arith, c .before .loop .inv .left))
-
 push-place-requires : tie.Need-push-place-requires Inv-loop μ-loop
 push-place-requires c κs = rw (c .before .place-at .ensures) (pushing-room (c .before .before .loop-test .taken) (c .before .before .before .before .before .before .pre .1) (c .before .before .before .loop .inv))
 
 loop-again : tie.Need-loop-again Inv-loop μ-loop
 loop-again c = pushing-turn (c .before .before .before .before .before .loop-test .taken) (c .before .before .before .before .before .before .loop .inv) (rw (c .before .before .before .before .place-at .ensures) at (c .before .before .push-place .ensures))
 
-same-length : tie.Need-same-length Inv-loop μ-loop
-same-length c = c .before .loop .inv .pushed .size
-
-returns : tie.Need-returns Inv-loop μ-loop
-returns c = pushing-end (c .loop-test .left) (c .before .loop .inv)
-
 pub push-path-spec : {M : Type 1} → statement M
-push-path-spec = tie.close (tie.spec Inv-loop μ-loop loop-holds (λ c. omega arith) place-at-requires push-place-requires (λ c. omega arith) loop-again same-length returns)
+push-path-spec = tie.close (tie.spec Inv-loop μ-loop loop-holds (λ c. omega arith)
+    (λ c κs. (c .before .before .before .before .pre .0, omega (arith, c .before .loop .inv .left))) push-place-requires (λ c. omega arith) loop-again
+    (λ c. c .before .loop .inv .pushed .size) (λ c. pushing-end (c .loop-test .left) (c .before .loop .inv)))

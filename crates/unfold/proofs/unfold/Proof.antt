@@ -52,12 +52,6 @@ cast-result c =
     let small : m .w .highest ≤ 3000064 = working-small (p .0) (a .scratch .now) (a .page .now) (a .top) (p .1) (p .2) (m .scratch) (m .page) (m .w) (m .inv) in
     omega arith
 
-same-length : tie.Need-same-length Inv-loop μ-loop
-same-length c = c .before .before .before .loop .inv .size
-
-same-length-2 : tie.Need-same-length-2 Inv-loop μ-loop
-same-length-2 c = c .before .before .before .loop .inv .going .size
-
 returns : tie.Need-returns Inv-loop μ-loop
 returns c =
     let a = c .before .before .before .before .before .before .before .before .args in
@@ -66,4 +60,5 @@ returns c =
     working-end (p .0) (a .scratch .now) (a .page .now) (a .top) (p .1) (p .2) (m .scratch) (m .page) (m .w) (c .before .if1 .left) (m .inv)
 
 pub unfold-spec : {M : Type 1} → statement M
-unfold-spec = tie.close (tie.spec Inv-loop μ-loop loop-holds work-one-requires loop-less loop-again cast-result same-length same-length-2 returns)
+unfold-spec = tie.close (tie.spec Inv-loop μ-loop loop-holds work-one-requires loop-less loop-again cast-result (λ c. c .before .before .before .loop .inv .size)
+    (λ c. c .before .before .before .loop .inv .going .size) returns)

@@ -6,9 +6,6 @@ use borrow.Author.Needs.{needs}
 use Rattle.verdict.proofs.stated_verdict.Statement.{statement}
 use Rattle.verdict.proofs.stated_verdict.Tie as tie
 
-enum-told : tie.Need-enum-told
-enum-told c = search needs
-
 returns : tie.Need-returns
 unfolding stated
 returns c = let a = c .before .before .args in sym (ap (λ (p : StartPath). stated p (a .transitions) (a .rounds)) (c .enum-told .given .1))
@@ -20,4 +17,4 @@ returns-2 c =
     sym (ap (λ (p : StartPath). stated p (a .transitions) (a .rounds)) (c .before .path .given .1))
 
 pub stated-verdict-spec : {M : Type 1} → statement M
-stated-verdict-spec = tie.close (tie.spec enum-told (λ c. search needs) returns returns-2)
+stated-verdict-spec = tie.close (tie.spec (λ c. search needs) (λ c. search needs) returns returns-2)

@@ -3,8 +3,5 @@ use mathlib.Core.Path.{refl}
 use Rattle.walk.proofs.halt_before.Statement.{statement}
 use Rattle.walk.proofs.halt_before.Tie as tie
 
-returns : tie.Need-returns
-returns c = refl
-
 pub halt-before-spec : {M : Type 1} → statement M
-halt-before-spec = tie.close (tie.spec returns)
+halt-before-spec = tie.close (tie.spec (λ c. refl))

@@ -10,9 +10,6 @@ use Rattle.walk.proofs.take_step.Tie as tie
 returns : tie.Need-returns
 returns c = step-none (c .before .before .before .args .table .now) (c .before .before .before .args .t) (c .before .before .before .pre .0) (c .before .before .before .args .n) (c .before .before .before .args .pile .now) (c .before .before .before .args .c) (c .if1 .taken)
 
-enum-told : tie.Need-enum-told
-enum-told c = search needs
-
 returns-2 : tie.Need-returns-2
 returns-2 c =
     let a = c .before .before .before .before .before .before .before .before .before .args in
@@ -32,5 +29,5 @@ returns-4 c =
     step-done (a .table .now) (a .t) (c .before .before .before .before .before .before .before .before .before .before .pre .0) (a .n) (a .pile .now) (a .c) (omega arith) (c .before .before .before .before .before .fire .last .1 .1 .1 .0) (c .before .d .given .0 .0) (c .before .before .before .before .before .before .before .before .before .before .pre .1) (rw e at (c .before .before .before .before .before .fire .ensures))
 
 pub take-step-spec : {M : Type 1} → statement M
-take-step-spec = tie.close (tie.spec returns (λ c κs. search needs) enum-told (λ c. search needs) returns-2 (λ c. search needs) (λ c. search needs) returns-3
+take-step-spec = tie.close (tie.spec returns (λ c κs. search needs) (λ c. search needs) (λ c. search needs) returns-2 (λ c. search needs) (λ c. search needs) returns-3
     (λ c. search needs) (λ c. search needs) returns-4)

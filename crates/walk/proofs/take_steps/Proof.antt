@@ -61,9 +61,6 @@ loop-again c =
     going-turn (a .table .now) (a .t) (a .list .now) (a .pile .now) (a .start) (m .pile) (at-take-step .take-step .last .1 .1 .1 .0) (m .c) (at-d .d .given .0 .0) (m .k) (at-wide-two .wide-two .result)
     (at-loop-test .loop-test .taken) (at-take-step .take-step .kept .1 .1 .1 .0) (at-wide-two .wide-two .ensures .0) (m .inv) (subst (StepTo (a .table .now) (a .t) (at-wide-two .wide-two .result) (m .c) (m .pile) (at-take-step .take-step .last .1 .1 .1 .0)) e (at-take-step .take-step .ensures))
 
-same-length-2 : tie.Need-same-length-2 Inv-loop μ-loop
-same-length-2 c = c .before .loop .inv .size
-
 returns-2 : tie.Need-returns-2 Inv-loop μ-loop
 returns-2 c =
     let at-loop = c .before in
@@ -73,4 +70,4 @@ returns-2 c =
 
 pub take-steps-spec : {M : Type 1} → statement M
 take-steps-spec = tie.close (tie.spec Inv-loop μ-loop loop-holds (λ c. omega arith) (λ c. omega arith) (λ c κs. search needs) take-step-requires (λ c. search needs)
-    same-length returns (λ c. search needs) (λ c. omega arith) (λ c. omega arith) loop-again same-length-2 returns-2)
+    same-length returns (λ c. search needs) (λ c. omega arith) (λ c. omega arith) loop-again (λ c. c .before .loop .inv .size) returns-2)

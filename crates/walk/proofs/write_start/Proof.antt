@@ -28,9 +28,6 @@ loop-again c =
           (omega (arith, pile-count (s .args .table .now) (s .args .t) (s .pre .0))) (c .pile-letter .ensures),
     )
 
-same-length : tie.Need-same-length Inv-loop μ-loop
-same-length c = c .before .loop .inv .1 .size
-
 returns : tie.Need-returns Inv-loop μ-loop
 returns c =
     let a = c .before .before .before .before .args in
@@ -39,4 +36,4 @@ returns c =
 
 pub write-start-spec : {M : Type 1} → statement M
 write-start-spec = tie.close (tie.spec Inv-loop μ-loop loop-holds (λ c κs. search needs) (λ c. omega arith) (λ c. omega arith) (λ c. omega arith) (λ c. omega arith)
-    loop-again same-length returns)
+    loop-again (λ c. c .before .loop .inv .1 .size) returns)

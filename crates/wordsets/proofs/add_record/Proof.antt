@@ -16,15 +16,6 @@ abbrev μ-loop : tie.MeasureT-loop
 loop-holds : tie.Need-loop-holds Inv-loop μ-loop
 loop-holds c = let a = c .before .args in (omega arith, record-start (a .from) (a .to) (a .y) (a .x) (a .rest) (a .words) (a .s .now))
 
-mul-add-row : tie.Need-mul-add-row Inv-loop μ-loop
-mul-add-row c = omega (arith, c .before .before .before .before .pre .1 .before)
-
-mul-add-row-2 : tie.Need-mul-add-row-2 Inv-loop μ-loop
-mul-add-row-2 c = omega (arith, c .before .before .before .before .pre .1 .before)
-
-add-add-row : tie.Need-add-add-row Inv-loop μ-loop
-add-add-row c = omega (arith, c .before .before .before .before .pre .1 .before)
-
 add-row-requires : tie.Need-add-row-requires Inv-loop μ-loop
 add-row-requires c κs =
     let sep = c .before .before .before .before .pre .0 in
@@ -41,9 +32,6 @@ loop-again c =
     let p = c .before .before .before .before .before .before .before .pre in
     (omega arith, record-turn (c .before .before .before .before .before .loop .common) (c .before .before .add-row .result) (p .0) (p .1) (c .before .before .before .before .loop-test .taken) (c .before .before .before .before .before .loop .inv .1) (c .before .before .add-row .ensures))
 
-same-length : tie.Need-same-length Inv-loop μ-loop
-same-length c = c .before .loop .inv .1 .outside .size
-
 returns : tie.Need-returns Inv-loop μ-loop
 returns c =
     let a = c .before .before .before .args in
@@ -52,5 +40,6 @@ returns c =
     subst (λ (k : ℕ). RecordAdded (a .from) (a .to) (a .y) (a .x) (a .rest) k (a .words) (a .s .now) (t .s) (t .common)) e (t .inv .1)
 
 pub add-record-spec : {M : Type 1} → statement M
-add-record-spec = tie.close (tie.spec Inv-loop μ-loop loop-holds mul-add-row mul-add-row-2 add-add-row add-row-requires (λ c. omega arith) (λ c. omega arith) loop-again
-    same-length returns)
+add-record-spec = tie.close (tie.spec Inv-loop μ-loop loop-holds (λ c. omega (arith, c .before .before .before .before .pre .1 .before))
+    (λ c. omega (arith, c .before .before .before .before .pre .1 .before)) (λ c. omega (arith, c .before .before .before .before .pre .1 .before)) add-row-requires
+    (λ c. omega arith) (λ c. omega arith) loop-again (λ c. c .before .loop .inv .1 .outside .size) returns)

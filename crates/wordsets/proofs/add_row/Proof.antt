@@ -27,9 +27,6 @@ add-word-requires c κs =
 loop-again : tie.Need-loop-again Inv-loop μ-loop
 loop-again c = (omega arith, rw (c .before .before .add-word .ensures .0, c .before .before .add-word .ensures .1) (adding-turn (c .before .before .before .before .before .before .before .pre .0) (c .before .before .before .before .loop-test .taken) (c .before .before .before .before .before .before .before .pre .2) (c .before .before .before .before .before .before .before .pre .3) (c .before .before .before .before .before .loop .inv .1)))
 
-same-length : tie.Need-same-length Inv-loop μ-loop
-same-length c = c .before .loop .inv .1 .row .outside .size
-
 returns : tie.Need-returns Inv-loop μ-loop
 returns c =
     let a = c .before .before .before .args in
@@ -39,4 +36,4 @@ returns c =
 
 pub add-row-spec : {M : Type 1} → statement M
 add-row-spec = tie.close (tie.spec Inv-loop μ-loop loop-holds (λ c. omega arith) (λ c. omega arith) (λ c. omega arith) (λ c. omega arith) (λ c. omega arith)
-    (λ c. omega arith) add-word-requires (λ c. omega arith) (λ c. omega arith) loop-again same-length returns)
+    (λ c. omega arith) add-word-requires (λ c. omega arith) (λ c. omega arith) loop-again (λ c. c .before .loop .inv .1 .row .outside .size) returns)

@@ -19,12 +19,6 @@ loop-holds : tie.Need-loop-holds Inv-loop μ-loop
 loop-holds c =
     let a = c .before .args in (omega arith, omega arith, fails-none (member (a .members .now)) (a .from))
 
-past-block-requires : tie.Need-past-block-requires Inv-loop μ-loop
-past-block-requires c κs = (omega arith, omega arith)
-
-next-in-byte-requires : tie.Need-next-in-byte-requires Inv-loop μ-loop
-next-in-byte-requires c κs = (omega arith, omega arith)
-
 returns : tie.Need-returns Inv-loop μ-loop
 returns c =
     let a = c .before .before .before .before .before .before .before .before .args in
@@ -68,5 +62,5 @@ returns-2 c =
     next-is (a .members .now) (a .from) (t .n) (record { low = t .inv .0; high = omega arith; passes = λ h. absurd (omega arith); fails = t .inv .2 })
 
 pub next-member-spec : {M : Type 1} → statement M
-next-member-spec = tie.close (tie.spec Inv-loop μ-loop loop-holds past-block-requires next-in-byte-requires (λ c κs. omega arith) returns (λ c. omega arith) loop-again
-    loop-less-2 loop-again-2 returns-2)
+next-member-spec = tie.close (tie.spec Inv-loop μ-loop loop-holds (λ c κs. (omega arith, omega arith)) (λ c κs. (omega arith, omega arith)) (λ c κs. omega arith) returns
+    (λ c. omega arith) loop-again loop-less-2 loop-again-2 returns-2)

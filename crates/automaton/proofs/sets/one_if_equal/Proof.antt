@@ -4,11 +4,5 @@ use native.Mathlib.Omega.{arith}
 use Rattle.automaton.proofs.sets.one_if_equal.Statement.{statement}
 use Rattle.automaton.proofs.sets.one_if_equal.Tie as tie
 
-returns : tie.Need-returns
-returns c = (simp (eq-eqb _ _ (c .if1 .taken)), omega arith)
-
-returns-2 : tie.Need-returns-2
-returns-2 c = (simp (ne-eqb _ _ (c .if1 .left)), omega arith)
-
 pub one-if-equal-spec : {M : Type 1} → statement M
-one-if-equal-spec = tie.close (tie.spec returns returns-2)
+one-if-equal-spec = tie.close (tie.spec (λ c. (simp (eq-eqb _ _ (c .if1 .taken)), omega arith)) (λ c. (simp (ne-eqb _ _ (c .if1 .left)), omega arith)))

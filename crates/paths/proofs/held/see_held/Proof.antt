@@ -18,12 +18,6 @@ abbrev μ-loop : tie.MeasureT-loop
 loop-holds : tie.Need-loop-holds Inv-loop μ-loop
 loop-holds c = let at-entry = c .before .before .before .before in holding-start _ _ _ _ _ _ (at-entry .pre .0) (at-entry .pre .1) _ (c .first-match .ensures)
 
-after-at-requires : tie.Need-after-at-requires Inv-loop μ-loop
-after-at-requires c κs = omega (arith, c .before .before .loop .inv .room .records, c .before .loop-test .taken)
-
-see-requires : tie.Need-see-requires Inv-loop μ-loop
-see-requires c κs = (c .number .ensures .1, omega (arith, c .before .before .before .before .loop .inv .room .room))
-
 next-match-requires : tie.Need-next-match-requires Inv-loop μ-loop
 next-match-requires c κs =
     let at-see = c .before .before .before in
@@ -46,12 +40,8 @@ loop-again c =
     let at-loop = c .before .before .before .before .before .before .before .before .before in
     holding-turn _ _ _ _ _ _ _ _ (at-loop .loop .inv) (c .before .before .before .before .before .before .before .before .loop-test .taken) _ (at-number .number .ensures .1) (at-number .number .ensures .0 ∙ ap packNumber (c .before .before .before .before .before .before .after-at .ensures)) _ (c .before .before .before .before .see .ensures) _ (c .next-match .ensures)
 
-same-length : tie.Need-same-length Inv-loop μ-loop
-same-length c = c .before .loop .inv .noted .scratch-length
-
-returns : tie.Need-returns Inv-loop μ-loop
-returns c = holding-end _ _ _ _ _ _ _ _ (omega arith) (c .before .loop .inv)
-
 pub see-held-spec : {M : Type 1} → statement M
-see-held-spec = tie.close (tie.spec Inv-loop μ-loop (λ c κs. search needs) loop-holds after-at-requires (λ c κs. search needs) see-requires next-match-requires loop-less
-    loop-again same-length returns)
+see-held-spec = tie.close (tie.spec Inv-loop μ-loop (λ c κs. search needs) loop-holds
+    (λ c κs. omega (arith, c .before .before .loop .inv .room .records, c .before .loop-test .taken)) (λ c κs. search needs)
+    (λ c κs. (c .number .ensures .1, omega (arith, c .before .before .before .before .loop .inv .room .room))) next-match-requires loop-less loop-again
+    (λ c. c .before .loop .inv .noted .scratch-length) (λ c. holding-end _ _ _ _ _ _ _ _ (omega arith) (c .before .loop .inv)))

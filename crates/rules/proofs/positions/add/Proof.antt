@@ -42,9 +42,6 @@ loop-again c =
           (sum-kept (a .from) (a .to) (l .i) (a .s .now) (l .s) (entry .pre .0) (l .inv .1) inside),
     )
 
-same-length : tie.Need-same-length Inv-loop μ-loop
-same-length c = c .before .loop .inv .1 .kept .size
-
 returns : tie.Need-returns Inv-loop μ-loop
 returns c =
     let at-loop = c .before in
@@ -54,4 +51,4 @@ returns c =
 
 pub add-spec : {M : Type 1} → statement M
 add-spec = tie.close (tie.spec Inv-loop μ-loop loop-holds (λ c. omega arith) slice-read-s (λ c. omega arith) slice-read-s-2 (λ c. omega arith) slice-write-s
-    (λ c. omega arith) (λ c. omega arith) loop-again same-length returns)
+    (λ c. omega arith) (λ c. omega arith) loop-again (λ c. c .before .loop .inv .1 .kept .size) returns)

@@ -13,12 +13,6 @@ Inv-loop s₀ at n i₀ s i = (i ≤ n) × BytesWritten at (λ _. 0) i s₀ s
 abbrev μ-loop : tie.MeasureT-loop
 μ-loop s₀ at n i₀ s i = n - i
 
-loop-holds : tie.Need-loop-holds Inv-loop μ-loop
-loop-holds c = (omega arith, bytes-none (c .args .at) (λ _. 0) (c .args .s .now))
-
-slice-write-s : tie.Need-slice-write-s Inv-loop μ-loop
-slice-write-s c = omega (arith, c .loop-test .taken, c .before .loop .inv .1 .kept .size, c .before .before .pre)
-
 loop-again : tie.Need-loop-again Inv-loop μ-loop
 loop-again c =
     let at-loop = c .before in
@@ -28,9 +22,6 @@ loop-again c =
       bytes-more (a .at) (λ _. 0) (at-loop .loop .i) (a .s .now) (at-loop .loop .s) (at-loop .loop .inv .1) (omega (arith, c .loop-test .taken, at-loop .loop .inv .1 .kept .size, entry .pre)) 0 refl,
     )
 
-same-length : tie.Need-same-length Inv-loop μ-loop
-same-length c = c .before .loop .inv .1 .kept .size
-
 returns : tie.Need-returns Inv-loop μ-loop
 returns c =
     let at-loop = c .before in
@@ -38,4 +29,6 @@ returns c =
     bytes-all (a .at) (λ _. 0) (at-loop .loop .i) (a .n) (a .s .now) (at-loop .loop .s) (at-loop .loop .inv .0) (c .loop-test .left) (at-loop .loop .inv .1)
 
 pub clear-spec : {M : Type 1} → statement M
-clear-spec = tie.close (tie.spec Inv-loop μ-loop loop-holds (λ c. omega arith) slice-write-s (λ c. omega arith) (λ c. omega arith) loop-again same-length returns)
+clear-spec = tie.close (tie.spec Inv-loop μ-loop (λ c. (omega arith, bytes-none (c .args .at) (λ _. 0) (c .args .s .now))) (λ c. omega arith)
+    (λ c. omega (arith, c .loop-test .taken, c .before .loop .inv .1 .kept .size, c .before .before .pre)) (λ c. omega arith) (λ c. omega arith) loop-again
+    (λ c. c .before .loop .inv .1 .kept .size) returns)

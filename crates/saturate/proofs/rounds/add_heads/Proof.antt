@@ -12,12 +12,6 @@ Inv-loop table t log₀ scratch₀ round at₀ log scratch at = HeadsAdded table
 abbrev μ-loop : tie.MeasureT-loop
 μ-loop table t log₀ scratch₀ round at₀ log scratch at = t .rules - at .position
 
-next-active-requires : tie.Need-next-active-requires Inv-loop μ-loop
-next-active-requires c κs = omega (arith, c .before .before .before .before .pre .room .room)
-
-loop-holds : tie.Need-loop-holds Inv-loop μ-loop
-loop-holds c = heads-start (c .before .before .before .before .before .pre) (c .next-active .ensures)
-
 add-head-requires : tie.Need-add-head-requires Inv-loop μ-loop
 add-head-requires c κs =
     let at-test = c .before .before in
@@ -38,9 +32,8 @@ loop-again c =
     let at-test = at-head .before .before .before in
     heads-turn (at-test .before .before .loop .inv) (at-test .before .goes-on .ensures) (at-test .if1 .taken) (at-head .add-head .ensures)
 
-returns : tie.Need-returns Inv-loop μ-loop
-returns c = heads-end (c .before .before .loop .inv) (c .before .goes-on .ensures) (c .if1 .left)
-
 pub add-heads-spec : {M : Type 1} → statement M
-add-heads-spec = tie.close (tie.spec Inv-loop μ-loop next-active-requires loop-holds (λ c κs. search needs) add-head-requires loop-less loop-again
-    (λ c. c .before .before .loop .inv .log-length) (λ c. c .before .before .loop .inv .scratch-length) returns)
+add-heads-spec = tie.close (tie.spec Inv-loop μ-loop (λ c κs. omega (arith, c .before .before .before .before .pre .room .room))
+    (λ c. heads-start (c .before .before .before .before .before .pre) (c .next-active .ensures)) (λ c κs. search needs) add-head-requires loop-less loop-again
+    (λ c. c .before .before .loop .inv .log-length) (λ c. c .before .before .loop .inv .scratch-length)
+    (λ c. heads-end (c .before .before .loop .inv) (c .before .goes-on .ensures) (c .if1 .left)))

@@ -34,9 +34,6 @@ loop-holds c =
     taking-start (a .log .now) (a .count) (setAt (a .scratch .now) (a .k + 1)) (a .a) (a .f) (a .k) (a .x) (before .result) (c .first-match .result) (a .scratch .now)
     (before .ensures .0 ∙ ap packed (at-numbered .numbered .ensures)) (c .first-match .ensures)
 
-own-after-requires : tie.Need-own-after-requires Inv-loop μ-loop
-own-after-requires c κs = omega (arith, c .before .before .before .before .before .before .before .before .pre .0 .room .records)
-
 add-record-requires : tie.Need-add-record-requires Inv-loop μ-loop
 add-record-requires c κs =
     let at-loop = c .before .before .before in
@@ -102,9 +99,6 @@ loop-again c =
     (only-next (p .1) (omega (arith, p .0 .room .room)) (m .inv .added .same)) (m .inv) (at-loop-test .loop-test .taken)
     (own-after .result) (own-after .ensures (processesOf (a .a .bits)) (p .2 .mask)) (add .result) (add .ensures) (c .next-match .result) (c .next-match .ensures)
 
-same-length-2 : tie.Need-same-length-2 Inv-loop μ-loop
-same-length-2 c = c .before .loop .inv .added .same .size
-
 returns-2 : tie.Need-returns-2 Inv-loop μ-loop
 returns-2 c =
     let a = c .before .before .before .before .before .before .before .before .args in
@@ -112,5 +106,6 @@ returns-2 c =
     taking-end (a .log .now) (a .count) (setAt (a .scratch .now) (a .k + 1)) (a .a) (a .f) (a .k) (a .x) _ (m .r) (a .scratch .now) (m .scratch) (c .loop-test .left) (m .inv)
 
 pub add-group-spec : {M : Type 1} → statement M
-add-group-spec = tie.close (tie.spec Inv-loop μ-loop (λ c κs. search needs) (λ c κs. search needs) first-match-requires loop-holds own-after-requires (λ c. omega arith)
-    (λ c. omega arith) (λ c. omega arith) add-record-requires same-length returns next-match-requires loop-less loop-again same-length-2 returns-2)
+add-group-spec = tie.close (tie.spec Inv-loop μ-loop (λ c κs. search needs) (λ c κs. search needs) first-match-requires loop-holds
+    (λ c κs. omega (arith, c .before .before .before .before .before .before .before .before .pre .0 .room .records)) (λ c. omega arith) (λ c. omega arith)
+    (λ c. omega arith) add-record-requires same-length returns next-match-requires loop-less loop-again (λ c. c .before .loop .inv .added .same .size) returns-2)

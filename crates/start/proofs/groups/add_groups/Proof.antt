@@ -35,9 +35,6 @@ next-under-requires c κs =
     let less = at-loop-test .loop-test .taken in
     (less, at-loop .loop .inv .under less)
 
-loop-less : tie.Need-loop-less Inv-loop μ-loop
-loop-less c = omega (arith, c .next-under .ensures .later, c .before .before .before .before .before .loop-test .taken)
-
 loop-again : tie.Need-loop-again Inv-loop μ-loop
 loop-again c =
     let at-add-group = c .before .before .before in
@@ -51,9 +48,6 @@ loop-again c =
     (subst (λ (members : List ℕ). Added (a .log .now) (a .count) members (a .a) (a .f) (λ (z : ℕ). z ≡ x) (a .k) (at-loop .loop .scratch) (added .last .1 .0))
     (only-next (p .1) (omega (arith, p .0 .room .room)) (at-loop .loop .inv .added .same)) (added .ensures))
 
-same-length : tie.Need-same-length Inv-loop μ-loop
-same-length c = c .before .loop .inv .added .same .size
-
 returns : tie.Need-returns Inv-loop μ-loop
 returns c =
     let a = c .before .before .before .before .args in
@@ -61,4 +55,6 @@ returns c =
     going-end (a .log .now) (a .count) (setAt (a .scratch .now) (a .k + 1)) (a .a) (a .f) (a .k) (t .x) (a .scratch .now) (t .scratch) (c .loop-test .left) (t .inv)
 
 pub add-groups-spec : {M : Type 1} → statement M
-add-groups-spec = tie.close (tie.spec Inv-loop μ-loop loop-holds add-group-requires next-under-requires loop-less loop-again same-length returns)
+add-groups-spec = tie.close (tie.spec Inv-loop μ-loop loop-holds add-group-requires next-under-requires
+    (λ c. omega (arith, c .next-under .ensures .later, c .before .before .before .before .before .loop-test .taken)) loop-again
+    (λ c. c .before .loop .inv .added .same .size) returns)

@@ -3,8 +3,5 @@ use borrow.Author.Needs.{needs}
 use Rattle.start.proofs.groups.extent.Statement.{statement}
 use Rattle.start.proofs.groups.extent.Tie as tie
 
-returns-2 : tie.Need-returns-2
-returns-2 c = rw (c .if1 .left)
-
 pub extent-spec : {M : Type 1} → statement M
-extent-spec = tie.close (tie.spec (λ c. search needs) (λ c. search needs) (λ c. search needs) returns-2)
+extent-spec = tie.close (tie.spec (λ c. search needs) (λ c. search needs) (λ c. search needs) (λ c. rw (c .if1 .left)))

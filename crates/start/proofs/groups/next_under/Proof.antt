@@ -12,9 +12,6 @@ Inv-loop top x k₀ k = Raising top x k
 abbrev μ-loop : tie.MeasureT-loop
 μ-loop top x k₀ k = 12 - k
 
-loop-holds : tie.Need-loop-holds Inv-loop μ-loop
-loop-holds c = raising-start (c .args .top) (c .args .x)
-
 add-result : tie.Need-add-result Inv-loop μ-loop
 add-result c = let a = c .before .before .before .args in omega (arith, div-le-self (a .x) (2 ^ c .before .before .loop .k))
 
@@ -34,5 +31,5 @@ returns-2 c =
     raising-end (start .args .top) (start .args .x) (c .before .loop .k) (start .pre .0) (c .loop-test .left) (c .before .loop .inv)
 
 pub next-under-spec : {M : Type 1} → statement M
-next-under-spec = tie.close (tie.spec Inv-loop μ-loop loop-holds (λ c. omega arith) (λ c. omega arith) add-result (λ c. omega arith) returns (λ c. omega arith)
-    (λ c. omega arith) loop-again returns-2)
+next-under-spec = tie.close (tie.spec Inv-loop μ-loop (λ c. raising-start (c .args .top) (c .args .x)) (λ c. omega arith) (λ c. omega arith) add-result (λ c. omega arith)
+    returns (λ c. omega arith) (λ c. omega arith) loop-again returns-2)

@@ -42,18 +42,13 @@ next-match-requires c κs =
     let less = at-loop-test .loop-test .taken in
     (p .0 .room, p .0 .ringed, less, at-loop .loop .inv .reading less)
 
-loop-less : tie.Need-loop-less Inv-loop μ-loop
-loop-less c = omega (arith, reads-later _ _ _ _ _ _ (c .next-match .ensures), c .before .before .before .loop-test .taken)
-
 loop-again : tie.Need-loop-again Inv-loop μ-loop
 loop-again c =
     let m = c .before .before .before .before .loop in
     let less = c .before .before .before .loop-test .taken in
     seeking-turn _ _ _ _ (m .inv) (c .next-match .result) (seeking-leads _ _ _ _ (m .inv) less ∙ sym (c .before .before .enters .ensures) ∙ c .before .if1 .left) (c .next-match .ensures) less
 
-returns-2 : tie.Need-returns-2 Inv-loop μ-loop
-returns-2 c = seeking-none _ _ _ _ (c .before .loop .inv) (c .loop-test .left)
-
 pub first-lead-spec : {M : Type 1} → statement M
 first-lead-spec = tie.close (tie.spec Inv-loop μ-loop (λ c κs. search needs) (λ c κs. search needs) first-match-requires loop-holds enters-requires returns
-    next-match-requires loop-less loop-again returns-2)
+    next-match-requires (λ c. omega (arith, reads-later _ _ _ _ _ _ (c .next-match .ensures), c .before .before .before .loop-test .taken)) loop-again
+    (λ c. seeking-none _ _ _ _ (c .before .loop .inv) (c .loop-test .left)))

@@ -13,9 +13,6 @@ Inv-loop table t log scratch₀ n count c₀ i₀ scratch c i = Tracing table t 
 abbrev μ-loop : tie.MeasureT-loop
 μ-loop table t log scratch₀ n count c₀ i₀ scratch c i = t .pile - i
 
-start-group-requires : tie.Need-start-group-requires Inv-loop μ-loop
-start-group-requires c κs = c .before .before .before .pre .0 .1 .holds
-
 loop-holds : tie.Need-loop-holds Inv-loop μ-loop
 loop-holds c =
     let entry = c .before .before .before .before in
@@ -39,9 +36,6 @@ loop-again c =
     let p = entry .pre in
     tracing-turn (table-modest (a .table .now) (a .t) (p .0 .1 .holds) .pile) (omega (arith, p .1 .linked .room .room)) (at-if1 .if1 .taken) (at-loop .loop .inv) (at-advance .advance .ensures)
 
-same-length : tie.Need-same-length Inv-loop μ-loop
-same-length c = c .before .before .loop .inv .same .size
-
 returns : tie.Need-returns Inv-loop μ-loop
 returns c =
     let at-loop = c .before .before in
@@ -50,5 +44,5 @@ returns c =
     tracing-end (pile-count (a .table .now) (a .t) (entry .pre .0 .1 .holds)) (c .if1 .left) (at-loop .loop .inv)
 
 pub write-path-spec : {M : Type 1} → statement M
-write-path-spec = tie.close (tie.spec Inv-loop μ-loop start-group-requires loop-holds advance-requires (λ c. omega arith) (λ c. omega arith) loop-again same-length
-    returns)
+write-path-spec = tie.close (tie.spec Inv-loop μ-loop (λ c κs. c .before .before .before .pre .0 .1 .holds) loop-holds advance-requires (λ c. omega arith)
+    (λ c. omega arith) loop-again (λ c. c .before .before .loop .inv .same .size) returns)

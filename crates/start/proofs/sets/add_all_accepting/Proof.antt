@@ -52,9 +52,6 @@ loop-again c =
     (at-loop-test .loop-test .taken)
     (own-below (processesOfTable (a .t)) (acceptingIn (a .table .now) (m .j - 1))) (m .inv))
 
-same-length : tie.Need-same-length Inv-loop μ-loop
-same-length c = c .before .loop .inv .same .size
-
 returns : tie.Need-returns Inv-loop μ-loop
 returns c =
     let a = c .before .before .before .before .args in
@@ -62,4 +59,5 @@ returns c =
     numbering-end (processesOfTable (a .t)) (systemIn (a .table .now) .accepting) (a .t .pile) (m .j) (a .scratch .now) (m .scratch) (c .loop-test .left) (m .inv)
 
 pub add-all-accepting-spec : {M : Type 1} → statement M
-add-all-accepting-spec = tie.close (tie.spec Inv-loop μ-loop loop-holds (λ c. omega arith) add-accepting-requires (λ c. omega arith) loop-again same-length returns)
+add-all-accepting-spec = tie.close (tie.spec Inv-loop μ-loop loop-holds (λ c. omega arith) add-accepting-requires (λ c. omega arith) loop-again
+    (λ c. c .before .loop .inv .same .size) returns)

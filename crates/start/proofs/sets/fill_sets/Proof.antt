@@ -46,14 +46,11 @@ loop-again c =
     let f = at-fill-set .fill-set .ensures in
     backwards-turn (at-loop-test .loop-test .taken) (table-modest (a .table .now) (a .t) (entry .pre .0 .1 .holds) .pile) (at-loop .loop .inv) (f .0) (f .1)
 
-same-length : tie.Need-same-length Inv-loop μ-loop
-same-length c = c .before .loop .inv .size ∙ c .before .before .before .before .fill-accepting .ensures .0 .size
-
 returns : tie.Need-returns Inv-loop μ-loop
 returns c =
     let m = c .before .loop in
     record { linked = m .inv .linked; right = λ k h. m .inv .right k (omega (arith, c .loop-test .left)) h }
 
 pub fill-sets-spec : {M : Type 1} → statement M
-fill-sets-spec = tie.close (tie.spec Inv-loop μ-loop fill-accepting-requires loop-holds (λ c. omega arith) fill-set-requires (λ c. omega arith) loop-again same-length
-    returns)
+fill-sets-spec = tie.close (tie.spec Inv-loop μ-loop fill-accepting-requires loop-holds (λ c. omega arith) fill-set-requires (λ c. omega arith) loop-again
+    (λ c. c .before .loop .inv .size ∙ c .before .before .before .before .fill-accepting .ensures .0 .size) returns)

@@ -17,9 +17,6 @@ Inv-loop part j₀ j = (j ≤ length part) × (allOf (λ a. eqb a 255) (take j p
 abbrev μ-loop : tie.MeasureT-loop
 μ-loop part j₀ j = length part - j
 
-loop-holds : tie.Need-loop-holds Inv-loop μ-loop
-loop-holds c = (omega arith, refl)
-
 returns : tie.Need-returns Inv-loop μ-loop
 returns c = sym (all-fails (λ a. eqb a 255) (c .before .before .before .before .args .part .now) (c .before .before .before .loop .j) (c .before .before .loop-test .taken) (ne-eqb _ _ (c .if1 .left)))
 
@@ -30,4 +27,4 @@ returns-2 : tie.Need-returns-2 Inv-loop μ-loop
 returns-2 c = sym (all-end (λ a. eqb a 255) (c .before .before .args .part .now) (c .before .loop .j) (c .loop-test .left) (c .before .loop .inv .1))
 
 pub are-spare-spec : {M : Type 1} → statement M
-are-spare-spec = tie.close (tie.spec Inv-loop μ-loop loop-holds (λ c. omega arith) returns (λ c. omega arith) (λ c. omega arith) loop-again returns-2)
+are-spare-spec = tie.close (tie.spec Inv-loop μ-loop (λ c. (omega arith, refl)) (λ c. omega arith) returns (λ c. omega arith) (λ c. omega arith) loop-again returns-2)

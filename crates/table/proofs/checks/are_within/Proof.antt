@@ -19,9 +19,6 @@ Inv-loop bytes t outer written j₀ j = (j ≤ length written) × (allOf (within
 abbrev μ-loop : tie.MeasureT-loop
 μ-loop bytes t outer written j₀ j = length written - j
 
-loop-holds : tie.Need-loop-holds Inv-loop μ-loop
-loop-holds c = (omega arith, refl)
-
 bits-of-requires : tie.Need-bits-of-requires Inv-loop μ-loop
 bits-of-requires c κs = (c .before .before .before .before .before .before .pre .0, rw (c .wide .ensures .0) (ltb-true _ _ (all-at (λ a. ltb a (c .before .before .before .before .before .before .args .t .letters)) (c .before .before .before .before .before .before .args .written .now) (c .before .before .before .loop .j) (c .before .before .loop-test .taken) (c .before .before .before .before .before .before .pre .1))))
 
@@ -35,5 +32,5 @@ returns-2 : tie.Need-returns-2 Inv-loop μ-loop
 returns-2 c = sym (all-end (within (c .before .before .before .before .args .bytes .now) (c .before .before .before .before .args .t) (c .before .before .before .before .args .outer)) (c .before .before .before .before .args .written .now) (c .before .loop .j) (c .loop-test .left) (c .before .loop .inv .1))
 
 pub are-within-spec : {M : Type 1} → statement M
-are-within-spec = tie.close (tie.spec Inv-loop μ-loop loop-holds (λ c. omega arith) (λ c κs. search needs) bits-of-requires (λ c κs. search needs) returns
+are-within-spec = tie.close (tie.spec Inv-loop μ-loop (λ c. (omega arith, refl)) (λ c. omega arith) (λ c κs. search needs) bits-of-requires (λ c κs. search needs) returns
     (λ c. omega arith) (λ c. omega arith) loop-again returns-2)

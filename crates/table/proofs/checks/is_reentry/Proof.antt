@@ -14,9 +14,6 @@ use Rattle.table.proofs.Values.{leaves-by, transition-letter}
 use Rattle.table.proofs.checks.is_reentry.Statement.{statement}
 use Rattle.table.proofs.checks.is_reentry.Tie as tie
 
-returns : tie.Need-returns
-returns c = rw (ne-eqb _ _ (c .if1 .taken))
-
 shared-slice-read-wide : tie.Need-shared-slice-read-wide
 shared-slice-read-wide c = let e : length (c .before .before .before .before .args .body .now) ≡ 9 = c .before .before .before .before .pre .0 .size ∙ ap bodyLength (c .before .if1 .left) in omega arith
 
@@ -43,4 +40,5 @@ returns-3 c =
     rw (eq-eqb _ _ (c .before .before .before .before .before .before .if1 .left), sym same ∙ sym (c .before .leaves-control .ensures) ∙ c .if2 .left)
 
 pub is-reentry-spec : {M : Type 1} → statement M
-is-reentry-spec = tie.close (tie.spec returns shared-slice-read-wide (λ c κs. search needs) bits-of-requires group-at-requires (λ c κs. search needs) returns-2 returns-3)
+is-reentry-spec = tie.close (tie.spec (λ c. rw (ne-eqb _ _ (c .if1 .taken))) shared-slice-read-wide (λ c κs. search needs) bits-of-requires group-at-requires
+    (λ c κs. search needs) returns-2 returns-3)

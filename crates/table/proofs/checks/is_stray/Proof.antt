@@ -17,9 +17,6 @@ use Rattle.table.proofs.Values.{rule-letter, rule-count, rule-written, 
 use Rattle.table.proofs.checks.is_stray.Statement.{statement}
 use Rattle.table.proofs.checks.is_stray.Tie as tie
 
-returns : tie.Need-returns
-returns c = rw (ne-eqb _ _ (c .if1 .taken))
-
 shared-slice-read-wide : tie.Need-shared-slice-read-wide
 shared-slice-read-wide c = let e : length (c .before .before .before .before .args .body .now) ≡ bodyLength 3 = c .before .before .before .before .pre .0 .size ∙ ap bodyLength (c .before .if1 .left) in omega arith
 
@@ -64,5 +61,5 @@ returns-3 c =
     rw (eq-eqb _ _ (c .before .before .before .before .before .before .before .before .if1 .left), sym same ∙ sym (c .before .are-within .ensures) ∙ c .if2 .left)
 
 pub is-stray-spec : {M : Type 1} → statement M
-is-stray-spec = tie.close (tie.spec returns shared-slice-read-wide (λ c κs. search needs) bits-of-requires shared-slice-read-wide-2 (λ c κs. search needs)
-    (λ c. search needs) (λ c. search needs) (λ c. search needs) part-are-within-end are-within-requires returns-2 returns-3)
+is-stray-spec = tie.close (tie.spec (λ c. rw (ne-eqb _ _ (c .if1 .taken))) shared-slice-read-wide (λ c κs. search needs) bits-of-requires shared-slice-read-wide-2
+    (λ c κs. search needs) (λ c. search needs) (λ c. search needs) (λ c. search needs) part-are-within-end are-within-requires returns-2 returns-3)

@@ -5,9 +5,6 @@ use Rattle.table.proofs.Tests.{four-0, four-1, four-2, four-3}
 use Rattle.table.proofs.checks.is_within.Statement.{statement}
 use Rattle.table.proofs.checks.is_within.Tie as tie
 
-returns : tie.Need-returns
-returns c = sym (four-0 _ _ _ _ (sym (c .before .implies .ensures) ∙ c .if1 .left))
-
 returns-2 : tie.Need-returns-2
 returns-2 c = sym (four-1 _ _ _ _ (sym (c .before .before .before .implies .ensures) ∙ c .before .before .if1 .taken) (sym (c .before .implies2 .ensures) ∙ c .if2 .left))
 
@@ -18,4 +15,5 @@ returns-4 : tie.Need-returns-4
 returns-4 c = c .implies4 .ensures ∙ sym (four-3 _ _ _ _ (sym (c .before .before .before .before .before .before .implies .ensures) ∙ c .before .before .before .before .before .if1 .taken) (sym (c .before .before .before .before .implies2 .ensures) ∙ c .before .before .before .if2 .taken) (sym (c .before .before .implies3 .ensures) ∙ c .before .if3 .taken))
 
 pub is-within-spec : {M : Type 1} → statement M
-is-within-spec = tie.close (tie.spec (λ c κs. search needs) returns (λ c κs. search needs) returns-2 (λ c κs. search needs) returns-3 (λ c κs. search needs) returns-4)
+is-within-spec = tie.close (tie.spec (λ c κs. search needs) (λ c. sym (four-0 _ _ _ _ (sym (c .before .implies .ensures) ∙ c .if1 .left))) (λ c κs. search needs)
+    returns-2 (λ c κs. search needs) returns-3 (λ c κs. search needs) returns-4)

@@ -4,8 +4,5 @@ use Rattle.table.proofs.Values.{powers}
 use Rattle.table.proofs.checks.power_of.Statement.{statement}
 use Rattle.table.proofs.checks.power_of.Tie as tie
 
-returns : tie.Need-returns
-returns c = powers (c .args .processes) (c .pre)
-
 pub power-of-spec : {M : Type 1} → statement M
-power-of-spec = tie.close (tie.spec (λ c. search needs) returns)
+power-of-spec = tie.close (tie.spec (λ c. search needs) (λ c. powers (c .args .processes) (c .pre)))

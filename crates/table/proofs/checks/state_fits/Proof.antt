@@ -3,11 +3,6 @@ use borrow.Author.Needs.{needs}
 use Rattle.table.proofs.checks.state_fits.Statement.{statement}
 use Rattle.table.proofs.checks.state_fits.Tie as tie
 
-returns : tie.Need-returns
-returns c = simp (c .before .before .if1 .taken, c .before .wide .ensures .0, c .bound-of .ensures)
-
-returns-2 : tie.Need-returns-2
-returns-2 c = simp (c .if1 .left)
-
 pub state-fits-spec : {M : Type 1} → statement M
-state-fits-spec = tie.close (tie.spec (λ c κs. search needs) (λ c κs. search needs) returns returns-2)
+state-fits-spec = tie.close (tie.spec (λ c κs. search needs) (λ c κs. search needs)
+    (λ c. simp (c .before .before .if1 .taken, c .before .wide .ensures .0, c .bound-of .ensures)) (λ c. simp (c .if1 .left)))

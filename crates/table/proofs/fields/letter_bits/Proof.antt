@@ -9,9 +9,6 @@ use Rattle.table.proofs.Layouts.{table-heads, loc-is, letter-body, bits
 use Rattle.table.proofs.fields.letter_bits.Statement.{statement}
 use Rattle.table.proofs.fields.letter_bits.Tie as tie
 
-bits-of-requires : tie.Need-bits-of-requires
-bits-of-requires c κs = (table-heads (c .before .args .bytes .now) (c .before .args .t) (c .before .pre .0), c .before .pre .1)
-
 returns : tie.Need-returns
 returns c =
     let x = c .before .before .args in
@@ -22,4 +19,4 @@ returns c =
     }
 
 pub letter-bits-spec : {M : Type 1} → statement M
-letter-bits-spec = tie.close (tie.spec bits-of-requires returns)
+letter-bits-spec = tie.close (tie.spec (λ c κs. (table-heads (c .before .args .bytes .now) (c .before .args .t) (c .before .pre .0), c .before .pre .1)) returns)

@@ -3,8 +3,5 @@ use borrow.Author.Needs.{needs}
 use Rattle.table.proofs.items.body_length.Statement.{statement}
 use Rattle.table.proofs.items.body_length.Tie as tie
 
-returns : tie.Need-returns
-returns c = rw (c .wide .ensures .0)
-
 pub body-length-spec : {M : Type 1} → statement M
-body-length-spec = tie.close (tie.spec (λ c κs. search needs) (λ c. search needs) (λ c. search needs) returns)
+body-length-spec = tie.close (tie.spec (λ c κs. search needs) (λ c. search needs) (λ c. search needs) (λ c. rw (c .wide .ensures .0)))

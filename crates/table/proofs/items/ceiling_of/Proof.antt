@@ -3,8 +3,5 @@ use borrow.Author.Needs.{needs}
 use Rattle.table.proofs.items.ceiling_of.Statement.{statement}
 use Rattle.table.proofs.items.ceiling_of.Tie as tie
 
-returns : tie.Need-returns
-returns c = rw (c .wide .ensures .0)
-
 pub ceiling-of-spec : {M : Type 1} → statement M
-ceiling-of-spec = tie.close (tie.spec (λ c κs. search needs) (λ c. search needs) (λ c. search needs) returns)
+ceiling-of-spec = tie.close (tie.spec (λ c κs. search needs) (λ c. search needs) (λ c. search needs) (λ c. rw (c .wide .ensures .0)))

@@ -25,9 +25,6 @@ returns c =
     let ts = ap (isTwin (itemsBefore b c′) k) (c .before .before .before .before .before .pre .3) in
     rw (vs ∙ sym (c .before .value-fits .ensures) ∙ c .if1 .left)
 
-is-stray-requires : tie.Need-is-stray-requires
-is-stray-requires c κs = (c .before .before .before .before .before .pre .4, sym (c .before .value-fits .ensures) ∙ c .if1 .taken)
-
 returns-2 : tie.Need-returns-2
 unfolding bodyRefusal
 returns-2 c =
@@ -84,4 +81,6 @@ returns-5 c =
     rw (vs ∙ sym (c .before .before .before .before .before .before .before .value-fits .ensures) ∙ c .before .before .before .before .before .before .if1 .taken, ss ∙ sym (c .before .before .before .before .before .is-stray .ensures) ∙ c .before .before .before .before .if2 .left, rs ∙ sym (c .before .before .before .is-reentry .ensures) ∙ c .before .before .if3 .left, ts ∙ sym (c .before .is-twin .ensures) ∙ c .if4 .left)
 
 pub check-body-spec : {M : Type 1} → statement M
-check-body-spec = tie.close (tie.spec (λ c κs. search needs) returns is-stray-requires returns-2 is-reentry-requires returns-3 (λ c κs. search needs) returns-4 returns-5)
+check-body-spec = tie.close (tie.spec (λ c κs. search needs) returns
+    (λ c κs. (c .before .before .before .before .before .pre .4, sym (c .before .value-fits .ensures) ∙ c .if1 .taken)) returns-2 is-reentry-requires returns-3
+    (λ c κs. search needs) returns-4 returns-5)

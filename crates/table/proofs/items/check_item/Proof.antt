@@ -19,9 +19,6 @@ returns : tie.Need-returns
 unfolding refusal
 returns c = rw (sym (c .before .is-stranger .ensures) ∙ c .if1 .taken)
 
-body-length-requires : tie.Need-body-length-requires
-body-length-requires c κs = kind-of (c .before .before .before .args .kind) (sym (c .before .is-stranger .ensures) ∙ c .if1 .left) .1
-
 ceiling-of-requires : tie.Need-ceiling-of-requires
 ceiling-of-requires c κs = kind-of (c .before .before .before .before .before .args .kind) (sym (c .before .before .before .is-stranger .ensures) ∙ c .before .before .if1 .left) .1
 
@@ -84,5 +81,6 @@ returns-3 c =
     c .check-body .ensures ∙ ap (bodyRefusal (itemsBefore b c′) k) e ∙ late-found (c .before .before .before .before .before .before .is-out-of-turn .result) (leb (c .before .before .before .before .before .ceiling-of .result) (c .before .before .before .before .count-of .result)) (leb (length b - c′ .at) (c .before .before .before .before .before .before .before .body-length .result)) (bodyRefusal (itemsBefore b c′) k (bodyAt b (bodyLength k) (c′ .at))) (sym (c .before .before .before .early-refusal .ensures) ∙ c .before .before .if2 .left) ∙ sym known
 
 pub check-item-spec : {M : Type 1} → statement M
-check-item-spec = tie.close (tie.spec (λ c κs. search needs) returns body-length-requires (λ c κs. search needs) ceiling-of-requires count-of-requires (λ c. search needs)
-    (λ c κs. search needs) returns-2 body-at-requires check-body-requires returns-3)
+check-item-spec = tie.close (tie.spec (λ c κs. search needs) returns
+    (λ c κs. kind-of (c .before .before .before .args .kind) (sym (c .before .is-stranger .ensures) ∙ c .if1 .left) .1) (λ c κs. search needs) ceiling-of-requires
+    count-of-requires (λ c. search needs) (λ c κs. search needs) returns-2 body-at-requires check-body-requires returns-3)

@@ -2,17 +2,6 @@
 use Rattle.table.proofs.items.early_refusal.Statement.{statement}
 use Rattle.table.proofs.items.early_refusal.Tie as tie
 
-returns : tie.Need-returns
-returns c = rw (c .if1 .taken)
-
-returns-2 : tie.Need-returns-2
-returns-2 c = rw (c .before .if1 .left, c .if2 .taken)
-
-returns-3 : tie.Need-returns-3
-returns-3 c = rw (c .before .before .if1 .left, c .before .if2 .left, c .if3 .taken)
-
-returns-4 : tie.Need-returns-4
-returns-4 c = rw (c .before .before .if1 .left, c .before .if2 .left, c .if3 .left)
-
 pub early-refusal-spec : {M : Type 1} → statement M
-early-refusal-spec = tie.close (tie.spec returns returns-2 returns-3 returns-4)
+early-refusal-spec = tie.close (tie.spec (λ c. rw (c .if1 .taken)) (λ c. rw (c .before .if1 .left, c .if2 .taken))
+    (λ c. rw (c .before .before .if1 .left, c .before .if2 .left, c .if3 .taken)) (λ c. rw (c .before .before .if1 .left, c .before .if2 .left, c .if3 .left)))

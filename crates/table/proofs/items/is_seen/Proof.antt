@@ -11,30 +11,15 @@ Inv-loop bytes size first count at place₀ left₀ place left = Left bytes size
 abbrev μ-loop : tie.MeasureT-loop
 μ-loop bytes size first count at place₀ left₀ place left = left
 
-loop-holds : tie.Need-loop-holds Inv-loop μ-loop
-loop-holds c = record { room = c .before .pre .0; same = refl }
-
-add-same-bytes-2 : tie.Need-add-same-bytes-2 Inv-loop μ-loop
-add-same-bytes-2 c = omega (arith, left-room (c .before .loop .inv) (c .loop-test .taken))
-
-same-bytes-requires : tie.Need-same-bytes-requires Inv-loop μ-loop
-same-bytes-requires c κs = omega (arith, left-room (c .before .loop .inv) (c .loop-test .taken))
-
 returns : tie.Need-returns Inv-loop μ-loop
 returns c = sym (left-found (c .before .before .before .loop .inv) (c .before .before .loop-test .taken) (sym (c .before .same-bytes .ensures) ∙ c .if1 .taken))
-
-add-place : tie.Need-add-place Inv-loop μ-loop
-add-place c = omega (arith, left-room (c .before .before .before .loop .inv) (c .before .before .loop-test .taken))
-
-add-place-2 : tie.Need-add-place-2 Inv-loop μ-loop
-add-place-2 c = omega (arith, left-room (c .before .before .before .loop .inv) (c .before .before .loop-test .taken))
 
 loop-again : tie.Need-loop-again Inv-loop μ-loop
 loop-again c = left-turn (c .before .before .before .loop .inv) (c .before .before .loop-test .taken) (sym (c .before .same-bytes .ensures) ∙ c .if1 .left)
 
-returns-2 : tie.Need-returns-2 Inv-loop μ-loop
-returns-2 c = sym (left-end (c .before .loop .inv) (c .loop-test .left))
-
 pub is-seen-spec : {M : Type 1} → statement M
-is-seen-spec = tie.close (tie.spec Inv-loop μ-loop loop-holds (λ c. omega arith) add-same-bytes-2 same-bytes-requires returns add-place add-place-2 (λ c. omega arith)
-    (λ c. omega arith) loop-again returns-2)
+is-seen-spec = tie.close (tie.spec Inv-loop μ-loop (λ c. record { room = c .before .pre .0; same = refl }) (λ c. omega arith)
+    (λ c. omega (arith, left-room (c .before .loop .inv) (c .loop-test .taken))) (λ c κs. omega (arith, left-room (c .before .loop .inv) (c .loop-test .taken))) returns
+    (λ c. omega (arith, left-room (c .before .before .before .loop .inv) (c .before .before .loop-test .taken)))
+    (λ c. omega (arith, left-room (c .before .before .before .loop .inv) (c .before .before .loop-test .taken))) (λ c. omega arith) (λ c. omega arith) loop-again
+    (λ c. sym (left-end (c .before .loop .inv) (c .loop-test .left))))

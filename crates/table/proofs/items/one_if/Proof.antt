@@ -5,11 +5,5 @@ use borrow.Author.Tests.{eq-eqb, ne-eqb}
 use Rattle.table.proofs.items.one_if.Statement.{statement}
 use Rattle.table.proofs.items.one_if.Tie as tie
 
-returns : tie.Need-returns
-returns c = (rw (ne-eqb _ _ (c .if1 .taken)) refl, omega arith)
-
-returns-2 : tie.Need-returns-2
-returns-2 c = (rw (eq-eqb _ _ (c .if1 .left)) refl, omega arith)
-
 pub one-if-spec : {M : Type 1} → statement M
-one-if-spec = tie.close (tie.spec returns returns-2)
+one-if-spec = tie.close (tie.spec (λ c. (rw (ne-eqb _ _ (c .if1 .taken)) refl, omega arith)) (λ c. (rw (eq-eqb _ _ (c .if1 .left)) refl, omega arith)))

@@ -16,9 +16,6 @@ Inv-loop bytes a b n from j₀ j = (j ≤ n) × (sameBytes (take j (drop a bytes
 abbrev μ-loop : tie.MeasureT-loop
 μ-loop bytes a b n from j₀ j = n - j
 
-loop-holds : tie.Need-loop-holds Inv-loop μ-loop
-loop-holds c = (c .pre .2, c .pre .3)
-
 returns : tie.Need-returns Inv-loop μ-loop
 returns c =
     let at-test = c .before .before .before in
@@ -46,5 +43,5 @@ returns-2 c =
     sym (rw e at (at-loop .loop .inv .1))
 
 pub same-from-spec : {M : Type 1} → statement M
-same-from-spec = tie.close (tie.spec Inv-loop μ-loop loop-holds (λ c. omega arith) (λ c. omega arith) (λ c. omega arith) (λ c. omega arith) returns (λ c. omega arith)
-    (λ c. omega arith) loop-again returns-2)
+same-from-spec = tie.close (tie.spec Inv-loop μ-loop (λ c. (c .pre .2, c .pre .3)) (λ c. omega arith) (λ c. omega arith) (λ c. omega arith) (λ c. omega arith) returns
+    (λ c. omega arith) (λ c. omega arith) loop-again returns-2)
