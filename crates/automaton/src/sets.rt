@@ -94,7 +94,7 @@ fn one_if_equal(x: u8, y: u8) -> u8
 }
 
 // How many of n bytes, from `at` on, are x. A count of one byte lets the machine look at many bytes at a time.
-pub fn count_equal(bytes: &[u8], at: usize, n: usize, x: u8) -> u8
+fn count_equal(bytes: &[u8], at: usize, n: usize, x: u8) -> u8
     requires { ⌜ (at + n ≤ length (now bytes)) × (n ≤ 255) ⌝ }
     ensures { λ r. ⌜ r ≡ countEqual (now (bytes .entry)) at n x ⌝ }
 {

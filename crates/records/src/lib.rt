@@ -1,6 +1,7 @@
 // The records of the log: one writer, which gets the log from its record's offset on, and a reader of each field by the record's number.
 use model::Group;
 use model::WRITTEN_PLACES;
+use numbers::group_at;
 use numbers::put_three;
 use numbers::put_two;
 use numbers::three_at;
@@ -10,13 +11,13 @@ ghost use mathlib.Core.List.{_∷_, _++_};
 ghost use Prim.Native.Nat.{_+_, _*_, _<_, _≤_};
 ghost use lib.ListN.{length, drop};
 ghost use Rattle.model.specs.Tables.{writtenPlaces};
-ghost use Rattle.model.specs.Records.{recordLength, groupBytes, pathBytes, groupAt, letterAt, beforeAt, afterAt, roundAt, ruleAt, placeAt, stepsAt};
+ghost use Rattle.model.specs.Records.{recordLength, groupBytes, pathBytes, letterAt, afterAt, roundAt, ruleAt, placeAt, stepsAt};
 ghost use Rattle.records.specs.Entries.{entryBytes, HasRecord, withEntry};
 
 // Where the fields of a record stand in it.
-const BEFORE: usize = 1;
+pub const BEFORE: usize = 1;
 
-const AFTER: usize = 5;
+pub const AFTER: usize = 5;
 
 const ROUND: usize = 9;
 
@@ -95,30 +96,11 @@ pub fn put_record(log: &mut [u8], n: usize, e: Entry)
     write_record(&mut log[at..], e);
 }
 
-fn group_at(s: &[u8], i: usize) -> Group
-    requires { ⌜ i + 4 ≤ length (now s) ⌝ }
-    ensures { λ r. ⌜ r ≡ groupAt (now (s .entry)) i ⌝ }
-{
-    Group {
-        s0: s[i],
-        s1: s[i + 1],
-        s2: s[i + 2],
-        s3: s[i + 3],
-    }
-}
-
 pub fn letter_at(log: &[u8], n: usize) -> u8
     requires { ⌜ HasRecord (now log) n ⌝ }
     ensures { λ r. ⌜ r ≡ letterAt (now (log .entry)) n ⌝ }
 {
     log[n * RECORD_LENGTH]
-}
-
-pub fn before_at(log: &[u8], n: usize) -> Group
-    requires { ⌜ HasRecord (now log) n ⌝ }
-    ensures { λ r. ⌜ r ≡ beforeAt (now (log .entry)) n ⌝ }
-{
-    group_at(log, n * RECORD_LENGTH + BEFORE)
 }
 
 pub fn after_at(log: &[u8], n: usize) -> Group

@@ -12,9 +12,9 @@ ghost use Rattle.table.specs.Places.{processesIn, lettersIn, boundIn, He
 use crate::Table;
 use crate::fields::bits_of;
 use crate::fields::bound_of;
-use crate::fields::group_at;
 use model::Group;
 use model::WRITTEN_PLACES;
+use numbers::group_at;
 use numbers::wide;
 
 // 2 to the power of a number of processes.

@@ -3,31 +3,19 @@ ghost use mathlib.Core.Path.{_≡_};
 ghost use mathlib.Core.List.{[], _∷_};
 ghost use Prim.Native.Nat.{_+_, _≤_, _<_};
 ghost use lib.ListN.{length, getD};
-ghost use Rattle.model.specs.Tables.{absent, byteOf, groupOf};
+ghost use Rattle.model.specs.Tables.{absent, byteOf};
 ghost use Rattle.table.specs.Places.{bodyAt, offset, bodyOf, counts, processesIn, lettersIn, Heads, Modest};
 ghost use Rattle.table.specs.Reading.{Holds, systemIn, ruleIn, transitionIn, acceptingIn, pileIn, statesIn, processAt, BitsOf};
 use crate::Table;
 use model::Group;
 use model::WRITTEN_PLACES;
+use numbers::group_at;
 use numbers::wide;
 
 // The bytes of a rule's body, and those of a whole rule.
 pub const RULE_BODY: usize = 10 + WRITTEN_PLACES;
 
 pub const RULE_ITEM: usize = 1 + RULE_BODY;
-
-// The group in the four bytes from `at` on.
-pub fn group_at(body: &[u8], at: usize) -> Group
-    requires { ⌜ at + 4 ≤ length (now body) ⌝ }
-    ensures { λ r. ⌜ r ≡ groupOf (now (body .entry)) at ⌝ }
-{
-    Group {
-        s0: body[at],
-        s1: body[at + 1],
-        s2: body[at + 2],
-        s3: body[at + 3],
-    }
-}
 
 // The body of the item at a place.
 pub fn body_at(bytes: &[u8], at: usize, size: usize) -> &[u8]

@@ -13,7 +13,6 @@ use crate::items::advance;
 use crate::items::body_length;
 use crate::items::check_item;
 pub use fields::accepting_group;
-pub use fields::group_at;
 pub use fields::letter_bits;
 pub use fields::local_states;
 pub use fields::pile_letter;
