@@ -5,12 +5,11 @@ use Prim.Native.Nat.{ℕ, _*_, _≤_, _<_}
 use lib.ListN.{length}
 use Rattle.model.specs.declared.Answered.{Answered}
 use Rattle.model.specs.declared.Ran.{Ran}
-use Rattle.model.specs.Calls.{AnswerOutcome, RunOutcome, answerFigures, runFigures, filled, zeros}
+use Rattle.model.specs.Calls.{AnswerOutcome, RunOutcome, answerFigures, runFigures, filled, scratchFor, zeros}
 use Rattle.model.specs.Log.{limit}
 use Rattle.model.specs.Records.{logBytes, recordLength}
 use Rattle.table.specs.declared.Table.{Table}
 use Rattle.table.specs.Reading.{systemIn}
-use Rattle.stack.specs.RoundLogs.{scratchFor}
 use Rattle.saturate.specs.declared.Saturated.{Saturated}
 use Rattle.saturate.specs.declared.Saturated.the-variants.{Limit, Full}
 use Rattle.verdict.specs.Verdicts.{Settled}

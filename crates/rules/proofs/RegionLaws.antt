@@ -12,9 +12,9 @@ use lib.ListN.{drop, getD, length, length-drop, length-set, set}
 use lib.Seq.{drop-set-add, getD-drop, getD-set-other, getD-set-same}
 use borrow.Author.Tests.{eqb-false, eqb-true}
 use Rattle.model.proofs.Tests.{by-test}
-use Rattle.automaton.specs.StateSets.{inserted, member}
+use Rattle.automaton.specs.StateSets.{Cleared, inserted, member}
 use Rattle.automaton.proofs.StateSets.{member-byte, member-inserted}
-use Rattle.rules.specs.Regions.{BytesWritten, KeptOutside, SetAdded, inSet, positionCeiling, setBytes, withPosition}
+use Rattle.rules.specs.Regions.{BytesWritten, KeptOutside, SetAdded, inSet, positionCeiling, positionBytes, withPosition}
 
 -- ---- regions
 pub kept-none : (at n : ℕ) (s : List ℕ) → KeptOutside at n s s
@@ -44,6 +44,13 @@ bytes-more at byte n s t w room v is = record {
   ];
 }
 
+-- bytes that are cleared are written with zeros
+pub bytes-cleared : (at n : ℕ) (s t : List ℕ) → Cleared at (at + n) s t → BytesWritten at (λ _. 0) n s t
+bytes-cleared at n s t w = record {
+  kept = record { size = w .size; outside = λ i d. ⊎-elim (λ h. w .before i h) (λ h. w .behind i h) d };
+  bytes = λ j l. w .zero (at + j) (omega arith) (omega arith);
+}
+
 -- the last one
 pub bytes-all : (at : ℕ) (byte : ℕ → ℕ) (i n : ℕ) (s t : List ℕ) → i ≤ n → n ≤ i → BytesWritten at byte i s t → BytesWritten at byte n s t
 bytes-all at byte i n s t a b w = let e : i ≡ n = omega arith in subst (λ (m : ℕ). BytesWritten at byte m s t) e w
@@ -61,7 +68,7 @@ pub in-same : (s t : List ℕ) (at p : ℕ) → getD t (at + p / 8) 0 ≡ getD s
 in-same s t at p e = in-byte t at p ∙ ap (λ (x : ℕ). eqb (x / 2 ^ (p % 8) % 2) 1) e ∙ sym (in-byte s at p)
 
 -- as one that lies outside of the bytes that changed
-pub in-kept : (at n : ℕ) (s t : List ℕ) (set p : ℕ) → KeptOutside at n s t → (set + setBytes ≤ at) ⊎ (at + n ≤ set) → p < positionCeiling → inSet t set p ≡ inSet s set p
+pub in-kept : (at n : ℕ) (s t : List ℕ) (set p : ℕ) → KeptOutside at n s t → (set + positionBytes ≤ at) ⊎ (at + n ≤ set) → p < positionCeiling → inSet t set p ≡ inSet s set p
 in-kept at n s t set p k d l = in-same s t set p (k .outside (set + p / 8) (⊎-elim (λ h. inl (omega arith)) (λ h. inr (omega arith)) d))
 
 -- a cleared set has none
@@ -70,11 +77,11 @@ unfolding inSet
 in-cleared s at p e = member-byte (drop at s) p (getD-drop at s (p / 8) 0 ∙ e)
 
 -- ---- a position more
-pub kept-put : (s : List ℕ) (at p : ℕ) → p < positionCeiling → KeptOutside at setBytes s (withPosition s at p)
+pub kept-put : (s : List ℕ) (at p : ℕ) → p < positionCeiling → KeptOutside at positionBytes s (withPosition s at p)
 unfolding withPosition
-kept-put s at p l = kept-set at setBytes (at + p / 8) (bitOr (getD s (at + p / 8) 0) (2 ^ (p % 8))) s (omega arith) (omega arith)
+kept-put s at p l = kept-set at positionBytes (at + p / 8) (bitOr (getD s (at + p / 8) 0) (2 ^ (p % 8))) s (omega arith) (omega arith)
 
-pub in-put : (s : List ℕ) (at p q : ℕ) → at + setBytes ≤ length s → p < positionCeiling → inSet (withPosition s at p) at q ≡ eqb q p || inSet s at q
+pub in-put : (s : List ℕ) (at p q : ℕ) → at + positionBytes ≤ length s → p < positionCeiling → inSet (withPosition s at p) at q ≡ eqb q p || inSet s at q
 unfolding inSet withPosition inserted
 in-put s at p q room l =
     let v = bitOr (getD s (at + p / 8) 0) (2 ^ (p % 8)) in
@@ -104,10 +111,10 @@ abbrev pub sumByte : List ℕ → ℕ → ℕ → ℕ → ℕ
 sumByte s from to j = bitOr (getD s (to + j) 0) (getD s (from + j) 0)
 
 -- it is as it was until it is written
-pub sum-kept : (from to i : ℕ) (s t : List ℕ) → to + setBytes ≤ from → BytesWritten to (sumByte s from to) i s t → i < setBytes → sumByte t from to i ≡ sumByte s from to i
+pub sum-kept : (from to i : ℕ) (s t : List ℕ) → to + positionBytes ≤ from → BytesWritten to (sumByte s from to) i s t → i < positionBytes → sumByte t from to i ≡ sumByte s from to i
 sum-kept from to i s t apart w l = ap₂ bitOr (w .kept .outside (to + i) (inr (omega arith))) (w .kept .outside (from + i) (inr (omega arith)))
 
-pub set-added : (from to : ℕ) (s t : List ℕ) → BytesWritten to (sumByte s from to) setBytes s t → SetAdded from to s t
+pub set-added : (from to : ℕ) (s t : List ℕ) → BytesWritten to (sumByte s from to) positionBytes s t → SetAdded from to s t
 set-added from to s t w = record {
   kept = w .kept;
   positions = λ p l. in-byte t to p ∙ ap (λ (x : ℕ). eqb (x / 2 ^ (p % 8) % 2) 1) (w .bytes (p / 8) (omega arith))

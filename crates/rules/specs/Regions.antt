@@ -23,9 +23,9 @@ pub record BytesWritten (at : ℕ) (byte : ℕ → ℕ) (n : ℕ) (s t : List �
   pub bytes : (j : ℕ) → j < n → getD t (at + j) 0 ≡ byte j
 
 -- ---- sets of positions
--- a set has 32 bytes, so 256 positions
-abbrev pub setBytes : ℕ
-setBytes = 32
+-- the bytes of a set, and the positions that it may have
+abbrev pub positionBytes : ℕ
+positionBytes = 32
 
 abbrev pub positionCeiling : ℕ
 positionCeiling = 256
@@ -40,5 +40,5 @@ withPosition s at p = set s (at + p / 8) (bitOr (getD s (at + p / 8) 0) (2 ^ (p 
 
 -- the set at `to` has got the positions of that at `from`
 pub record SetAdded (from to : ℕ) (s t : List ℕ) : Type 0 where
-  pub kept : KeptOutside to setBytes s t
+  pub kept : KeptOutside to positionBytes s t
   pub positions : (p : ℕ) → p < positionCeiling → inSet t to p ≡ inSet s to p || inSet s from p

@@ -10,7 +10,7 @@ use Rattle.table.specs.declared.Table.{Table}
 use Rattle.table.specs.Reading.{Holds, systemIn}
 use Rattle.scratch.specs.Regions.{activeAt, ringsAt}
 use Rattle.rings.specs.Rings.{Ringed}
-use Rattle.rules.specs.Regions.{KeptOutside, setBytes}
+use Rattle.rules.specs.Regions.{KeptOutside, positionBytes}
 use Rattle.rules.specs.Rules.{AllActive, Gathered, hasLetter, letterCeiling}
 use Rattle.heads.specs.Rounds.{Prepared, earlierLog}
 
@@ -37,7 +37,7 @@ FreshLetters log lo base letters = (i : ℕ) → lo ≤ i → i < base → hasLe
 
 -- the positions that the round looks at are active
 pub record Activated (t : Table) (number fresh : ℕ) (s s′ : List ℕ) : Type 0 where
-  pub kept : KeptOutside activeAt setBytes s s′
+  pub kept : KeptOutside activeAt positionBytes s s′
   pub first : number ≡ 1 → AllActive (t .rules) s s′
   pub later : (number ≡ 1 → ⊥) → Gathered fresh (t .letters) s s′
 

@@ -6,7 +6,7 @@ use Prim.Native.Nat.{ℕ, _+_, _-_, _*_, _<_, _≤_, min}
 use native.Mathlib.Decide.{ℕ-discrete}
 use native.Mathlib.Omega.{arith}
 use lib.ListN.{length, set, length-append}
-use Rattle.model.specs.Calls.{startPath}
+use Rattle.model.specs.Calls.{scratchFor, startPath}
 use Rattle.model.specs.Log.{Record, Path, recordAt, noNumber, stepsCap, limit, saturatedAt}
 use Rattle.model.specs.Systems.{System}
 use Rattle.model.specs.Tables.{ruleOf}
@@ -23,7 +23,7 @@ use Rattle.table.specs.Reading.{systemIn, ruleIn}
 use Rattle.table.proofs.Layouts.{table-modest, rules-count, pile-count, written-few}
 use Rattle.scratch.specs.Regions.{stackAt}
 use Rattle.stack.specs.StackNumbers.{numbersDown, stackOf}
-use Rattle.stack.specs.RoundLogs.{LimitLog, scratchFor}
+use Rattle.stack.specs.RoundLogs.{LimitLog}
 use Rattle.stack.proofs.Numbers.{length-down, stack-top}
 use Rattle.stack.proofs.RoundLogs.{holds-well-formed, holds-control, round-fits, round-reads, round-has, limit-earlier}
 use Rattle.unfold.specs.declared.Work.{Work}

@@ -17,7 +17,8 @@ ghost use lib.ListN.{length};
 ghost use Rattle.records.specs.Entries.{HasRecord};
 ghost use Rattle.table.specs.Reading.{Holds, systemIn};
 ghost use Rattle.stack.specs.StackNumbers.{stackOf};
-ghost use Rattle.stack.specs.RoundLogs.{LimitLog, scratchFor};
+ghost use Rattle.model.specs.Calls.{scratchFor};
+ghost use Rattle.stack.specs.RoundLogs.{LimitLog};
 ghost use Rattle.unfold.specs.Runs.{Unfoldable, Unfolded};
 ghost use Rattle.unfold.specs.Turns.{placed, places, StackRoom, Pushed, Replaceable, Replaced, Workable, Worked};
 

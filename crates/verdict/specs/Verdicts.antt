@@ -6,13 +6,13 @@ use Prim.Native.Nat.{ℕ, _≤_}
 use lib.ListN.{length}
 use Rattle.model.specs.declared.Answered.{Answered}
 use Rattle.model.specs.declared.Ran.{Ran}
-use Rattle.model.specs.Calls.{zeros, runVerdict, startPath, runRefusal, pageAfter}
+use Rattle.model.specs.Calls.{scratchFor, zeros, runVerdict, startPath, runRefusal, pageAfter}
 use Rattle.model.specs.Lists.{valueOr}
 use Rattle.model.specs.Log.{Path, limit, rounds}
 use Rattle.model.specs.Unfolding.{emitted, pathSteps}
 use Rattle.table.specs.declared.Table.{Table}
 use Rattle.table.specs.Reading.{systemIn}
-use Rattle.stack.specs.RoundLogs.{LimitLog, scratchFor}
+use Rattle.stack.specs.RoundLogs.{LimitLog}
 use Rattle.stack.specs.StackNumbers.{stackOf}
 use Rattle.start.specs.declared.StartPath.{StartPath}
 use Rattle.start.specs.declared.StartPath.the-variants.{NoPath, Found}

@@ -1,16 +1,16 @@
 -- The bytes of both sets are joined one after the other.
 use Prim.Native.Nat.{_-_, _≤_}
 use native.Mathlib.Omega.{arith}
-use Rattle.rules.specs.Regions.{BytesWritten, setBytes}
+use Rattle.rules.specs.Regions.{BytesWritten, positionBytes}
 use Rattle.rules.proofs.RegionLaws.{bytes-all, bytes-more, bytes-none, set-added, sum-kept, sumByte}
 use Rattle.rules.proofs.positions.add.Statement.{statement}
 use Rattle.rules.proofs.positions.add.Tie as tie
 
 abbrev Inv-loop : tie.InvT-loop
-Inv-loop s₀ from to i₀ s i = (i ≤ setBytes) × BytesWritten to (sumByte s₀ from to) i s₀ s
+Inv-loop s₀ from to i₀ s i = (i ≤ positionBytes) × BytesWritten to (sumByte s₀ from to) i s₀ s
 
 abbrev μ-loop : tie.MeasureT-loop
-μ-loop s₀ from to i₀ s i = setBytes - i
+μ-loop s₀ from to i₀ s i = positionBytes - i
 
 loop-holds : tie.Need-loop-holds Inv-loop μ-loop
 loop-holds c = let a = c .args in (omega arith, bytes-none (a .to) (sumByte (a .s .now) (a .from) (a .to)) (a .s .now))
@@ -46,7 +46,7 @@ returns : tie.Need-returns Inv-loop μ-loop
 returns c =
     let at-loop = c .before in
     let a = at-loop .before .args in
-    let all = bytes-all (a .to) (sumByte (a .s .now) (a .from) (a .to)) (at-loop .loop .i) setBytes (a .s .now) (at-loop .loop .s) (at-loop .loop .inv .0) (c .loop-test .left) (at-loop .loop .inv .1) in
+    let all = bytes-all (a .to) (sumByte (a .s .now) (a .from) (a .to)) (at-loop .loop .i) positionBytes (a .s .now) (at-loop .loop .s) (at-loop .loop .inv .0) (c .loop-test .left) (at-loop .loop .inv .1) in
     set-added (a .from) (a .to) (a .s .now) (at-loop .loop .s) all
 
 pub add-spec : {M : Type 1} → statement M
