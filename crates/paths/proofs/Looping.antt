@@ -86,7 +86,7 @@ looping-start log₀ s₀ job level state found trail count x letter mask g r re
       going = going-start job level state found trail count log₀ s₀ ready stands more low few r (q ∙ ap₂ (λ (a h : ℕ). firstFrom (recordReads log₀ a h) (firstTried job level found) (job .base - firstTried job level found)) l key-is);
     }
 
-module _ (log₀ s₀ : List ℕ) (job : Job) (level state : ℕ) (found : Bool) (trail : Trail) (count x letter mask g base n : ℕ) (log s : List ℕ) (total r : ℕ)
+module _ {log₀ s₀ : List ℕ} {job : Job} {level state : ℕ} {found : Bool} {trail : Trail} {count x letter mask g base n : ℕ} {log s : List ℕ} {total r : ℕ}
     (o : Looping log₀ s₀ job level state found trail count x letter mask g base n log s total r) where
   pub looping-ready : Searchable job log s
   looping-ready = going-ready job level state found trail count log₀ s₀ (o .ready) (o .stands) (o .more) (o .low) log s total r (o .going)
@@ -112,23 +112,31 @@ module _ (log₀ s₀ : List ℕ) (job : Job) (level state : ℕ) (found : Bool)
   pub looping-record : r < base → HasRecord log r
   looping-record h = omega (arith, o .is-base, looping-ready .room .records)
 
-  next-is : r < base → (next : ℕ) → next ≡ mergedBits mask (packedAfter log r) state → next ≡ mergedBits (getD (job .masks) level 0) (packedAfter log r) state
-  next-is h next e = e ∙ ap (λ (m : ℕ). mergedBits m (packedAfter log r) state) (o .is-mask)
+  -- the states behind record r
+  module _ (h : r < base) {after next : ℕ} {new : Bool} {on : Trail} (a : after ≡ packedAfter log r) (e : next ≡ mergedBits mask after state) (f : new ≡ (found || leb (job .lo) r)) (t : on ≡ longerTrail log trail level r) where
+    next-is : next ≡ mergedBits (getD (job .masks) level 0) (packedAfter log r) state
+    next-is = e ∙ ap₂ (λ (m y : ℕ). mergedBits m y state) (o .is-mask) a
 
-  module _ (h : r < base) (next : ℕ) (new : Bool) (on : Trail) (e : next ≡ mergedBits mask (packedAfter log r) state) (f : new ≡ (found || leb (job .lo) r)) (t : on ≡ longerTrail log trail level r) where
     pub looping-stands : Standing job log (level + 1) next on
     looping-stands =
         subst (λ (k : ℕ). Standing job log k next on) (sym (add-one level))
-        (subst (λ (y : ℕ). Standing job log (suc level) y on) (sym (next-is h next e))
+        (subst (λ (y : ℕ). Standing job log (suc level) y on) (sym next-is)
         (subst (λ (y : Trail). Standing job log (suc level) (mergedBits (getD (job .masks) level 0) (packedAfter log r) state) y) (sym t)
         (going-stands job level state found trail count log₀ s₀ (o .ready) (o .stands) (o .more) (o .low) log s total r (o .going) (below-base h))))
+
+    -- record r reads the last letter
+    pub last-stands : level + 1 ≡ job .count → Standing job log (job .count) next on
+    last-stands w = subst (λ (k : ℕ). Standing job log k next on) w looping-stands
+
+    pub last-explored : level + 1 ≡ job .count → {total′ : ℕ} {log′ s′ : List ℕ} → Searched job (arrivals job new next on) total log s total′ log′ s′ → Explored job (level + 1) next new on total log s total′ log′ s′
+    last-explored w d = explored-end job (level + 1) next new on total log s _ _ _ looping-ready w d
 
     module _ (total′ : ℕ) (log′ s′ : List ℕ) (d : Explored job (level + 1) next new on total log s total′ log′ s′) where
       searched : Searched job (by-record job level state found trail count log₀ s₀ (o .ready) (o .stands) (o .more) (o .low) log s total r (o .going) (below-base h)) total log s total′ log′ s′
       searched =
           subst (λ (y : Trail). Explored job (suc level) (mergedBits (getD (job .masks) level 0) (packedAfter log r) state) (found || leb (job .lo) r) y total log s total′ log′ s′) t
           (subst (λ (b : Bool). Explored job (suc level) (mergedBits (getD (job .masks) level 0) (packedAfter log r) state) b on total log s total′ log′ s′) f
-          (subst (λ (y : ℕ). Explored job (suc level) y new on total log s total′ log′ s′) (next-is h next e) (subst (λ (k : ℕ). Explored job k next new on total log s total′ log′ s′) (add-one level) d)))
+          (subst (λ (y : ℕ). Explored job (suc level) y new on total log s total′ log′ s′) next-is (subst (λ (k : ℕ). Explored job k next new on total log s total′ log′ s′) (add-one level) d)))
 
       pub looping-again : (r′ : ℕ) → r′ ≡ firstFrom (recordReads log′ letter g) (r + 1) (base - (r + 1)) → Looping log₀ s₀ job level state found trail count x letter mask g base n log′ s′ total′ r′
       looping-again r′ y = record {
@@ -151,19 +159,17 @@ module _ (log₀ s₀ : List ℕ) (job : Job) (level state : ℕ) (found : Bool)
       again : Looping log₀ s₀ job level state found trail count x letter mask g base n log′ s′ total′ (firstFrom (recordReads log′ letter g) (r + 1) (base - (r + 1)))
       again = looping-again (firstFrom (recordReads log′ letter g) (r + 1) (base - (r + 1))) refl
 
-      after : Searchable job log′ s′
-      after = going-ready job level state found trail count log₀ s₀ (again .ready) (again .stands) (again .more) (again .low) log′ s′ total′ (firstFrom (recordReads log′ letter g) (r + 1) (base - (r + 1))) (again .going)
+      ready-again : Searchable job log′ s′
+      ready-again = going-ready job level state found trail count log₀ s₀ (again .ready) (again .stands) (again .more) (again .low) log′ s′ total′ (firstFrom (recordReads log′ letter g) (r + 1) (base - (r + 1))) (again .going)
 
-      pub next-room : RingRoom log′ base n ringsAt s′
-      next-room = rw (o .is-base, o .is-n) (after .room)
-
-      pub next-ringed : Ringed log′ base n ringsAt s′
-      next-ringed = rw (o .is-base, o .is-n) (after .ringed)
-
-      pub next-reads : recordReads log′ letter g r ≡ true
-      next-reads =
-          reads-same log₀ log′ (job .base) (earlier job level state found trail count log₀ s₀ (again .ready) (again .stands) (again .more) (again .low) log′ s′ total′ (firstFrom (recordReads log′ letter g) (r + 1) (base - (r + 1))) (again .going)) letter g r (below-base h)
-          ∙ ap₂ (λ (a k : ℕ). recordReads log₀ a k r) (o .is-letter) (o .is-key) ∙ o .going .reads (below-base h)
+      pub next-requires : RingRoom log′ base n ringsAt s′ × Ringed log′ base n ringsAt s′ × (r < base) × (recordReads log′ letter g r ≡ true)
+      next-requires = (
+        rw (o .is-base, o .is-n) (ready-again .room),
+        rw (o .is-base, o .is-n) (ready-again .ringed),
+        h,
+        reads-same log₀ log′ (job .base) (earlier job level state found trail count log₀ s₀ (again .ready) (again .stands) (again .more) (again .low) log′ s′ total′ (firstFrom (recordReads log′ letter g) (r + 1) (base - (r + 1))) (again .going)) letter g r (below-base h)
+            ∙ ap₂ (λ (a k : ℕ). recordReads log₀ a k r) (o .is-letter) (o .is-key) ∙ o .going .reads (below-base h),
+      )
 
   -- ---- no record is left
   pub looping-end : base ≤ r → (s′ : List ℕ) → s′ ≡ withPassed s level found x → Explored job level state found trail count log₀ s₀ total log s′

@@ -242,7 +242,11 @@ pub fn explore(
         let next = merged(mask, after_at(log, r), state);
         let new = is_fresh(job, found, r);
         let on = longer(log, trail, level, r);
-        total = explore(log, scratch, job, level + 1, next, new, on, total);
+        if level + 1 == width {
+            total = arrive(log, scratch, job, next, new, on, total);
+        } else {
+            total = explore(log, scratch, job, level + 1, next, new, on, total);
+        }
         r = next_match(log, scratch, RINGS, n, base, r, letter, g);
     }
     pass(scratch, level, found, x);

@@ -1,12 +1,12 @@
 -- The search from a state: at the word's end it arrives, a state that was passed is left, else it goes on by each record in turn.
-use mathlib.Core.Path.{ap, refl, subst, sym, _∙_}
+use mathlib.Core.Path.{refl, subst, sym, _∙_}
+use mathlib.Core.Logic.{⊎-elim}
 use Prim.Native.Nat.{ℕ, _<_, _-_}
 use native.Mathlib.Omega.{arith}
 use Rattle.automaton.proofs.StateSets.{first-at}
-use Rattle.packs.specs.Packs.{mergedBits}
 use Rattle.paths.specs.Jobs.{Standing}
 use Rattle.paths.proofs.Arriving.{searched-log}
-use Rattle.paths.proofs.Looping.{Looping, explored-end, explored-passed, looping-again, looping-count, looping-end, looping-level, looping-log, looping-pass, looping-ready, looping-record, looping-scratch, looping-stands, looping-start, next-reads, next-ringed, next-room}
+use Rattle.paths.proofs.Looping.{Looping, explored-end, explored-passed, last-explored, last-stands, looping-again, looping-count, looping-end, looping-level, looping-log, looping-pass, looping-ready, looping-record, looping-scratch, looping-stands, looping-start, next-requires}
 use borrow.Author.Needs.{needs}
 use borrow.Fn.Kinds.{In}
 use borrow.Fn.PlainCycle.{Measures, is, falls, and}
@@ -111,37 +111,51 @@ pub +explore-spec : {M : Type 1} → statement M
     let a = start .args in
     let p = start .pre .1 in
     looping-start (a .log .now) (a .scratch .now) (a .job) (a .level) (a .state) (a .found) (a .trail) (a .count) _ _ _ _ _ (p .0) (p .1) (p .2) (p .3) (c .before .before .before .before .before .before .before .before .before .before .if1 .left) (c .before .before .before .before .before .before .before .before .before .number .ensures .0) (c .before .before .before .before .before .letter-of .ensures) (c .before .before .before .before .mask-of .ensures) (c .before .before .before .restricted .ensures) (c .first-try .ensures))
-    (λ c κs. looping-record _ _ _ _ _ _ _ _ _ _ _ _ _ _ _ _ _ _ (c .before .before .loop .inv) (c .before .loop-test .taken))
+    (λ c κs. looping-record (c .before .before .loop .inv) (c .before .loop-test .taken))
     (λ c κs. search needs)
     (λ c κs. search needs)
     (λ c κs.
     let o = c .before .before .before .before .before .before .loop .inv in
     let h = c .before .before .before .before .before .loop-test .taken in
-    (looping-level _ _ _ _ _ _ _ _ _ _ _ _ _ _ _ _ _ _ o, omega (arith, h, o .is-base, o .ready .room .fits, o .ready .room .short), looping-record _ _ _ _ _ _ _ _ _ _ _ _ _ _ _ _ _ _ o h, omega (arith, o .stands .steps)))
-    (λ c. omega (arith, looping-level _ _ _ _ _ _ _ _ _ _ _ _ _ _ _ _ _ _ (c .before .before .before .before .before .before .before .before .before .loop .inv)))
+    (looping-level o, omega (arith, h, o .is-base, o .ready .room .fits, o .ready .room .short), looping-record o h, omega (arith, o .stands .steps)))
+    (λ c. omega (arith, looping-level (c .before .before .before .before .before .before .before .loop .inv)))
     (λ c κs.
-    let at-loop = c .before .before .before .before .before .before .before .before .before in
-    let o = at-loop .loop .inv in
-    let h = c .before .before .before .before .before .before .before .before .loop-test .taken in
-    let e = c .before .before .before .before .before .merged .ensures ∙ ap (λ (y : ℕ). mergedBits (at-loop .before .before .before .before .before .mask-of .result) y (at-loop .before .before .before .before .before .before .before .before .before .before .before .before .before .before .args .state)) (c .before .before .before .before .before .before .after-at .ensures) in (
-      omega (arith, c .before .before .before .before .before .before .before .before .before .before .before .before .before .before .before .before .before .before .before .before .before .before .before .pre .0, o .more),
-      (looping-ready _ _ _ _ _ _ _ _ _ _ _ _ _ _ _ _ _ _ o, looping-stands _ _ _ _ _ _ _ _ _ _ _ _ _ _ _ _ _ _ o h _ _ _ e (c .before .before .before .before .is-fresh .ensures) (c .before .before .longer .ensures), looping-count _ _ _ _ _ _ _ _ _ _ _ _ _ _ _ _ _ _ o .0, looping-count _ _ _ _ _ _ _ _ _ _ _ _ _ _ _ _ _ _ o .1),
+    let at-longer = c .before .before .before in
+    let at-fresh = at-longer .before .before in
+    let at-test = at-fresh .before .before .before .before in
+    let o = at-test .before .loop .inv in
+    (looping-ready o, last-stands o (at-test .loop-test .taken) (at-fresh .before .before .after-at .ensures) (at-fresh .before .merged .ensures) (at-fresh .is-fresh .ensures) (at-longer .longer .ensures) (c .before .before .if3 .taken), looping-count o .0, looping-count o .1))
+    (λ c. omega (arith, looping-level (c .before .before .before .before .before .before .before .before .before .before .loop .inv)))
+    (λ c κs.
+    let at-longer = c .before .before .before in
+    let at-fresh = at-longer .before .before in
+    let at-test = at-fresh .before .before .before .before in
+    let o = at-test .before .loop .inv in (
+      omega (arith, at-test .before .before .before .before .before .before .before .before .before .before .before .before .before .before .before .pre .0, o .more),
+      (looping-ready o, looping-stands o (at-test .loop-test .taken) (at-fresh .before .before .after-at .ensures) (at-fresh .before .merged .ensures) (at-fresh .is-fresh .ensures) (at-longer .longer .ensures), looping-count o .0, looping-count o .1),
     ))
     (λ c κs.
-    let at-loop = c .before .before .before .before .before .before .before .before .before .before .before .before .before .before .before .before in
-    let o = at-loop .loop .inv in
-    let h = c .before .before .before .before .before .before .before .before .before .before .before .before .before .before .before .loop-test .taken in
-    let e = c .before .before .before .before .before .before .before .before .before .before .before .before .merged .ensures ∙ ap (λ (y : ℕ). mergedBits (at-loop .before .before .before .before .before .mask-of .result) y (at-loop .before .before .before .before .before .before .before .before .before .before .before .before .before .before .args .state)) (c .before .before .before .before .before .before .before .before .before .before .before .before .before .after-at .ensures) in
-    let d = c .before .before .before .before .before .before .explore .ensures in
-    (next-room _ _ _ _ _ _ _ _ _ _ _ _ _ _ _ _ _ _ o h _ _ _ e (c .before .before .before .before .before .before .before .before .before .before .before .is-fresh .ensures) (c .before .before .before .before .before .before .before .before .before .longer .ensures) _ _ _ d, next-ringed _ _ _ _ _ _ _ _ _ _ _ _ _ _ _ _ _ _ o h _ _ _ e (c .before .before .before .before .before .before .before .before .before .before .before .is-fresh .ensures) (c .before .before .before .before .before .before .before .before .before .longer .ensures) _ _ _ d, h, next-reads _ _ _ _ _ _ _ _ _ _ _ _ _ _ _ _ _ _ o h _ _ _ e (c .before .before .before .before .before .before .before .before .before .before .before .is-fresh .ensures) (c .before .before .before .before .before .before .before .before .before .longer .ensures) _ _ _ d))
-    (λ c. omega (arith, first-at _ _ _ _ (c .next-match .ensures) .low, c .before .before .before .before .before .before .before .before .before .before .before .before .before .before .before .before .loop-test .taken))
+    let at-end = c .before .before in
+    let at-longer = c .before .before .before in
+    let at-fresh = at-longer .before .before in
+    let at-test = at-fresh .before .before .before .before in
+    let o = at-test .before .loop .inv in
+    next-requires o (at-test .loop-test .taken) (at-fresh .before .before .after-at .ensures) (at-fresh .before .merged .ensures) (at-fresh .is-fresh .ensures) (at-longer .longer .ensures) (at-end .if3 .total) (at-end .if3 .log) (at-end .if3 .scratch) (⊎-elim
+    (λ arrived. rw (arrived .8, arrived .9, arrived .10) (last-explored o (at-test .loop-test .taken) (at-fresh .before .before .after-at .ensures) (at-fresh .before .merged .ensures) (at-fresh .is-fresh .ensures) (at-longer .longer .ensures) (arrived .0 .taken) (arrived .3 .ensures)))
+    (λ explored. rw (explored .8, explored .9, explored .10) (explored .3 .ensures))
+    (at-end .if3 .came)))
+    (λ c. omega (arith, first-at _ _ _ _ (c .next-match .ensures) .low, c .before .before .before .before .before .before .before .before .before .before .loop-test .taken))
     (λ c.
-    let at-loop = c .before .before .before .before .before .before .before .before .before .before .before .before .before .before .before .before .before in
-    let o = at-loop .loop .inv in
-    let h = c .before .before .before .before .before .before .before .before .before .before .before .before .before .before .before .before .loop-test .taken in
-    let e = c .before .before .before .before .before .before .before .before .before .before .before .before .before .merged .ensures ∙ ap (λ (y : ℕ). mergedBits (at-loop .before .before .before .before .before .mask-of .result) y (at-loop .before .before .before .before .before .before .before .before .before .before .before .before .before .before .args .state)) (c .before .before .before .before .before .before .before .before .before .before .before .before .before .before .after-at .ensures) in
-    looping-again _ _ _ _ _ _ _ _ _ _ _ _ _ _ _ _ _ _ o h _ _ _ e (c .before .before .before .before .before .before .before .before .before .before .before .before .is-fresh .ensures) (c .before .before .before .before .before .before .before .before .before .before .longer .ensures) _ _ _ (c .before .before .before .before .before .before .before .explore .ensures) _ (c .next-match .ensures))
-    (λ c κs. looping-pass _ _ _ _ _ _ _ _ _ _ _ _ _ _ _ _ _ _ (c .before .before .loop .inv))
-    (λ c. looping-log _ _ _ _ _ _ _ _ _ _ _ _ _ _ _ _ _ _ (c .before .before .before .before .before .loop .inv))
-    (λ c. looping-scratch _ _ _ _ _ _ _ _ _ _ _ _ _ _ _ _ _ _ (c .before .before .before .before .before .loop .inv) _ (c .before .before .pass .ensures))
-    (λ c. looping-end _ _ _ _ _ _ _ _ _ _ _ _ _ _ _ _ _ _ (c .before .before .before .before .before .loop .inv) (c .before .before .before .before .loop-test .left) _ (c .before .before .pass .ensures))
+    let at-end = c .before .before .before in
+    let at-longer = c .before .before .before .before in
+    let at-fresh = at-longer .before .before in
+    let at-test = at-fresh .before .before .before .before in
+    let o = at-test .before .loop .inv in
+    looping-again o (at-test .loop-test .taken) (at-fresh .before .before .after-at .ensures) (at-fresh .before .merged .ensures) (at-fresh .is-fresh .ensures) (at-longer .longer .ensures) (at-end .if3 .total) (at-end .if3 .log) (at-end .if3 .scratch) (⊎-elim
+    (λ arrived. rw (arrived .8, arrived .9, arrived .10) (last-explored o (at-test .loop-test .taken) (at-fresh .before .before .after-at .ensures) (at-fresh .before .merged .ensures) (at-fresh .is-fresh .ensures) (at-longer .longer .ensures) (arrived .0 .taken) (arrived .3 .ensures)))
+    (λ explored. rw (explored .8, explored .9, explored .10) (explored .3 .ensures))
+    (at-end .if3 .came)) _ (c .next-match .ensures))
+    (λ c κs. looping-pass (c .before .before .loop .inv))
+    (λ c. looping-log (c .before .before .before .before .before .loop .inv))
+    (λ c. looping-scratch (c .before .before .before .before .before .loop .inv) _ (c .before .before .pass .ensures))
+    (λ c. looping-end (c .before .before .before .before .before .loop .inv) (c .before .before .before .before .loop-test .left) _ (c .before .before .pass .ensures))
