@@ -7,24 +7,18 @@ use borrow.Author.Needs.{needs}
 use Rattle.exports.proofs.put_answer.Statement.{statement}
 use Rattle.exports.proofs.put_answer.Tie as tie
 
-returns : tie.Need-returns
-returns c =
+pub put-answer-spec : {M : Type 1} → statement M
+put-answer-spec = tie.close (tie.spec (λ c. search needs) (λ c κs. search needs) (λ c. search needs) (λ c κs. search needs) (λ c. search needs)
+    (λ c κs. search needs)
+    (λ c.
     let g = c .before .before .before .a .given in
     let e : c .before .before .before .before .before .args .a ≡ Answered.Reachable (g .0 .0) (g .0 .1 .0) (g .0 .1 .1 .0) = g .1 in
-    c .put .ensures ∙ sym (ap (λ (a : Answered). sixteen (answerFigures a)) e)
-
-returns-2 : tie.Need-returns-2
-returns-2 c =
+    c .put .ensures ∙ sym (ap (λ (a : Answered). sixteen (answerFigures a)) e))
+    (λ c.
     let g = c .before .before .before .a2 .given in
     let e : c .before .before .before .before .before .args .a ≡ Answered.Unreachable (g .0 .0) (g .0 .1 .0) = g .1 in
-    c .put2 .ensures ∙ sym (ap (λ (a : Answered). sixteen (answerFigures a)) e)
-
-returns-3 : tie.Need-returns-3
-returns-3 c =
+    c .put2 .ensures ∙ sym (ap (λ (a : Answered). sixteen (answerFigures a)) e))
+    (λ c.
     let g = c .before .before .before .a3 .given in
     let e : c .before .before .before .before .before .args .a ≡ Answered.Refused (g .0 .0) (g .0 .1 .0) = g .1 in
-    c .put3 .ensures ∙ sym (ap (λ (a : Answered). sixteen (answerFigures a)) e)
-
-pub put-answer-spec : {M : Type 1} → statement M
-put-answer-spec = tie.close (tie.spec (λ c. search needs) (λ c κs. search needs) (λ c. search needs) (λ c κs. search needs) (λ c. search needs) (λ c κs. search needs)
-    returns returns-2 returns-3)
+    c .put3 .ensures ∙ sym (ap (λ (a : Answered). sixteen (answerFigures a)) e)))

@@ -8,11 +8,9 @@ use borrow.Author.Needs.{needs}
 use Rattle.exports.proofs.put_walk.Statement.{statement}
 use Rattle.exports.proofs.put_walk.Tie as tie
 
-returns : tie.Need-returns
-returns c =
-    let x = c .before .before .before .before .before .before .before .before .before .args in
-    ap (λ (l : List ℕ). sixteen (l ++ (x .from ∷ []))) (eight (x .values .now) (c .before .before .before .before .before .before .before .before .before .pre))
-
 pub put-walk-spec : {M : Type 1} → statement M
-put-walk-spec = tie.close (tie.spec (λ c. search needs) (λ c. search needs) (λ c. search needs) (λ c. search needs) (λ c. search needs) (λ c. search needs)
-    (λ c. search needs) (λ c. search needs) returns)
+put-walk-spec = tie.close (tie.spec (λ c. search needs) (λ c. search needs) (λ c. search needs) (λ c. search needs) (λ c. search needs)
+    (λ c. search needs) (λ c. search needs) (λ c. search needs)
+    (λ c.
+    let x = c .before .before .before .before .before .before .before .before .before .args in
+    ap (λ (l : List ℕ). sixteen (l ++ (x .from ∷ []))) (eight (x .values .now) (c .before .before .before .before .before .before .before .before .before .pre))))

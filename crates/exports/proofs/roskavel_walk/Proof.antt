@@ -12,17 +12,6 @@ use borrow.Author.Needs.{needs}
 use Rattle.exports.proofs.roskavel_walk.Statement.{statement}
 use Rattle.exports.proofs.roskavel_walk.Tie as tie
 
-sub-from : tie.Need-sub-from
-sub-from c =
-    let a = c .before .before .before .before .before .before .before .before .before .before .before .before .args in
-    omega (arith, rest-short (a .table .now) (a .rules .now) (a .pile .now) (a .scratch .now), ap length (c .before .before .before .before .walk .ensures .0 .rest))
-
-put-walk-requires : tie.Need-put-walk-requires
-put-walk-requires c κs =
-    let a = c .before .before .before .before .before .before .before .before .before .before .before .before .before .before .args in
-    let w = c .before .before .before .before .before .before .walk .ensures .0 in
-    ap length (w .figures) ∙ figures-length (walkCall (a .table .now) (a .rules .now) (a .pile .now) (a .scratch .now) .answer)
-
 returns : tie.Need-returns
 returns c =
     let at-walk = c .before .before .before .before .before .before .before in
@@ -39,5 +28,12 @@ returns c =
     )
 
 pub roskavel-walk-spec : {M : Type 1} → statement M
-roskavel-walk-spec =
-    tie.close (tie.spec (λ c κs. search needs) sub-from put-walk-requires (λ c. search needs) (λ c. search needs) returns)
+roskavel-walk-spec = tie.close (tie.spec (λ c κs. search needs)
+    (λ c.
+    let a = c .before .before .before .before .before .before .before .before .before .before .before .before .args in
+    omega (arith, rest-short (a .table .now) (a .rules .now) (a .pile .now) (a .scratch .now), ap length (c .before .before .before .before .walk .ensures .0 .rest)))
+    (λ c κs.
+    let a = c .before .before .before .before .before .before .before .before .before .before .before .before .before .before .args in
+    let w = c .before .before .before .before .before .before .walk .ensures .0 in
+    ap length (w .figures) ∙ figures-length (walkCall (a .table .now) (a .rules .now) (a .pile .now) (a .scratch .now) .answer))
+    (λ c. search needs) (λ c. search needs) returns)

@@ -24,14 +24,12 @@ returns c =
       front .1,
     )
 
-returns-2 : tie.Need-returns-2
-returns-2 c =
+pub respond-spec : {M : Type 1} → statement M
+respond-spec = tie.close (tie.spec (λ c κs. search needs) (λ c κs. search needs) (λ c κs. search needs) (λ c κs. search needs) (λ c. search needs)
+    (λ c. search needs) (λ c. search needs) (λ c. search needs) returns (λ c. search needs) (λ c. search needs) (λ c. search needs)
+    (λ c.
     let s = c .before .before .before .before .before .before .before .before .before .before .before .before .before .before .before .before .before .before in
     let a = s .args in
     let r = c .before .before .before .before .before .before .before .before .before .before .answer in
     let front = puts-front (c .before .before .before .before .put-answer .ensures) (omega (arith, s .pre .1)) in
-    (front .0 ∙ text-alone (a .input .now) (a .log .now) (a .scratch .now) (a .page .now) (r .result) (s .pre .0) (r .ensures .0 .answer) (sym (c .before .is-reachable .ensures) ∙ c .if1 .left), front .1)
-
-pub respond-spec : {M : Type 1} → statement M
-respond-spec = tie.close (tie.spec (λ c κs. search needs) (λ c κs. search needs) (λ c κs. search needs) (λ c κs. search needs) (λ c. search needs) (λ c. search needs)
-    (λ c. search needs) (λ c. search needs) returns (λ c. search needs) (λ c. search needs) (λ c. search needs) returns-2)
+    (front .0 ∙ text-alone (a .input .now) (a .log .now) (a .scratch .now) (a .page .now) (r .result) (s .pre .0) (r .ensures .0 .answer) (sym (c .before .is-reachable .ensures) ∙ c .if1 .left), front .1)))

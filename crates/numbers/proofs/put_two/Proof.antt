@@ -7,13 +7,10 @@ use borrow.Author.Needs.{needs}
 use Rattle.numbers.proofs.put_two.Statement.{statement}
 use Rattle.numbers.proofs.put_two.Tie as tie
 
-slice-write-s-2 : tie.Need-slice-write-s-2
-slice-write-s-2 c = simp length-set (omega arith)
-
 returns : tie.Need-returns
 unfolding withNumber
 returns c = rw (add-one (c .args .i))
 
 pub put-two-spec : {M : Type 1} → statement M
-put-two-spec =
-    tie.close (tie.spec (λ c. search needs) (λ c. search needs) (λ c. search needs) (λ c. search needs) slice-write-s-2 (λ c. search needs) returns)
+put-two-spec = tie.close (tie.spec (λ c. search needs) (λ c. search needs) (λ c. search needs) (λ c. search needs)
+    (λ c. simp length-set (omega arith)) (λ c. search needs) returns)

@@ -5,13 +5,6 @@ use borrow.Author.Needs.{needs}
 use Rattle.reach.proofs.answer_table.Statement.{statement}
 use Rattle.reach.proofs.answer_table.Tie as tie
 
-returns : tie.Need-returns
-returns c =
-    let entry = c .before .before .before .before .before in
-    let a = entry .args in
-    let p = entry .pre in
-    answers-short (a .table .now) (a .log .now) (a .scratch .now) (a .t) p (needs-more _ _ _ (c .before .records-in .ensures .0) (c .if1 .taken))
-
 figure-requires : tie.Need-figure-requires
 figure-requires c κs =
     let at-count = c .before .before .before in
@@ -53,5 +46,11 @@ returns-3 c =
     answers-limit (a .table .now) (a .log .now) (a .scratch .now) (a .t) p (needs-no-more _ _ _ (at-records-in .records-in .ensures .0) (at-if1 .if1 .left)) _ _ _ (at-records-in .records-in .ensures .0) _ _ _ (left-limit (a .table .now) (a .t) _ (a .log .now) (a .scratch .now) _ _ _ (at-fill-log .fill-log .ensures) _ _ (at-count .count .given .1)) _ (at-answer-limit .answer-limit .ensures .0) (at-answer-limit .answer-limit .ensures .1)
 
 pub answer-table-spec : {M : Type 1} → statement M
-answer-table-spec = tie.close (tie.spec (λ c κs. search needs) (λ c. search needs) (λ c. search needs) returns (λ c κs. search needs) (λ c. search needs)
-    (λ c. search needs) figure-requires answer-limit-requires (λ c. search needs) (λ c. search needs) returns-2 (λ c. search needs) (λ c. search needs) returns-3)
+answer-table-spec = tie.close (tie.spec (λ c κs. search needs) (λ c. search needs) (λ c. search needs)
+    (λ c.
+    let entry = c .before .before .before .before .before in
+    let a = entry .args in
+    let p = entry .pre in
+    answers-short (a .table .now) (a .log .now) (a .scratch .now) (a .t) p (needs-more _ _ _ (c .before .records-in .ensures .0) (c .if1 .taken)))
+    (λ c κs. search needs) (λ c. search needs) (λ c. search needs) figure-requires answer-limit-requires (λ c. search needs) (λ c. search needs)
+    returns-2 (λ c. search needs) (λ c. search needs) returns-3)

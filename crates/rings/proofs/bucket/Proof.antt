@@ -9,14 +9,6 @@ use borrow.Author.Needs.{needs}
 use Rattle.rings.proofs.bucket.Statement.{statement}
 use Rattle.rings.proofs.bucket.Tie as tie
 
-mul-result : tie.Need-mul-result
-mul-result c =
-    let a = c .before .args in
-    let x = (c .as-u64 .result + 8 * a .letter) * 820265763 / 65536 % 65536 in
-    let small : x ≤ 65535 = omega arith in
-    let most : x * a .n ≤ 65535 * 65535 = mul-le-mul small (c .before .pre .1) in
-    omega arith
-
 returns : tie.Need-returns
 unfolding bucketOf
 returns c =
@@ -25,5 +17,11 @@ returns c =
     (is, scaled-below ((c .as-u64 .result + 8 * a .letter) * 820265763 / 65536 % 65536) (a .n) (omega arith) (c .before .pre .0))
 
 pub bucket-spec : {M : Type 1} → statement M
-bucket-spec =
-    tie.close (tie.spec (λ c κs. search needs) (λ c. search needs) (λ c. search needs) (λ c. search needs) mul-result returns)
+bucket-spec = tie.close (tie.spec (λ c κs. search needs) (λ c. search needs) (λ c. search needs) (λ c. search needs)
+    (λ c.
+    let a = c .before .args in
+    let x = (c .as-u64 .result + 8 * a .letter) * 820265763 / 65536 % 65536 in
+    let small : x ≤ 65535 = omega arith in
+    let most : x * a .n ≤ 65535 * 65535 = mul-le-mul small (c .before .pre .1) in
+    omega arith)
+    returns)

@@ -13,49 +13,33 @@ Inv-loop table t log₀ scratch₀ n base₀ round₀ count₀ log scratch base 
 abbrev μ-loop : tie.MeasureT-loop
 μ-loop table t log₀ scratch₀ n base₀ round₀ count₀ log scratch base round count = n - base
 
-loop-holds : tie.Need-loop-holds Inv-loop μ-loop
-loop-holds c = let at-round = c .before .before .before .before in saturating-start (at-round .before .before .before .before .before .before .pre) (at-round .add-round .ensures)
-
 -- the number of the round is at most that of the records
 add-round : tie.Need-add-round Inv-loop μ-loop
 add-round c = let inv = c .before .before .loop .inv in omega (arith, inv .late, inv .fits, inv .short)
 
-add-add-round : tie.Need-add-add-round Inv-loop μ-loop
-add-add-round c = let inv = c .before .before .before .before .loop .inv in omega (arith, inv .late, inv .fits, inv .short)
-
-add-round-requires-2 : tie.Need-add-round-requires-2 Inv-loop μ-loop
-add-round-requires-2 c κs =
+pub add-rounds-spec : {M : Type 1} → statement M
+add-rounds-spec = tie.close (tie.spec Inv-loop μ-loop (λ c κs. c .before .before .before .before .before .pre)
+    (λ c. let at-round = c .before .before .before .before in saturating-start (at-round .before .before .before .before .before .before .pre) (at-round .add-round .ensures))
+    (λ c κs. search needs) add-round (λ c. let inv = c .before .before .before .before .loop .inv in omega (arith, inv .late, inv .fits, inv .short))
+    (λ c κs.
     let at-test = c .before .before in
-    next-begins (at-test .before .before .loop .inv) (at-test .before .goes-on .ensures) (at-test .if1 .taken)
-
-loop-less : tie.Need-loop-less Inv-loop μ-loop
-loop-less c =
+    next-begins (at-test .before .before .loop .inv) (at-test .before .goes-on .ensures) (at-test .if1 .taken))
+    (λ c.
     let at-test = c .before .before .before .before .before .before .before in
-    measure-falls (at-test .before .before .loop .inv) (at-test .before .goes-on .ensures) (at-test .if1 .taken)
-
-loop-again : tie.Need-loop-again Inv-loop μ-loop
-loop-again c =
+    measure-falls (at-test .before .before .loop .inv) (at-test .before .goes-on .ensures) (at-test .if1 .taken))
+    (λ c.
     let at-round = c .before .before .before .before in
     let at-test = at-round .before .before .before in
-    saturating-turn (at-test .before .before .loop .inv) (at-test .before .goes-on .ensures) (at-test .if1 .taken) (at-round .add-round2 .ensures)
-
-returns : tie.Need-returns Inv-loop μ-loop
-returns c =
-    let at-loop = c .before .before .before in
-    let first = at-loop .before .before .before .before .before .add-round .ensures in
-    saturating-full (at-loop .loop .inv) (c .before .before .goes-on .ensures) (first .log-length) (first .scratch-length) (c .if2 .taken)
-
-returns-2 : tie.Need-returns-2 Inv-loop μ-loop
-returns-2 c =
-    let at-loop = c .before .before .before in
-    let first = at-loop .before .before .before .before .before .add-round .ensures in
-    saturating-limit (at-loop .loop .inv) (c .before .before .goes-on .ensures) (c .before .if1 .left) (c .if2 .left) (first .log-length) (first .scratch-length)
-
-pub add-rounds-spec : {M : Type 1} → statement M
-add-rounds-spec = tie.close (tie.spec Inv-loop μ-loop (λ c κs. c .before .before .before .before .before .pre) loop-holds (λ c κs. search needs) add-round add-add-round
-    add-round-requires-2 loop-less loop-again
+    saturating-turn (at-test .before .before .loop .inv) (at-test .before .goes-on .ensures) (at-test .if1 .taken) (at-round .add-round2 .ensures))
     (λ c. c .before .before .before .loop .inv .log-length ∙ c .before .before .before .before .before .before .before .before .add-round .ensures .log-length)
     (λ c. c .before .before .before .loop .inv .scratch-length ∙ c .before .before .before .before .before .before .before .before .add-round .ensures .scratch-length)
-    returns (λ c. c .before .before .before .loop .inv .log-length ∙ c .before .before .before .before .before .before .before .before .add-round .ensures .log-length)
+    (λ c.
+    let at-loop = c .before .before .before in
+    let first = at-loop .before .before .before .before .before .add-round .ensures in
+    saturating-full (at-loop .loop .inv) (c .before .before .goes-on .ensures) (first .log-length) (first .scratch-length) (c .if2 .taken))
+    (λ c. c .before .before .before .loop .inv .log-length ∙ c .before .before .before .before .before .before .before .before .add-round .ensures .log-length)
     (λ c. c .before .before .before .loop .inv .scratch-length ∙ c .before .before .before .before .before .before .before .before .add-round .ensures .scratch-length)
-    returns-2)
+    (λ c.
+    let at-loop = c .before .before .before in
+    let first = at-loop .before .before .before .before .before .add-round .ensures in
+    saturating-limit (at-loop .loop .inv) (c .before .before .goes-on .ensures) (c .before .if1 .left) (c .if2 .left) (first .log-length) (first .scratch-length)))

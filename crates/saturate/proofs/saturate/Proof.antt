@@ -7,13 +7,6 @@ use Rattle.saturate.proofs.Saturating.{codes-room, initial-begins, init
 use Rattle.saturate.proofs.saturate.Statement.{statement}
 use Rattle.saturate.proofs.saturate.Tie as tie
 
-write-initial-requires : tie.Need-write-initial-requires
-write-initial-requires c κs =
-    let entry = c .before .before .before .before .before in
-    let a = entry .args in
-    let p = entry .pre in
-    (p .0, p .2, codes-room (a .table .now) (a .t) (a .n) (p .0) (a .scratch .now) (p .3))
-
 returns : tie.Need-returns
 returns c =
     let at-write = c .before .before .before .before .before in
@@ -51,5 +44,10 @@ returns-2 c =
     (at-rounds .add-rounds .result) _ _ (at-rounds .add-rounds .ensures)
 
 pub saturate-spec : {M : Type 1} → statement M
-saturate-spec = tie.close (tie.spec write-initial-requires (λ c. search needs) (λ c. search needs) returns (λ c κs. search needs) add-rounds-requires (λ c. search needs)
-    (λ c. search needs) returns-2)
+saturate-spec = tie.close (tie.spec
+    (λ c κs.
+    let entry = c .before .before .before .before .before in
+    let a = entry .args in
+    let p = entry .pre in
+    (p .0, p .2, codes-room (a .table .now) (a .t) (a .n) (p .0) (a .scratch .now) (p .3)))
+    (λ c. search needs) (λ c. search needs) returns (λ c κs. search needs) add-rounds-requires (λ c. search needs) (λ c. search needs) returns-2)

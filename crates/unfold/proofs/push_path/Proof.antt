@@ -10,16 +10,11 @@ Inv-loop log scratch₀ top x height₀ j₀ scratch height j = Pushing log scra
 abbrev μ-loop : tie.MeasureT-loop
 μ-loop log scratch₀ top x height₀ j₀ scratch height j = j
 
-loop-holds : tie.Need-loop-holds Inv-loop μ-loop
-loop-holds c = let a = c .before .before .args in pushing-start (a .log .now) (a .scratch .now) (a .top) (a .x)
-
-push-place-requires : tie.Need-push-place-requires Inv-loop μ-loop
-push-place-requires c κs = rw (c .before .place-at .ensures) (pushing-room (c .before .before .loop-test .taken) (c .before .before .before .before .before .before .pre .1) (c .before .before .before .loop .inv))
-
-loop-again : tie.Need-loop-again Inv-loop μ-loop
-loop-again c = pushing-turn (c .before .before .before .before .before .loop-test .taken) (c .before .before .before .before .before .before .loop .inv) (rw (c .before .before .before .before .place-at .ensures) at (c .before .before .push-place .ensures))
-
 pub push-path-spec : {M : Type 1} → statement M
-push-path-spec = tie.close (tie.spec Inv-loop μ-loop loop-holds (λ c. omega arith)
-    (λ c κs. (c .before .before .before .before .pre .0, omega (arith, c .before .loop .inv .left))) push-place-requires (λ c. omega arith) loop-again
+push-path-spec = tie.close (tie.spec Inv-loop μ-loop
+    (λ c. let a = c .before .before .args in pushing-start (a .log .now) (a .scratch .now) (a .top) (a .x)) (λ c. omega arith)
+    (λ c κs. (c .before .before .before .before .pre .0, omega (arith, c .before .loop .inv .left)))
+    (λ c κs. rw (c .before .place-at .ensures) (pushing-room (c .before .before .loop-test .taken) (c .before .before .before .before .before .before .pre .1) (c .before .before .before .loop .inv)))
+    (λ c. omega arith)
+    (λ c. pushing-turn (c .before .before .before .before .before .loop-test .taken) (c .before .before .before .before .before .before .loop .inv) (rw (c .before .before .before .before .place-at .ensures) at (c .before .before .push-place .ensures)))
     (λ c. c .before .loop .inv .pushed .size) (λ c. pushing-end (c .loop-test .left) (c .before .loop .inv)))

@@ -9,20 +9,14 @@ use borrow.Author.Needs.{needs}
 use Rattle.unfold.proofs.push_place.Statement.{statement}
 use Rattle.unfold.proofs.push_place.Tie as tie
 
-returns : tie.Need-returns
-returns c = let a = c .before .before .args in pushed-none (a .scratch .now) (a .top) (a .place) (c .if1 .taken)
-
-put-number-requires : tie.Need-put-number-requires
-put-number-requires c κs =
+pub push-place-spec : {M : Type 1} → statement M
+push-place-spec = tie.close (tie.spec (λ c. let a = c .before .before .args in pushed-none (a .scratch .now) (a .top) (a .place) (c .if1 .taken))
+    (λ c κs.
     let a = c .before .before .before .args in
     let one : length (placed (a .place) []) ≡ 1 = ap length (placed-some (a .place) [] (c .before .if1 .left)) in
-    omega arith
-
-returns-2 : tie.Need-returns-2
-returns-2 c =
+    omega arith)
+    (λ c. search needs) (λ c. search needs)
+    (λ c.
     let a = c .before .before .before .before .before .before .args in
     let one : length (placed (a .place) []) ≡ 1 = ap length (placed-some (a .place) [] (c .before .before .before .before .if1 .left)) in
-    rw (c .before .before .put-number .ensures) (pushed-some (a .scratch .now) (a .top) (a .place) (c .before .before .before .before .if1 .left) (omega arith) (omega arith))
-
-pub push-place-spec : {M : Type 1} → statement M
-push-place-spec = tie.close (tie.spec returns put-number-requires (λ c. search needs) (λ c. search needs) returns-2)
+    rw (c .before .before .put-number .ensures) (pushed-some (a .scratch .now) (a .top) (a .place) (c .before .before .before .before .if1 .left) (omega arith) (omega arith))))

@@ -13,19 +13,6 @@ Inv-loop table t log scratch₀ page₀ count top w₀ scratch page w = Working 
 abbrev μ-loop : tie.MeasureT-loop
 μ-loop table t log scratch₀ page₀ count top w₀ scratch page w = 5 * (length page₀ - w .rules) + w .top
 
-loop-holds : tie.Need-loop-holds Inv-loop μ-loop
-loop-holds c =
-    let a = c .before .before .before .before .args in
-    let p = c .before .before .before .before .pre in
-    working-start (p .0) (a .scratch .now) (a .page .now) (a .top) (p .1) (p .2) _ refl
-
-work-one-requires : tie.Need-work-one-requires Inv-loop μ-loop
-work-one-requires c κs =
-    let a = c .before .before .before .before .before .before .before .before .before .args in
-    let p = c .before .before .before .before .before .before .before .before .before .pre in
-    let m = c .before .before .before .before .loop in
-    working-workable (p .0) (a .scratch .now) (a .page .now) (a .top) (p .1) (p .2) (m .scratch) (m .page) (m .w) (c .before .before .if1 .taken) (m .inv)
-
 loop-less : tie.Need-loop-less Inv-loop μ-loop
 loop-less c =
     let a = c .before .before .before .before .before .before .before .before .before .before .before .before .before .before .args in
@@ -44,21 +31,27 @@ loop-again c =
     working-turn (p .0) (a .scratch .now) (a .page .now) (a .top) (p .1) (p .2) (m .scratch) (m .page) (m .w) (c .before .before .before .before .before .before .before .if1 .taken) (m .inv)
     (w .last .1 .1 .1 .0) (w .last .1 .1 .1 .1 .0) (w .result) (w .ensures)
 
-cast-result : tie.Need-cast-result Inv-loop μ-loop
-cast-result c =
+pub unfold-spec : {M : Type 1} → statement M
+unfold-spec = tie.close (tie.spec Inv-loop μ-loop
+    (λ c.
+    let a = c .before .before .before .before .args in
+    let p = c .before .before .before .before .pre in
+    working-start (p .0) (a .scratch .now) (a .page .now) (a .top) (p .1) (p .2) _ refl)
+    (λ c κs.
+    let a = c .before .before .before .before .before .before .before .before .before .args in
+    let p = c .before .before .before .before .before .before .before .before .before .pre in
+    let m = c .before .before .before .before .loop in
+    working-workable (p .0) (a .scratch .now) (a .page .now) (a .top) (p .1) (p .2) (m .scratch) (m .page) (m .w) (c .before .before .if1 .taken) (m .inv))
+    loop-less loop-again
+    (λ c.
     let a = c .before .before .before .before .before .before .before .before .args in
     let p = c .before .before .before .before .before .before .before .before .pre in
     let m = c .before .before .before .loop in
     let small : m .w .highest ≤ 3000064 = working-small (p .0) (a .scratch .now) (a .page .now) (a .top) (p .1) (p .2) (m .scratch) (m .page) (m .w) (m .inv) in
-    omega arith
-
-returns : tie.Need-returns Inv-loop μ-loop
-returns c =
+    omega arith)
+    (λ c. c .before .before .before .loop .inv .size) (λ c. c .before .before .before .loop .inv .going .size)
+    (λ c.
     let a = c .before .before .before .before .before .before .before .before .args in
     let p = c .before .before .before .before .before .before .before .before .pre in
     let m = c .before .before .before .loop in
-    working-end (p .0) (a .scratch .now) (a .page .now) (a .top) (p .1) (p .2) (m .scratch) (m .page) (m .w) (c .before .if1 .left) (m .inv)
-
-pub unfold-spec : {M : Type 1} → statement M
-unfold-spec = tie.close (tie.spec Inv-loop μ-loop loop-holds work-one-requires loop-less loop-again cast-result (λ c. c .before .before .before .loop .inv .size)
-    (λ c. c .before .before .before .loop .inv .going .size) returns)
+    working-end (p .0) (a .scratch .now) (a .page .now) (a .top) (p .1) (p .2) (m .scratch) (m .page) (m .w) (c .before .if1 .left) (m .inv)))

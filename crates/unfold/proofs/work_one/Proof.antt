@@ -8,13 +8,6 @@ use Rattle.unfold.specs.Turns.{topRecord, Replaceable, Replaced}
 use Rattle.unfold.proofs.work_one.Statement.{statement}
 use Rattle.unfold.proofs.work_one.Tie as tie
 
-returns : tie.Need-returns
-returns c =
-    let a = c .before .before .before .before .before .before .before .before .before .before .args in
-    let zero : roundAt (a .log .now) (topRecord (a .scratch .now) (a .w)) ≡ 0 =
-    ap (λ (x : ℕ). roundAt (a .log .now) x) (sym (c .before .before .before .number-at .ensures)) ∙ sym (c .before .before .round-at .ensures) ∙ c .before .if1 .taken in
-    record { skipped = λ z. (refl, refl, refl); replaced = λ n. absurd (n zero) }
-
 replace-requires : tie.Need-replace-requires
 replace-requires c κs =
     let a = c .before .before .before .before .before .before .before .before .before .before .before .args in
@@ -39,5 +32,10 @@ returns-2 c =
     }
 
 pub work-one-spec : {M : Type 1} → statement M
-work-one-spec = tie.close (tie.spec (λ c. search needs) (λ c κs. search needs) (λ c κs. search needs) (λ c. search needs) (λ c. search needs) returns replace-requires
-    (λ c. search needs) (λ c. search needs) returns-2)
+work-one-spec = tie.close (tie.spec (λ c. search needs) (λ c κs. search needs) (λ c κs. search needs) (λ c. search needs) (λ c. search needs)
+    (λ c.
+    let a = c .before .before .before .before .before .before .before .before .before .before .args in
+    let zero : roundAt (a .log .now) (topRecord (a .scratch .now) (a .w)) ≡ 0 =
+    ap (λ (x : ℕ). roundAt (a .log .now) x) (sym (c .before .before .before .number-at .ensures)) ∙ sym (c .before .before .round-at .ensures) ∙ c .before .if1 .taken in
+    record { skipped = λ z. (refl, refl, refl); replaced = λ n. absurd (n zero) })
+    replace-requires (λ c. search needs) (λ c. search needs) returns-2)

@@ -16,16 +16,13 @@ Inv-loop page₀ i₀ page i = (i ≤ length page₀) × (length page ≡ length
 abbrev μ-loop : tie.MeasureT-loop
 μ-loop page₀ i₀ page i = length page₀ - i
 
-loop-again : tie.Need-loop-again Inv-loop μ-loop
-loop-again c =
-    let m = c .before .loop in
-    (omega arith, simp length-set (m .inv .1), rw (m .inv .2) (fill-more (m .i) 0 _ (omega arith)))
-
-returns : tie.Need-returns Inv-loop μ-loop
-returns c =
-    let m = c .before .loop in
-    m .inv .2 ∙ fill-end (c .before .before .args .page .now) 0 (m .i) (omega arith) (omega arith)
-
 pub clear-numbers-spec : {M : Type 1} → statement M
-clear-numbers-spec = tie.close (tie.spec Inv-loop μ-loop (λ c. (omega arith, refl, refl)) (λ c. search needs) (λ c. omega arith) (λ c. omega arith) (λ c. omega arith)
-    loop-again (λ c. c .before .loop .inv .1) returns)
+clear-numbers-spec = tie.close (tie.spec Inv-loop μ-loop (λ c. (omega arith, refl, refl)) (λ c. search needs) (λ c. omega arith) (λ c. omega arith)
+    (λ c. omega arith)
+    (λ c.
+    let m = c .before .loop in
+    (omega arith, simp length-set (m .inv .1), rw (m .inv .2) (fill-more (m .i) 0 _ (omega arith))))
+    (λ c. c .before .loop .inv .1)
+    (λ c.
+    let m = c .before .loop in
+    m .inv .2 ∙ fill-end (c .before .before .args .page .now) 0 (m .i) (omega arith) (omega arith)))

@@ -6,17 +6,13 @@ use borrow.Author.Needs.{needs}
 use Rattle.verdict.proofs.is_long.Statement.{statement}
 use Rattle.verdict.proofs.is_long.Tie as tie
 
-returns : tie.Need-returns
-returns c =
-    let a = c .before .before .args in
-    let s = c .before .wide-four in
-    sym (long-page (a .steps) (a .room) (omega (arith, s .ensures .0, c .if1 .taken)))
-
-returns-2 : tie.Need-returns-2
-returns-2 c =
-    let a = c .before .before .args in
-    let s = c .before .wide-four in
-    sym (long-steps (a .steps) (a .room) (omega (arith, s .ensures .0, c .if1 .left)))
-
 pub is-long-spec : {M : Type 1} → statement M
-is-long-spec = tie.close (tie.spec (λ c κs. search needs) returns returns-2)
+is-long-spec = tie.close (tie.spec (λ c κs. search needs)
+    (λ c.
+    let a = c .before .before .args in
+    let s = c .before .wide-four in
+    sym (long-page (a .steps) (a .room) (omega (arith, s .ensures .0, c .if1 .taken))))
+    (λ c.
+    let a = c .before .before .args in
+    let s = c .before .wide-four in
+    sym (long-steps (a .steps) (a .room) (omega (arith, s .ensures .0, c .if1 .left)))))

@@ -23,14 +23,12 @@ write-run-requires c κs =
     let p = at-steps .steps .given in
     path-stacked (entry .pre) (f .result) (f .last .1 .1 .1 .0) (f .ensures) (f .kept .1 .1 .1 .0) (p .0 .0) (p .1)
 
-returns-2 : tie.Need-returns-2
-returns-2 c =
+pub run-limit-spec : {M : Type 1} → statement M
+run-limit-spec = tie.close (tie.spec (λ c κs. search needs) (λ c. search needs) (λ c κs. search needs) (λ c. search needs) returns (λ c. search needs)
+    write-run-requires (λ c. search needs) (λ c. search needs)
+    (λ c.
     let at-write-run = c .before .before .before .before in
     let at-find = at-write-run .before .before .before .before .before .before .before .before in
     let entry = at-find .before .before .before .before .before .before in
     let f = at-find .find in
-    run-back (entry .pre) (f .result) (f .last .1 .1 .1 .0) (f .ensures) (f .kept .1 .1 .1 .0) (at-write-run .write-run .ensures)
-
-pub run-limit-spec : {M : Type 1} → statement M
-run-limit-spec = tie.close (tie.spec (λ c κs. search needs) (λ c. search needs) (λ c κs. search needs) (λ c. search needs) returns (λ c. search needs) write-run-requires
-    (λ c. search needs) (λ c. search needs) returns-2)
+    run-back (entry .pre) (f .result) (f .last .1 .1 .1 .0) (f .ensures) (f .kept .1 .1 .1 .0) (at-write-run .write-run .ensures)))

@@ -15,16 +15,12 @@ Inv-loop buffer₀ i₀ buffer i = (i ≤ length buffer₀) × (length buffer �
 abbrev μ-loop : tie.MeasureT-loop
 μ-loop buffer₀ i₀ buffer i = length buffer₀ - i
 
-loop-again : tie.Need-loop-again Inv-loop μ-loop
-loop-again c =
-    let m = c .before .loop in
-    (omega arith, simp length-set (m .inv .1), rw (m .inv .2) (fill-more (m .i) 0 _ (omega arith)))
-
-returns : tie.Need-returns Inv-loop μ-loop
-returns c =
-    let m = c .before .loop in
-    m .inv .2 ∙ fill-end (c .before .before .args .buffer .now) 0 (m .i) (omega arith) (omega arith)
-
 pub clear-spec : {M : Type 1} → statement M
-clear-spec = tie.close (tie.spec Inv-loop μ-loop (λ c. (omega arith, refl, refl)) (λ c. omega arith) (λ c. omega arith) (λ c. omega arith) loop-again
-    (λ c. c .before .loop .inv .1) returns)
+clear-spec = tie.close (tie.spec Inv-loop μ-loop (λ c. (omega arith, refl, refl)) (λ c. omega arith) (λ c. omega arith) (λ c. omega arith)
+    (λ c.
+    let m = c .before .loop in
+    (omega arith, simp length-set (m .inv .1), rw (m .inv .2) (fill-more (m .i) 0 _ (omega arith))))
+    (λ c. c .before .loop .inv .1)
+    (λ c.
+    let m = c .before .loop in
+    m .inv .2 ∙ fill-end (c .before .before .args .buffer .now) 0 (m .i) (omega arith) (omega arith)))

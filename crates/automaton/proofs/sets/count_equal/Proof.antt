@@ -14,26 +14,14 @@ abbrev μ-loop : tie.MeasureT-loop
 μ-loop bytes at n x m₀ i₀ m i =
     n - i
 
-loop-holds : tie.Need-loop-holds Inv-loop μ-loop
-loop-holds c =
-    let a = c .before .args in counting-start (a .bytes .now) (a .at) (a .n) (a .x)
-
-one-if-equal-requires : tie.Need-one-if-equal-requires Inv-loop μ-loop
-one-if-equal-requires c κs =
-    search needs
-
-loop-again : tie.Need-loop-again Inv-loop μ-loop
-loop-again c =
+pub count-equal-spec : {M : Type 1} → statement M
+count-equal-spec = tie.close (tie.spec Inv-loop μ-loop (λ c. let a = c .before .args in counting-start (a .bytes .now) (a .at) (a .n) (a .x))
+    (λ c. omega arith) (λ c. omega arith) (λ c κs. search needs) (λ c. omega arith) (λ c. omega arith) (λ c. omega arith)
+    (λ c.
     let a = c .before .before .before .before .before .args in
     let t = c .before .before .before .loop in
-    counting-turn (a .bytes .now) (a .at) (a .n) (a .x) (t .m) (t .i) _ (c .before .before .loop-test .taken) (c .one-if-equal .ensures .0) (c .one-if-equal .ensures .1) (t .inv)
-
-returns : tie.Need-returns Inv-loop μ-loop
-returns c =
+    counting-turn (a .bytes .now) (a .at) (a .n) (a .x) (t .m) (t .i) _ (c .before .before .loop-test .taken) (c .one-if-equal .ensures .0) (c .one-if-equal .ensures .1) (t .inv))
+    (λ c.
     let a = c .before .before .before .args in
     let t = c .before .loop in
-    counting-end (a .bytes .now) (a .at) (a .n) (a .x) (t .m) (t .i) (c .loop-test .left) (t .inv)
-
-pub count-equal-spec : {M : Type 1} → statement M
-count-equal-spec = tie.close (tie.spec Inv-loop μ-loop loop-holds (λ c. omega arith) (λ c. omega arith) one-if-equal-requires (λ c. omega arith) (λ c. omega arith)
-    (λ c. omega arith) loop-again returns)
+    counting-end (a .bytes .now) (a .at) (a .n) (a .x) (t .m) (t .i) (c .loop-test .left) (t .inv)))

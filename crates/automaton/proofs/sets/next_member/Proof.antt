@@ -15,10 +15,6 @@ abbrev μ-loop : tie.MeasureT-loop
 μ-loop members from n₀ n =
     stateCount - n
 
-loop-holds : tie.Need-loop-holds Inv-loop μ-loop
-loop-holds c =
-    let a = c .before .args in (omega arith, omega arith, fails-none (member (a .members .now)) (a .from))
-
 returns : tie.Need-returns Inv-loop μ-loop
 returns c =
     let a = c .before .before .before .before .before .before .before .before .args in
@@ -43,24 +39,19 @@ loop-again c =
     let w : First (member l) (t .n) (8 - t .n % 8) r = first-at (member l) (t .n) (8 - t .n % 8) r (c .before .before .next-in-byte .ensures) in
     (omega arith, omega arith, fails-join (member l) (a .from) (t .n) end (t .inv .2) (λ j h q. w .fails j h (omega arith)))
 
-loop-less-2 : tie.Need-loop-less-2 Inv-loop μ-loop
-loop-less-2 c =
+pub next-member-spec : {M : Type 1} → statement M
+next-member-spec = tie.close (tie.spec Inv-loop μ-loop
+    (λ c. let a = c .before .args in (omega arith, omega arith, fails-none (member (a .members .now)) (a .from))) (λ c κs. (omega arith, omega arith))
+    (λ c κs. (omega arith, omega arith)) (λ c κs. omega arith) returns (λ c. omega arith) loop-again
+    (λ c.
     let p = c .before .past-block .ensures in
-    omega (arith, p .later, p .within, c .if1 .left)
-
-loop-again-2 : tie.Need-loop-again-2 Inv-loop μ-loop
-loop-again-2 c =
+    omega (arith, p .later, p .within, c .if1 .left))
+    (λ c.
     let a = c .before .before .before .before .before .args in
     let t = c .before .before .before .loop in
     let p = c .before .past-block .ensures in
-    (omega (arith, p .later), p .within, fails-join (member (a .members .now)) (a .from) (t .n) _ (t .inv .2) (p .none))
-
-returns-2 : tie.Need-returns-2 Inv-loop μ-loop
-returns-2 c =
+    (omega (arith, p .later), p .within, fails-join (member (a .members .now)) (a .from) (t .n) _ (t .inv .2) (p .none)))
+    (λ c.
     let a = c .before .before .before .args in
     let t = c .before .loop in
-    next-is (a .members .now) (a .from) (t .n) (record { low = t .inv .0; high = omega arith; passes = λ h. absurd (omega arith); fails = t .inv .2 })
-
-pub next-member-spec : {M : Type 1} → statement M
-next-member-spec = tie.close (tie.spec Inv-loop μ-loop loop-holds (λ c κs. (omega arith, omega arith)) (λ c κs. (omega arith, omega arith)) (λ c κs. omega arith) returns
-    (λ c. omega arith) loop-again loop-less-2 loop-again-2 returns-2)
+    next-is (a .members .now) (a .from) (t .n) (record { low = t .inv .0; high = omega arith; passes = λ h. absurd (omega arith); fails = t .inv .2 })))

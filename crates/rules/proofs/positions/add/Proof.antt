@@ -12,24 +12,6 @@ Inv-loop s₀ from to i₀ s i = (i ≤ positionBytes) × BytesWritten to (sumBy
 abbrev μ-loop : tie.MeasureT-loop
 μ-loop s₀ from to i₀ s i = positionBytes - i
 
-loop-holds : tie.Need-loop-holds Inv-loop μ-loop
-loop-holds c = let a = c .args in (omega arith, bytes-none (a .to) (sumByte (a .s .now) (a .from) (a .to)) (a .s .now))
-
-slice-read-s : tie.Need-slice-read-s Inv-loop μ-loop
-slice-read-s c =
-    let at-loop = c .before .before in
-    omega (arith, c .before .loop-test .taken, at-loop .loop .inv .1 .kept .size, at-loop .before .pre .0, at-loop .before .pre .1)
-
-slice-read-s-2 : tie.Need-slice-read-s-2 Inv-loop μ-loop
-slice-read-s-2 c =
-    let at-loop = c .before .before .before in
-    omega (arith, c .before .before .loop-test .taken, at-loop .loop .inv .1 .kept .size, at-loop .before .pre .1)
-
-slice-write-s : tie.Need-slice-write-s Inv-loop μ-loop
-slice-write-s c =
-    let at-loop = c .before .before .before in
-    omega (arith, c .before .before .loop-test .taken, at-loop .loop .inv .1 .kept .size, at-loop .before .pre .0, at-loop .before .pre .1)
-
 loop-again : tie.Need-loop-again Inv-loop μ-loop
 loop-again c =
     let inside = c .before .before .loop-test .taken in
@@ -42,13 +24,23 @@ loop-again c =
           (sum-kept (a .from) (a .to) (l .i) (a .s .now) (l .s) (entry .pre .0) (l .inv .1) inside),
     )
 
-returns : tie.Need-returns Inv-loop μ-loop
-returns c =
+pub add-spec : {M : Type 1} → statement M
+add-spec = tie.close (tie.spec Inv-loop μ-loop
+    (λ c. let a = c .args in (omega arith, bytes-none (a .to) (sumByte (a .s .now) (a .from) (a .to)) (a .s .now))) (λ c. omega arith)
+    (λ c.
+    let at-loop = c .before .before in
+    omega (arith, c .before .loop-test .taken, at-loop .loop .inv .1 .kept .size, at-loop .before .pre .0, at-loop .before .pre .1))
+    (λ c. omega arith)
+    (λ c.
+    let at-loop = c .before .before .before in
+    omega (arith, c .before .before .loop-test .taken, at-loop .loop .inv .1 .kept .size, at-loop .before .pre .1))
+    (λ c. omega arith)
+    (λ c.
+    let at-loop = c .before .before .before in
+    omega (arith, c .before .before .loop-test .taken, at-loop .loop .inv .1 .kept .size, at-loop .before .pre .0, at-loop .before .pre .1))
+    (λ c. omega arith) (λ c. omega arith) loop-again (λ c. c .before .loop .inv .1 .kept .size)
+    (λ c.
     let at-loop = c .before in
     let a = at-loop .before .args in
     let all = bytes-all (a .to) (sumByte (a .s .now) (a .from) (a .to)) (at-loop .loop .i) positionBytes (a .s .now) (at-loop .loop .s) (at-loop .loop .inv .0) (c .loop-test .left) (at-loop .loop .inv .1) in
-    set-added (a .from) (a .to) (a .s .now) (at-loop .loop .s) all
-
-pub add-spec : {M : Type 1} → statement M
-add-spec = tie.close (tie.spec Inv-loop μ-loop loop-holds (λ c. omega arith) slice-read-s (λ c. omega arith) slice-read-s-2 (λ c. omega arith) slice-write-s
-    (λ c. omega arith) (λ c. omega arith) loop-again (λ c. c .before .loop .inv .1 .kept .size) returns)
+    set-added (a .from) (a .to) (a .s .now) (at-loop .loop .s) all))

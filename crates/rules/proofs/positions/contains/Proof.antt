@@ -4,8 +4,6 @@ use Rattle.rules.proofs.RegionLaws.{contains-is}
 use Rattle.rules.proofs.positions.contains.Statement.{statement}
 use Rattle.rules.proofs.positions.contains.Tie as tie
 
-returns : tie.Need-returns
-returns c = let a = c .before .args in contains-is (a .s .now) (a .at) (a .p)
-
 pub contains-spec : {M : Type 1} → statement M
-contains-spec = tie.close (tie.spec (λ c. search needs) (λ c. search needs) (λ c. search needs) (λ c. search needs) returns)
+contains-spec = tie.close (tie.spec (λ c. search needs) (λ c. search needs) (λ c. search needs) (λ c. search needs)
+    (λ c. let a = c .before .args in contains-is (a .s .now) (a .at) (a .p)))

@@ -12,28 +12,22 @@ Inv-loop table t log₀ scratch₀ round at₀ log scratch at = HeadsAdded table
 abbrev μ-loop : tie.MeasureT-loop
 μ-loop table t log₀ scratch₀ round at₀ log scratch at = t .rules - at .position
 
-add-head-requires : tie.Need-add-head-requires Inv-loop μ-loop
-add-head-requires c κs =
+pub add-heads-spec : {M : Type 1} → statement M
+add-heads-spec = tie.close (tie.spec Inv-loop μ-loop (λ c κs. omega (arith, c .before .before .before .before .pre .room .room))
+    (λ c. heads-start (c .before .before .before .before .before .pre) (c .next-active .ensures)) (λ c κs. search needs)
+    (λ c κs.
     let at-test = c .before .before in
     let is = at-test .before .goes-on .ensures in
     let goes = at-test .if1 .taken in
     let inv = at-test .before .before .loop .inv in
-    (inv .standing, below inv is goes, head-active inv is goes, head-leading inv is goes, inv .large, fits inv is goes)
-
-loop-less : tie.Need-loop-less Inv-loop μ-loop
-loop-less c =
+    (inv .standing, below inv is goes, head-active inv is goes, head-leading inv is goes, inv .large, fits inv is goes))
+    (λ c.
     let at-head = c .before .before .before .before in
     let at-test = at-head .before .before .before in
-    rules-fewer (at-test .before .before .loop .inv) (at-test .before .goes-on .ensures) (at-test .if1 .taken) (at-head .add-head .ensures)
-
-loop-again : tie.Need-loop-again Inv-loop μ-loop
-loop-again c =
+    rules-fewer (at-test .before .before .loop .inv) (at-test .before .goes-on .ensures) (at-test .if1 .taken) (at-head .add-head .ensures))
+    (λ c.
     let at-head = c .before .before .before .before in
     let at-test = at-head .before .before .before in
-    heads-turn (at-test .before .before .loop .inv) (at-test .before .goes-on .ensures) (at-test .if1 .taken) (at-head .add-head .ensures)
-
-pub add-heads-spec : {M : Type 1} → statement M
-add-heads-spec = tie.close (tie.spec Inv-loop μ-loop (λ c κs. omega (arith, c .before .before .before .before .pre .room .room))
-    (λ c. heads-start (c .before .before .before .before .before .pre) (c .next-active .ensures)) (λ c κs. search needs) add-head-requires loop-less loop-again
+    heads-turn (at-test .before .before .loop .inv) (at-test .before .goes-on .ensures) (at-test .if1 .taken) (at-head .add-head .ensures))
     (λ c. c .before .before .loop .inv .log-length) (λ c. c .before .before .loop .inv .scratch-length)
     (λ c. heads-end (c .before .before .loop .inv) (c .before .goes-on .ensures) (c .if1 .left)))

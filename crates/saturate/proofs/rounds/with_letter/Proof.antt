@@ -5,8 +5,6 @@ use Rattle.saturate.proofs.ScratchParts.{letter-set}
 use Rattle.saturate.proofs.rounds.with_letter.Statement.{statement}
 use Rattle.saturate.proofs.rounds.with_letter.Tie as tie
 
-returns : tie.Need-returns
-returns c = let a = c .before .before .args in letter-set (a .letters) (letterAt (a .log .now) (a .r)) (c .letter-at .result) (c .letter-at .ensures)
-
 pub with-letter-spec : {M : Type 1} → statement M
-with-letter-spec = tie.close (tie.spec (λ c κs. search needs) (λ c. search needs) (λ c. search needs) returns)
+with-letter-spec = tie.close (tie.spec (λ c κs. search needs) (λ c. search needs) (λ c. search needs)
+    (λ c. let a = c .before .before .args in letter-set (a .letters) (letterAt (a .log .now) (a .r)) (c .letter-at .result) (c .letter-at .ensures)))
