@@ -58,7 +58,7 @@ check-body-requires c κs =
     let z : c .before .before .before .before .before .before .body-length .result ≡ bodyLength k = c .before .before .before .before .before .before .body-length .ensures in
     let passed = early-passed (c .before .before .before .before .before .is-out-of-turn .result) (leb (c .before .before .before .before .ceiling-of .result) (c .before .before .before .count-of .result)) (leb (length b - c′ .at) (c .before .before .before .before .before .before .body-length .result)) (sym (c .before .before .early-refusal .ensures) ∙ c .before .if2 .left) in
     let i : c′ .at + 1 + bodyLength k ≤ length b = omega (arith, z, leb-false (length b - c′ .at) (c .before .before .before .before .before .before .body-length .result) (passed .2), c .before .before .before .before .before .before .before .before .before .before .pre .1) in
-    let e : c .body-at .result .now ≡ bodyAt b (bodyLength k) (c′ .at) = c .body-at .ensures ∙ ap (λ (m : ℕ). bodyAt b m (c′ .at)) z in (
+    let e : c .body-at .result .now ≡ bodyAt b (bodyLength k) (c′ .at) = c .body-at .ensures .0 ∙ ap (λ (m : ℕ). bodyAt b m (c′ .at)) z in (
       c .before .before .before .before .before .before .before .before .before .before .pre .0,
       turn-of c′ k (sym (c .before .before .before .before .before .is-out-of-turn .ensures) ∙ passed .0),
       i,
@@ -77,7 +77,7 @@ returns-3 c =
     let crowd : leb (ceiling k) (count k (itemsBefore b c′)) ≡ leb (c .before .before .before .before .before .ceiling-of .result) (c .before .before .before .before .count-of .result) = ap₂ leb (sym (c .before .before .before .before .before .ceiling-of .ensures)) (count-known b c′ k (kind-of k s .1) ∙ sym (c .before .before .before .before .count-of .ensures)) in
     let cut : ltb (length (bodyAt b (bodyLength k) (c′ .at))) (bodyLength k) ≡ leb (length b - c′ .at) (c .before .before .before .before .before .before .before .body-length .result) = sym (cut-test b (bodyLength k) (c′ .at) (c .before .before .before .before .before .before .before .before .before .before .before .pre .1)) ∙ ap (leb (length b - c′ .at)) (sym z) in
     let known : refusal (itemsBefore b c′) k (bodyAt b (bodyLength k) (c′ .at)) ≡ early (c .before .before .before .before .before .before .is-out-of-turn .result) (leb (c .before .before .before .before .before .ceiling-of .result) (c .before .before .before .before .count-of .result)) (leb (length b - c′ .at) (c .before .before .before .before .before .before .before .body-length .result)) (bodyRefusal (itemsBefore b c′) k (bodyAt b (bodyLength k) (c′ .at))) = refusal-known (itemsBefore b c′) k (bodyAt b (bodyLength k) (c′ .at)) s ∙ rw (turn, crowd, cut) refl in
-    let e : c .before .body-at .result .now ≡ bodyAt b (bodyLength k) (c′ .at) = c .before .body-at .ensures ∙ ap (λ (m : ℕ). bodyAt b m (c′ .at)) z in
+    let e : c .before .body-at .result .now ≡ bodyAt b (bodyLength k) (c′ .at) = c .before .body-at .ensures .0 ∙ ap (λ (m : ℕ). bodyAt b m (c′ .at)) z in
     c .check-body .ensures ∙ ap (bodyRefusal (itemsBefore b c′) k) e ∙ late-found (c .before .before .before .before .before .before .is-out-of-turn .result) (leb (c .before .before .before .before .before .ceiling-of .result) (c .before .before .before .before .count-of .result)) (leb (length b - c′ .at) (c .before .before .before .before .before .before .before .body-length .result)) (bodyRefusal (itemsBefore b c′) k (bodyAt b (bodyLength k) (c′ .at))) (sym (c .before .before .before .early-refusal .ensures) ∙ c .before .before .if2 .left) ∙ sym known
 
 pub check-item-spec : {M : Type 1} → statement M
