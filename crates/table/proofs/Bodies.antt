@@ -15,9 +15,6 @@ use Rattle.table.specs.Places.{bodyAt, bodiesAt}
 pub body-length : (bytes : List ℕ) (size place : ℕ) → place + 1 + size ≤ length bytes → length (bodyAt bytes size place) ≡ size
 body-length bytes size place h = simp (length-take, length-drop) (omega arith)
 
-pub body-byte : (bytes : List ℕ) (size place i : ℕ) → i < size → byteOf (bodyAt bytes size place) i ≡ getD bytes (place + 1 + i) 0
-body-byte bytes size place i h = rw (getD-take size (drop (place + 1) bytes) i 0 h, getD-drop (place + 1) bytes i 0)
-
 pub bodies-length : (bytes : List ℕ) (size place n : ℕ) → length (bodiesAt bytes size place n) ≡ n
 unfolding bodiesAt
 bodies-length bytes size place zero = refl
@@ -37,8 +34,8 @@ bodies-at bytes size place (suc n) zero d h = ap (bodyAt bytes size) (first-plac
 bodies-at bytes size place (suc n) (suc j) d h = bodies-at bytes size (place + 1 + size) n j d (le-of-suc-le-suc h) ∙ ap (bodyAt bytes size) (next-place place size j)
 
 -- byte i of body j
-pub bodies-byte : (bytes : List ℕ) (size place n j i : ℕ) (d : List ℕ) → j < n → i < size → byteOf (getD (bodiesAt bytes size place n) j d) i ≡ getD bytes (place + j * (1 + size) + 1 + i) 0
-bodies-byte bytes size place n j i d h k = rw (bodies-at bytes size place n j d h) (body-byte bytes size (place + j * (1 + size)) i k)
+pub bodies-byte : (bytes : List ℕ) (size place n j i at : ℕ) (d : List ℕ) → j < n → i < size → at ≡ place + j * (1 + size) + 1 + i → getD bytes at 0 ≡ byteOf (getD (bodiesAt bytes size place n) j d) i
+bodies-byte bytes size place n j i at d h k e = rw (e, bodies-at bytes size place n j d h, getD-take size (drop (place + j * (1 + size) + 1) bytes) i 0 k, getD-drop (place + j * (1 + size) + 1) bytes i 0)
 
 -- no body j
 pub bodies-past : (bytes : List ℕ) (size place n j : ℕ) (d : List ℕ) → n ≤ j → getD (bodiesAt bytes size place n) j d ≡ d

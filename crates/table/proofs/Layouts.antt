@@ -22,7 +22,7 @@ use Rattle.table.proofs.Accepted.{Fit, layout}
 use Rattle.table.proofs.Bodies.{body-length, bodies-length, bodies-at}
 use Rattle.table.proofs.Places.{bodies-below, first-item, second-item}
 use Rattle.table.proofs.Scans.{all-at}
-use Rattle.table.proofs.Values.{power-bound, rule-letter, rule-count, rule-written, transition-letter}
+use Rattle.table.proofs.Values.{power-bound, fit-rule, transition-letter}
 
 -- ---- places
 -- the items of kind k end before those of a later kind
@@ -173,7 +173,7 @@ module _ (bytes : List ℕ) (t : Table) (h : Holds bytes t) where
   pub rule-letter-in : (k : ℕ) → k < t .rules → ruleIn bytes k .letter < t .letters
   rule-letter-in k l =
       let e : ruleIn bytes k .letter ≡ byteOf (bodyOf bytes (counts t 1) 3 k) 0 = ap (λ (r : Rule). r .letter) (rule-in k l) in
-      omega (arith, rule-letter (processesIn bytes t) (lettersIn bytes t) (bodyOf bytes (counts t 1) 3 k) (body-fits 3 k (omega arith) l .values), letters-count)
+      omega (arith, fit-rule (processesIn bytes t) (lettersIn bytes t) (bodyOf bytes (counts t 1) 3 k) (body-fits 3 k (omega arith) l .values) .letter, letters-count)
 
   pub transition-letter-in : (k : ℕ) → k < t .transitions → transitionIn bytes k .letter < t .letters
   transition-letter-in k l =
@@ -186,7 +186,7 @@ module _ (bytes : List ℕ) (t : Table) (h : Holds bytes t) where
 
   -- ---- the letters that rule k writes
   pub written-most : (k : ℕ) → k < t .rules → byteOf (bodyOf bytes (counts t 1) 3 k) 9 ≤ writtenPlaces
-  written-most k l = rule-count (processesIn bytes t) (lettersIn bytes t) (bodyOf bytes (counts t 1) 3 k) (body-fits 3 k (omega arith) l .values)
+  written-most k l = fit-rule (processesIn bytes t) (lettersIn bytes t) (bodyOf bytes (counts t 1) 3 k) (body-fits 3 k (omega arith) l .values) .count
 
   pub written-size : (k : ℕ) → k < t .rules → length (take (byteOf (bodyOf bytes (counts t 1) 3 k) 9) (drop 10 (bodyOf bytes (counts t 1) 3 k))) ≡ byteOf (bodyOf bytes (counts t 1) 3 k) 9
   written-size k l = simp (length-take, length-drop) (omega (arith, written-most k l, body-inside 3 k (omega arith) l))
@@ -201,6 +201,6 @@ module _ (bytes : List ℕ) (t : Table) (h : Holds bytes t) where
       let b = bodyOf bytes (counts t 1) 3 k in
       let w = take (byteOf (bodyOf bytes (counts t 1) 3 k) 9) (drop 10 (bodyOf bytes (counts t 1) 3 k)) in
       let e : ruleIn bytes k .written ≡ take (byteOf (bodyOf bytes (counts t 1) 3 k) 9) (drop 10 (bodyOf bytes (counts t 1) 3 k)) = ap (λ (r : Rule). r .written) (rule-in k l) in
-      let a = rule-written (processesIn bytes t) (lettersIn bytes t) (bodyOf bytes (counts t 1) 3 k) (body-fits 3 k (omega arith) l .values) in
+      let a = fit-rule (processesIn bytes t) (lettersIn bytes t) (bodyOf bytes (counts t 1) 3 k) (body-fits 3 k (omega arith) l .values) .written in
       let x : getD w j 0 < length (lettersIn bytes t) = ltb-true (getD w j 0) (length (lettersIn bytes t)) (all-at (λ x. ltb x (length (lettersIn bytes t))) w j (subst (λ (u : List ℕ). j < length u) e m) a) in
       subst (λ (u : List ℕ). getD u j 0 < t .letters) (sym e) (omega (arith, letters-count))

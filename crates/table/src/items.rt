@@ -72,10 +72,7 @@ pub fn count_of(c: Cursor, kind: u8) -> usize
 pub fn is_stranger(kind: u8) -> bool
     ensures { λ r. ⌜ r ≡ isStranger kind ⌝ }
 {
-    if kind == 0 {
-        return true;
-    }
-    8 < kind
+    (kind == 0) | (8 < kind)
 }
 
 // Check 3: the kind falls, no process before another kind, a second start, or no start before kinds 7 and 8.
@@ -83,22 +80,10 @@ pub fn is_out_of_turn(c: Cursor, kind: u8) -> bool
     ensures { λ r. ⌜ r ≡ outOfTurn c kind ⌝ }
 {
     let t = c.table;
-    if kind < c.last {
-        return true;
-    }
-    if kind <= 1 {
-        return false;
-    }
-    if t.processes == 0 {
-        return true;
-    }
-    if kind < 6 {
-        return false;
-    }
-    if kind == 6 {
-        return 0 < c.starts;
-    }
-    c.starts == 0
+    (kind < c.last)
+        | ((kind == 6) & (0 < c.starts))
+        | ((t.processes == 0) & (1 < kind))
+        | ((6 < kind) & (c.starts == 0))
 }
 
 // ---- check 8
