@@ -67,5 +67,5 @@ returns-5 c =
 
 pub next-item-spec : {M : Type 1} → statement M
 next-item-spec = tie.close (tie.spec (λ c. step-end (c .before .before .args .bytes .now) (c .before .before .args .c) (c .if1 .taken)) (λ c. search needs)
-    (λ c κs. search needs) returns-2 (λ c. search needs) body-length-requires add-next-2 advance-requires returns-3 (λ c. search needs) (λ c. search needs) returns-4
-    returns-5)
+    (λ c κs. search needs) returns-2 (λ c. search needs) body-length-requires add-next-2 advance-requires returns-3 (λ c. search needs) (λ c. search needs)
+    returns-4 returns-5)

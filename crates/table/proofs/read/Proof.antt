@@ -38,5 +38,6 @@ returns c =
     going-end b (m .c) (m .inv) (c .before .p .given .0 .0) (c .before .before .before .next-item .ensures .done (c .before .p .given .0 .0) e)
 
 pub read-spec : {M : Type 1} → statement M
-read-spec = tie.close (tie.spec Inv-loop μ-loop (λ c κs. search needs) (λ c. going-start (c .before .before .args .bytes .now) _ (rw (c .empty .ensures) refl))
-    (λ c κs. c .loop .inv .passed) (λ c. search needs) loop-less loop-again (λ c. search needs) returns)
+read-spec = tie.close (tie.spec Inv-loop μ-loop (λ c κs. search needs)
+    (λ c. going-start (c .before .before .args .bytes .now) _ (rw (c .empty .ensures) refl)) (λ c κs. c .loop .inv .passed) (λ c. search needs) loop-less
+    loop-again (λ c. search needs) returns)

@@ -28,5 +28,5 @@ returns-2 : tie.Need-returns-2 Inv-loop μ-loop
 returns-2 c = sym (all-end (λ a. ltb a (c .before .before .before .args .letters)) (c .before .before .before .args .part .now) (c .before .loop .j) (c .loop-test .left) (c .before .loop .inv .1))
 
 pub are-letters-spec : {M : Type 1} → statement M
-are-letters-spec = tie.close (tie.spec Inv-loop μ-loop (λ c. (omega arith, refl)) (λ c. omega arith) (λ c κs. search needs) returns (λ c. omega arith) (λ c. omega arith)
-    loop-again returns-2)
+are-letters-spec = tie.close (tie.spec Inv-loop μ-loop (λ c. (omega arith, refl)) (λ c. omega arith) (λ c κs. search needs) returns (λ c. omega arith)
+    (λ c. omega arith) loop-again returns-2)

@@ -32,5 +32,5 @@ returns-2 : tie.Need-returns-2 Inv-loop μ-loop
 returns-2 c = sym (all-end (within (c .before .before .before .before .args .bytes .now) (c .before .before .before .before .args .t) (c .before .before .before .before .args .outer)) (c .before .before .before .before .args .written .now) (c .before .loop .j) (c .loop-test .left) (c .before .loop .inv .1))
 
 pub are-within-spec : {M : Type 1} → statement M
-are-within-spec = tie.close (tie.spec Inv-loop μ-loop (λ c. (omega arith, refl)) (λ c. omega arith) (λ c κs. search needs) bits-of-requires (λ c κs. search needs) returns
-    (λ c. omega arith) (λ c. omega arith) loop-again returns-2)
+are-within-spec = tie.close (tie.spec Inv-loop μ-loop (λ c. (omega arith, refl)) (λ c. omega arith) (λ c κs. search needs) bits-of-requires
+    (λ c κs. search needs) returns (λ c. omega arith) (λ c. omega arith) loop-again returns-2)

@@ -23,5 +23,4 @@ returns c =
     c .group-fits .ensures ∙ ap₂ (λ (L : Processes) (g : Group). groupFits L (boundIn (x .bytes .now) (x .t) (x .field)) g) have (c .before .group-at .ensures)
 
 pub full-group-fits-spec : {M : Type 1} → statement M
-full-group-fits-spec =
-    tie.close (tie.spec (λ c κs. search needs) sub-all (λ c κs. search needs) (λ c κs. search needs) returns)
+full-group-fits-spec = tie.close (tie.spec (λ c κs. search needs) sub-all (λ c κs. search needs) (λ c κs. search needs) returns)

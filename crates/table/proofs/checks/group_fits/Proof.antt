@@ -5,9 +5,7 @@ use Rattle.model.specs.Tables.{groupFits}
 use Rattle.table.proofs.checks.group_fits.Statement.{statement}
 use Rattle.table.proofs.checks.group_fits.Tie as tie
 
-returns : tie.Need-returns
-unfolding groupFits
-returns c = rw (c .before .before .before .state-fits .ensures, c .before .before .state-fits2 .ensures, c .before .state-fits3 .ensures, c .state-fits4 .ensures) refl
-
 pub group-fits-spec : {M : Type 1} → statement M
-group-fits-spec = tie.close (tie.spec (λ c κs. search needs) (λ c κs. search needs) (λ c κs. search needs) (λ c κs. search needs) returns)
+unfolding groupFits
+group-fits-spec = tie.close (tie.spec (λ c κs. search needs) (λ c κs. search needs) (λ c κs. search needs) (λ c κs. search needs)
+    (λ c. rw (c .before .before .before .state-fits .ensures, c .before .before .state-fits2 .ensures, c .before .state-fits3 .ensures, c .state-fits4 .ensures) refl))

@@ -9,17 +9,8 @@ use Rattle.table.proofs.Values.{whole-size, whole-rule}
 use Rattle.table.proofs.checks.is_stray.Statement.{statement}
 use Rattle.table.proofs.checks.is_stray.Tie as tie
 
-returns : tie.Need-returns
-returns c = rw (ne-eqb _ _ (c .if1 .taken))
-
-shared-slice-read-wide : tie.Need-shared-slice-read-wide
-shared-slice-read-wide c = omega (arith, whole-size (c .before .before .before .before .pre .0) (c .before .if1 .left))
-
 bits-of-requires : tie.Need-bits-of-requires
 bits-of-requires c κs = (c .before .before .before .before .before .pre .0 .heads, rw (c .wide .ensures .0) (whole-rule (c .before .before .before .before .before .pre .0) (c .before .before .if1 .left) (c .before .before .before .before .before .pre .1) .letter))
-
-shared-slice-read-wide-2 : tie.Need-shared-slice-read-wide-2
-shared-slice-read-wide-2 c = omega (arith, whole-size (c .before .before .before .before .before .before .before .pre .0) (c .before .before .before .before .if1 .left))
 
 part-are-within-end : tie.Need-part-are-within-end
 part-are-within-end c = omega (arith, c .wide2 .ensures .0, whole-size (c .before .before .before .before .before .before .before .before .pre .0) (c .before .before .before .before .before .if1 .left), whole-rule (c .before .before .before .before .before .before .before .before .pre .0) (c .before .before .before .before .before .if1 .left) (c .before .before .before .before .before .before .before .before .pre .1) .count)
@@ -32,4 +23,7 @@ unfolding cooperates
 returns-2 c = simp (eq-eqb _ _ (c .before .before .before .before .before .before .before .if1 .left), c .are-within .ensures, c .before .before .before .before .bits-of .ensures, part-front, c .before .before .before .before .before .wide .ensures .0, c .before .before .wide2 .ensures .0)
 
 pub is-stray-spec : {M : Type 1} → statement M
-is-stray-spec = tie.close (tie.spec returns shared-slice-read-wide (λ c κs. search needs) bits-of-requires shared-slice-read-wide-2 (λ c κs. search needs) (λ c. search needs) (λ c. search needs) (λ c. search needs) part-are-within-end are-within-requires returns-2)
+is-stray-spec = tie.close (tie.spec (λ c. rw (ne-eqb _ _ (c .if1 .taken)))
+    (λ c. omega (arith, whole-size (c .before .before .before .before .pre .0) (c .before .if1 .left))) (λ c κs. search needs) bits-of-requires
+    (λ c. omega (arith, whole-size (c .before .before .before .before .before .before .before .pre .0) (c .before .before .before .before .if1 .left)))
+    (λ c κs. search needs) (λ c. search needs) (λ c. search needs) (λ c. search needs) part-are-within-end are-within-requires returns-2)

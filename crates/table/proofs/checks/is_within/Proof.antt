@@ -4,8 +4,6 @@ use borrow.Author.Needs.{needs}
 use Rattle.table.proofs.checks.is_within.Statement.{statement}
 use Rattle.table.proofs.checks.is_within.Tie as tie
 
-returns : tie.Need-returns
-returns c = rw (c .before .before .before .implies .ensures, c .before .before .implies2 .ensures, c .before .implies3 .ensures, c .implies4 .ensures) refl
-
 pub is-within-spec : {M : Type 1} → statement M
-is-within-spec = tie.close (tie.spec (λ c κs. search needs) (λ c κs. search needs) (λ c κs. search needs) (λ c κs. search needs) returns)
+is-within-spec = tie.close (tie.spec (λ c κs. search needs) (λ c κs. search needs) (λ c κs. search needs) (λ c κs. search needs)
+    (λ c. rw (c .before .before .before .implies .ensures, c .before .before .implies2 .ensures, c .before .implies3 .ensures, c .implies4 .ensures) refl))

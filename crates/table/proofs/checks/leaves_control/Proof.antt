@@ -4,8 +4,6 @@ use borrow.Author.Needs.{needs}
 use Rattle.table.proofs.checks.leaves_control.Statement.{statement}
 use Rattle.table.proofs.checks.leaves_control.Tie as tie
 
-returns : tie.Need-returns
-returns c = rw (c .before .before .before .is-outside .ensures, c .before .before .is-outside2 .ensures, c .before .is-outside3 .ensures, c .is-outside4 .ensures) refl
-
 pub leaves-control-spec : {M : Type 1} → statement M
-leaves-control-spec = tie.close (tie.spec (λ c κs. search needs) (λ c κs. search needs) (λ c κs. search needs) (λ c κs. search needs) returns)
+leaves-control-spec = tie.close (tie.spec (λ c κs. search needs) (λ c κs. search needs) (λ c κs. search needs) (λ c κs. search needs)
+    (λ c. rw (c .before .before .before .is-outside .ensures, c .before .before .is-outside2 .ensures, c .before .is-outside3 .ensures, c .is-outside4 .ensures) refl))

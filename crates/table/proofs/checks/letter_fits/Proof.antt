@@ -3,8 +3,5 @@ use borrow.Author.Needs.{needs}
 use Rattle.table.proofs.checks.letter_fits.Statement.{statement}
 use Rattle.table.proofs.checks.letter_fits.Tie as tie
 
-returns : tie.Need-returns
-returns c = rw (c .power-of .ensures)
-
 pub letter-fits-spec : {M : Type 1} → statement M
-letter-fits-spec = tie.close (tie.spec (λ c. search needs) (λ c κs. search needs) returns)
+letter-fits-spec = tie.close (tie.spec (λ c. search needs) (λ c κs. search needs) (λ c. rw (c .power-of .ensures)))

@@ -6,9 +6,7 @@ use Rattle.table.proofs.Bodies.{bodies-length}
 use Rattle.table.proofs.checks.rule_fits.Statement.{statement}
 use Rattle.table.proofs.checks.rule_fits.Tie as tie
 
-returns : tie.Need-returns
-unfolding writtenFit
-returns c = simp (c .before .transition-fits .ensures, c .written-fit .ensures, bodies-length)
-
 pub rule-fits-spec : {M : Type 1} → statement M
-rule-fits-spec = tie.close (tie.spec (λ c κs. search needs) (λ c κs. search needs) returns)
+unfolding writtenFit
+rule-fits-spec = tie.close (tie.spec (λ c κs. search needs) (λ c κs. search needs)
+    (λ c. simp (c .before .transition-fits .ensures, c .written-fit .ensures, bodies-length)))

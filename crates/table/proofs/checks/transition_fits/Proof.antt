@@ -6,13 +6,12 @@ use Rattle.table.proofs.Bodies.{bodies-length}
 use Rattle.table.proofs.checks.transition_fits.Statement.{statement}
 use Rattle.table.proofs.checks.transition_fits.Tie as tie
 
-returns : tie.Need-returns
-unfolding transitionFits
-returns c = simp (bodies-length, ← (c .before .before .wide .ensures .0), le-ltb _ _ (c .if1 .taken))
-
 returns-2 : tie.Need-returns-2
 unfolding transitionFits
 returns-2 c = simp (bodies-length, c .before .before .group-fits .ensures, c .group-fits2 .ensures, c .before .before .before .group-at .ensures, c .before .group-at2 .ensures, c .before .before .before .before .bits-of .ensures, ← (c .before .before .before .before .before .before .before .wide .ensures .0), lt-ltb _ _ (c .before .before .before .before .before .if1 .left))
 
 pub transition-fits-spec : {M : Type 1} → statement M
-transition-fits-spec = tie.close (tie.spec (λ c. search needs) (λ c κs. search needs) returns (λ c κs. search needs) (λ c κs. search needs) (λ c κs. search needs) (λ c κs. search needs) (λ c κs. search needs) returns-2)
+unfolding transitionFits
+transition-fits-spec = tie.close (tie.spec (λ c. search needs) (λ c κs. search needs)
+    (λ c. simp (bodies-length, ← (c .before .before .wide .ensures .0), le-ltb _ _ (c .if1 .taken))) (λ c κs. search needs) (λ c κs. search needs)
+    (λ c κs. search needs) (λ c κs. search needs) (λ c κs. search needs) returns-2)

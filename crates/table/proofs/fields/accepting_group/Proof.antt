@@ -23,4 +23,5 @@ returns c =
     c .group-at .ensures ∙ ap (λ (l : List ℕ). groupOf l 0) e ∙ sym (accepting-in b (x .t) (at-entry .pre .0) (x .k) (at-entry .pre .1))
 
 pub accepting-group-spec : {M : Type 1} → statement M
-accepting-group-spec = tie.close (tie.spec (λ c κs. table-modest (c .before .args .bytes .now) (c .before .args .t) (c .before .pre .0)) item-body-requires (λ c κs. search needs) returns)
+accepting-group-spec = tie.close (tie.spec (λ c κs. table-modest (c .before .args .bytes .now) (c .before .args .t) (c .before .pre .0)) item-body-requires
+    (λ c κs. search needs) returns)

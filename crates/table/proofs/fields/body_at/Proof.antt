@@ -15,5 +15,4 @@ returns c =
     (e, ap length e ∙ body-length (x .bytes .now) (x .size) (x .at) (c .before .pre))
 
 pub body-at-spec : {M : Type 1} → statement M
-body-at-spec =
-    tie.close (tie.spec (λ c. search needs) (λ c. search needs) (λ c. search needs) (λ c. search needs) (λ c. search needs) returns)
+body-at-spec = tie.close (tie.spec (λ c. search needs) (λ c. search needs) (λ c. search needs) (λ c. search needs) (λ c. search needs) returns)

@@ -18,6 +18,4 @@ returns-2 c =
     rw (bodies-past (x .bytes .now) 2 0 (x .t .processes) (x .i) absent (c .if1 .left), absent-bound (x .field) (c .before .before .before .pre .1))
 
 pub bound-of-spec : {M : Type 1} → statement M
-bound-of-spec =
-    tie.close
-    (tie.spec (λ c. search needs) (λ c. search needs) (λ c. search needs) (λ c. search needs) (λ c κs. search needs) returns returns-2)
+bound-of-spec = tie.close (tie.spec (λ c. search needs) (λ c. search needs) (λ c. search needs) (λ c. search needs) (λ c κs. search needs) returns returns-2)

@@ -23,4 +23,5 @@ returns c =
     ap (λ (l : List ℕ). byteOf l 0) e ∙ sym (pile-in b (x .t) (at-entry .pre .0) (x .k) (at-entry .pre .1))
 
 pub pile-letter-spec : {M : Type 1} → statement M
-pile-letter-spec = tie.close (tie.spec (λ c κs. table-modest (c .before .args .bytes .now) (c .before .args .t) (c .before .pre .0)) item-body-requires (λ c. search needs) returns)
+pile-letter-spec = tie.close (tie.spec (λ c κs. table-modest (c .before .args .bytes .now) (c .before .args .t) (c .before .pre .0)) item-body-requires
+    (λ c. search needs) returns)

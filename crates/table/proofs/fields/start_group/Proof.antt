@@ -22,4 +22,5 @@ returns c =
     c .group-at .ensures ∙ ap (λ (l : List ℕ). groupOf l 0) e ∙ sym (start-in (x .bytes .now) (x .t) h)
 
 pub start-group-spec : {M : Type 1} → statement M
-start-group-spec = tie.close (tie.spec (λ c κs. table-modest (c .before .args .bytes .now) (c .before .args .t) (c .before .pre)) item-body-requires (λ c κs. search needs) returns)
+start-group-spec = tie.close (tie.spec (λ c κs. table-modest (c .before .args .bytes .now) (c .before .args .t) (c .before .pre)) item-body-requires
+    (λ c κs. search needs) returns)

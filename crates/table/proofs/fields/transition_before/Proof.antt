@@ -5,4 +5,5 @@ use Rattle.table.proofs.fields.transition_before.Statement.{statement}
 use Rattle.table.proofs.fields.transition_before.Tie as tie
 
 pub transition-before-spec : {M : Type 1} → statement M
-transition-before-spec = tie.close (tie.spec (λ c κs. search needs) (λ c κs. search needs) (λ c. c .group-at .ensures ∙ c .before .transition-body .ensures .1))
+transition-before-spec = tie.close (tie.spec (λ c κs. search needs) (λ c κs. search needs)
+    (λ c. c .group-at .ensures ∙ c .before .transition-body .ensures .1))

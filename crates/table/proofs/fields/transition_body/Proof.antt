@@ -20,4 +20,5 @@ returns c =
     (refl, refl, refl, body-size b (x .t) h 4 (x .k) (omega arith) (at-entry .pre .1))
 
 pub transition-body-spec : {M : Type 1} → statement M
-transition-body-spec = tie.close (tie.spec (λ c κs. table-modest (c .before .args .bytes .now) (c .before .args .t) (c .before .pre .0)) item-body-requires returns)
+transition-body-spec = tie.close (tie.spec (λ c κs. table-modest (c .before .args .bytes .now) (c .before .args .t) (c .before .pre .0)) item-body-requires
+    returns)

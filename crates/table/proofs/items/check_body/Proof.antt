@@ -82,5 +82,5 @@ returns-5 c =
 
 pub check-body-spec : {M : Type 1} → statement M
 check-body-spec = tie.close (tie.spec (λ c κs. search needs) returns
-    (λ c κs. (c .before .before .before .before .before .pre .4, sym (c .before .value-fits .ensures) ∙ c .if1 .taken)) returns-2 is-reentry-requires returns-3
-    (λ c κs. search needs) returns-4 returns-5)
+    (λ c κs. (c .before .before .before .before .before .pre .4, sym (c .before .value-fits .ensures) ∙ c .if1 .taken)) returns-2 is-reentry-requires
+    returns-3 (λ c κs. search needs) returns-4 returns-5)

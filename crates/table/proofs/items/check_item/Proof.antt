@@ -82,5 +82,5 @@ returns-3 c =
 
 pub check-item-spec : {M : Type 1} → statement M
 check-item-spec = tie.close (tie.spec (λ c κs. search needs) returns
-    (λ c κs. kind-of (c .before .before .before .args .kind) (sym (c .before .is-stranger .ensures) ∙ c .if1 .left) .1) (λ c κs. search needs) ceiling-of-requires
-    count-of-requires (λ c. search needs) (λ c κs. search needs) returns-2 body-at-requires check-body-requires returns-3)
+    (λ c κs. kind-of (c .before .before .before .args .kind) (sym (c .before .is-stranger .ensures) ∙ c .if1 .left) .1) (λ c κs. search needs)
+    ceiling-of-requires count-of-requires (λ c. search needs) (λ c κs. search needs) returns-2 body-at-requires check-body-requires returns-3)

@@ -4,9 +4,6 @@ use Rattle.table.specs.Reading.{outOfTurn}
 use Rattle.table.proofs.items.is_out_of_turn.Statement.{statement}
 use Rattle.table.proofs.items.is_out_of_turn.Tie as tie
 
-returns : tie.Need-returns
-unfolding outOfTurn
-returns c = refl
-
 pub is-out-of-turn-spec : {M : Type 1} → statement M
-is-out-of-turn-spec = tie.close (tie.spec returns)
+unfolding outOfTurn
+is-out-of-turn-spec = tie.close (tie.spec (λ c. refl))

@@ -19,7 +19,8 @@ loop-again c = left-turn (c .before .before .before .loop .inv) (c .before .befo
 
 pub is-seen-spec : {M : Type 1} → statement M
 is-seen-spec = tie.close (tie.spec Inv-loop μ-loop (λ c. record { room = c .before .pre .0; same = refl }) (λ c. omega arith)
-    (λ c. omega (arith, left-room (c .before .loop .inv) (c .loop-test .taken))) (λ c κs. omega (arith, left-room (c .before .loop .inv) (c .loop-test .taken))) returns
+    (λ c. omega (arith, left-room (c .before .loop .inv) (c .loop-test .taken)))
+    (λ c κs. omega (arith, left-room (c .before .loop .inv) (c .loop-test .taken))) returns
     (λ c. omega (arith, left-room (c .before .before .before .loop .inv) (c .before .before .loop-test .taken)))
-    (λ c. omega (arith, left-room (c .before .before .before .loop .inv) (c .before .before .loop-test .taken))) (λ c. omega arith) (λ c. omega arith) loop-again
-    (λ c. sym (left-end (c .before .loop .inv) (c .loop-test .left))))
+    (λ c. omega (arith, left-room (c .before .before .before .loop .inv) (c .before .before .loop-test .taken))) (λ c. omega arith) (λ c. omega arith)
+    loop-again (λ c. sym (left-end (c .before .loop .inv) (c .loop-test .left))))

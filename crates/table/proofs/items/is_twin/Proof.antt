@@ -87,5 +87,5 @@ unfolding isTwin
 returns-4 c = sym (no-twin (c .before .before .before .before .before .args .kind) _ (c .before .before .if1 .left) (c .before .if2 .left) (c .if3 .left))
 
 pub is-twin-spec : {M : Type 1} → statement M
-is-twin-spec = tie.close (tie.spec mul-is-seen sub-is-seen is-seen-requires returns mul-is-seen-2 sub-is-seen-2 is-seen-requires-2 returns-2 mul-is-seen-3 sub-is-seen-3
-    is-seen-requires-3 returns-3 returns-4)
+is-twin-spec = tie.close (tie.spec mul-is-seen sub-is-seen is-seen-requires returns mul-is-seen-2 sub-is-seen-2 is-seen-requires-2 returns-2 mul-is-seen-3
+    sub-is-seen-3 is-seen-requires-3 returns-3 returns-4)
