@@ -1,13 +1,13 @@
 -- Laws of a cursor: what its counts say of the items before it, and the cursor behind one item more.
-use mathlib.Core.Bool.{Bool, false, cond, _&&_}
+use mathlib.Core.Bool.{cond}
 use mathlib.Core.List.{List, [], _∷_, _++_}
 use mathlib.Core.Path.{_≡_, refl, sym, ap, _∙_, subst}
-use Prim.Native.Nat.{ℕ, zero, suc, _+_, _*_, _<_, _≤_}
+use Prim.Native.Nat.{ℕ, zero, suc, _+_, _-_, _*_, _<_, _≤_}
 use native.Mathlib.Decide.{ℕ-discrete}
 use native.Mathlib.Omega.{arith}
-use lib.Dec.{eqb, leb}
+use lib.Dec.{eqb}
 use lib.ListN.{length}
-use borrow.Author.Tests.{ne-eqb, lt-leb}
+use borrow.Author.Tests.{ne-eqb}
 use Rattle.model.specs.Lists.{anyOf}
 use Rattle.model.specs.Tables.{bodyLength, ceiling, bodies, count, isOutOfTurn, sameBytes}
 use Rattle.table.specs.Places.{bodyAt, bodiesAt, offset, countsAt, itemsBefore, processesIn, lettersIn, Modest, advanced, Heads, Passed}
@@ -15,7 +15,6 @@ use Rattle.table.specs.Reading.{countsOf, outOfTurn}
 use Rattle.table.specs.declared.Cursor.{Cursor}
 use Rattle.table.proofs.Bodies.{bodies-length}
 use Rattle.table.proofs.Places.{bodies-above, bodies-below, offset-snoc, items-snoc, offset-still, lastKind-snoc}
-use Rattle.table.proofs.Scans.{and-false}
 
 -- ---- places by counts
 module _ (bytes : List ℕ) (c : Cursor) where
@@ -72,13 +71,6 @@ module _ (bytes : List ℕ) (c : Cursor) where
   -- the items of the cursor's kind stand right before it
   pub kind-place : Passed bytes c → (k : ℕ) → k < 8 → c .last ≤ k → offset (countsAt c) k + countsAt c k * (1 + bodyLength k) ≡ c .at
   kind-place p k h l = sym (p .place ∙ offset-still (countsAt c) k 8 h (λ j m. p .above j (omega arith)))
-
-  -- check 8
-  pub seen-before : Passed bytes c → (k first : ℕ) (body : List ℕ) → k < 8 → c .last ≤ k → first + countsAt c k * (1 + bodyLength k) ≡ c .at
-      → anyOf (sameBytes body) (bodiesAt bytes (bodyLength k) first (countsAt c k)) ≡ anyOf (sameBytes body) (bodies k (itemsBefore bytes c))
-  seen-before p k first body h l e =
-      let same : first ≡ offset (countsAt c) k = omega (arith, kind-place p k h l) in
-      rw (bodies-below bytes (countsAt c) k 8 h, same)
 
 -- ---- the cursor behind one item more
 module _ (c : Cursor) (k next : ℕ) where
@@ -143,28 +135,14 @@ module _ (bytes : List ℕ) (c : Cursor) (k : ℕ) (p : Passed bytes c) (a : Adm
     ];
   }
 
--- what check 8 needs of an item of kind 3, 4 or 5 at the cursor
-pub record Seen (bytes : List ℕ) (c : Cursor) (k : ℕ) : Type 0 where
-  pub place : offset (countsAt c) k + countsAt c k * (1 + bodyLength k) ≡ c .at
-  pub inside : c .at + 1 + bodyLength k ≤ length bytes
-  pub same : (first : ℕ) → first + countsAt c k * (1 + bodyLength k) ≡ c .at
-      → anyOf (sameBytes (bodyAt bytes (bodyLength k) (c .at))) (bodiesAt bytes (bodyLength k) first (countsAt c k)) ≡ anyOf (sameBytes (bodyAt bytes (bodyLength k) (c .at))) (bodies k (itemsBefore bytes c))
+-- what check 8 needs of an item at the cursor: `count` items of its kind, with bodies of `size` bytes, stand right before it
+pub record Seen (bytes : List ℕ) (c : Cursor) (k size count : ℕ) : Type 0 where
+  pub room : count * (1 + size) ≤ c .at
+  pub inside : c .at + 1 + size ≤ length bytes
+  pub same : anyOf (sameBytes (bodyAt bytes size (c .at))) (bodiesAt bytes size (c .at - count * (1 + size)) count) ≡ anyOf (sameBytes (bodyAt bytes (bodyLength k) (c .at))) (bodies k (itemsBefore bytes c))
 
-pub seen-of : (bytes : List ℕ) (c : Cursor) (kind k : ℕ) → kind ≡ k → k < 8 → Passed bytes c → c .last ≤ kind → c .at + 1 + bodyLength kind ≤ length bytes → Seen bytes c k
-seen-of bytes c kind k e h p l w =
-    let m : c .last ≤ k = subst (λ (i : ℕ). c .last ≤ i) e l in
-    record {
-      place = kind-place bytes c p k h m;
-      inside = subst (λ (i : ℕ). c .at + 1 + bodyLength i ≤ length bytes) e w;
-      same = λ first q. seen-before bytes c p k first (bodyAt bytes (bodyLength k) (c .at)) h m q;
-    }
-
--- kinds without check 8
-pub no-twin : (k : ℕ) (b : Bool) → (k ≡ 3 → ⊥) → (k ≡ 4 → ⊥) → (k ≡ 5 → ⊥) → (leb 3 k && leb k 5 && b) ≡ false
-no-twin zero b n3 n4 n5 = refl
-no-twin (suc zero) b n3 n4 n5 = refl
-no-twin (suc (suc zero)) b n3 n4 n5 = refl
-no-twin (suc (suc (suc zero))) b n3 n4 n5 = absurd (n3 refl)
-no-twin (suc (suc (suc (suc zero)))) b n3 n4 n5 = absurd (n4 refl)
-no-twin (suc (suc (suc (suc (suc zero))))) b n3 n4 n5 = absurd (n5 refl)
-no-twin (suc (suc (suc (suc (suc (suc k)))))) b n3 n4 n5 = rw (lt-leb (suc (suc (suc (suc (suc (suc k)))))) 5 (omega arith), and-false (leb 3 (suc (suc (suc (suc (suc (suc k))))))))
+pub seen-of : (bytes : List ℕ) (c : Cursor) (k size count : ℕ) → k < 8 → Passed bytes c → c .last ≤ k → c .at + 1 + bodyLength k ≤ length bytes → size ≡ bodyLength k → count ≡ countsAt c k → Seen bytes c k size count
+seen-of bytes c k size count h p l w e n =
+    let place : offset (countsAt c) k + count * (1 + size) ≡ c .at = rw (e, n) (kind-place bytes c p k h l) in
+    let first : c .at - count * (1 + size) ≡ offset (countsAt c) k = omega arith in
+    record { room = omega arith; inside = rw e w; same = rw (first, e, n, bodies-below bytes (countsAt c) k 8 h) refl }

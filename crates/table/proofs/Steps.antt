@@ -11,13 +11,14 @@ use lib.Seq.{drop-cons, drop-drop}
 use borrow.Author.Tests.{not-false, eq-eqb, ne-eqb, eqb-false, ltb-false, lt-ltb, le-ltb, leb-true, leb-false}
 use Rattle.model.proofs.Tests.{by-test, or-right}
 use Rattle.model.specs.Tables.{Item, bodyLength, ceiling, bodies, count, controlsOf, locOf, ruleOf, transitionOf, isStranger, isOutOfTurn, valueFits, cooperates, leavesControl, isTwin, refusal, Reading, accepted, ending, unlessRefused, readFrom, read}
-use Rattle.table.specs.Places.{bodyAt, bodiesAt, offset, itemsBelow, counts, itemsBefore, advanced, Passed}
+use Rattle.table.specs.Places.{bodyAt, bodiesAt, offset, itemsBelow, counts, countsAt, itemsBefore, advanced, Whole, Passed}
 use Rattle.table.specs.Reading.{countsOf, parsed, outOfTurn, bodyRefusal, readOn, Onward, Stepped}
 use Rattle.table.specs.declared.Cursor.{Cursor}
 use Rattle.table.specs.declared.Parsed.{Parsed}
 use Rattle.table.specs.declared.Parsed.the-variants.{Accepted, Refused}
 use Rattle.table.specs.declared.Step.the-variants.{Next, Done}
-use Rattle.table.proofs.Cursors.{count-before, counts-before, turn-before, Admitted, items-beyond, passed-beyond}
+use Rattle.table.proofs.Bodies.{body-length}
+use Rattle.table.proofs.Cursors.{count-before, count-known, counts-before, turn-before, heads-of, Admitted, items-beyond, passed-beyond}
 
 -- ---- the checks that an item passed
 pub record Clear (items : List Item) (k : ℕ) (body : List ℕ) : Type 0 where
@@ -49,29 +50,20 @@ clear-of items k body e =
     record { stranger = a .0; turn = b .0; room = c .0; whole = d .0; values = not-false _ (f .0); stray = g .0; reentry = h .0; twin = i .0 }
 
 -- the checks 3, 4 and 1 in a row, with the number m behind them
-abbrev pub early : Bool → Bool → Bool → ℕ → ℕ
+abbrev early : Bool → Bool → Bool → ℕ → ℕ
 early a b c m = cond a 3 (cond b 4 (cond c 1 m))
 
-pub early-found : (a b c : Bool) (m : ℕ) → (early a b c 0 ≡ 0 → ⊥) → early a b c 0 ≡ early a b c m
-early-found true b c m h = refl
-early-found false true c m h = refl
-early-found false false true m h = refl
-early-found false false false m h = absurd (h refl)
+early-found : (a b c : Bool) (m n : ℕ) → n ≡ early a b c 0 → (n ≡ 0 → ⊥) → n ≡ early a b c m
+early-found true b c m n e h = e
+early-found false true c m n e h = e
+early-found false false true m n e h = e
+early-found false false false m n e h = absurd (h e)
 
-pub early-passed : (a b c : Bool) → early a b c 0 ≡ 0 → (a ≡ false) × (b ≡ false) × (c ≡ false)
+early-passed : (a b c : Bool) → early a b c 0 ≡ 0 → (a ≡ false) × (b ≡ false) × (c ≡ false)
 early-passed true b c e = absurd (omega arith)
 early-passed false true c e = absurd (omega arith)
 early-passed false false true e = absurd (omega arith)
 early-passed false false false e = (refl, refl, refl)
-
-pub late-found : (a b c : Bool) (m : ℕ) → early a b c 0 ≡ 0 → m ≡ early a b c m
-late-found a b c m e = let q = early-passed a b c e in rw (q .0, q .1, q .2)
-
--- all checks behind the first
-pub refusal-known : (items : List Item) (k : ℕ) (body : List ℕ) → isStranger k ≡ false
-    → refusal items k body ≡ early (isOutOfTurn items k) (leb (ceiling k) (count k items)) (ltb (length body) (bodyLength k)) (bodyRefusal items k body)
-unfolding refusal bodyRefusal
-refusal-known items k body a = rw a
 
 pub or-left : (a b : Bool) → (a || b) ≡ false → a ≡ false
 or-left true b e = e
@@ -98,10 +90,38 @@ pub cut-length : (bytes : List ℕ) (size place : ℕ) → length (bodyAt bytes 
 cut-length bytes size place = simp (length-take, length-drop)
 
 -- check 1 by the bytes that are left
-pub cut-test : (bytes : List ℕ) (size place : ℕ) → place < length bytes → leb (length bytes - place) size ≡ ltb (length (bodyAt bytes size place)) size
+cut-test : (bytes : List ℕ) (size place : ℕ) → place < length bytes → ltb (length (bodyAt bytes size place)) size ≡ leb (length bytes - place) size
 cut-test bytes size place h = by-test (leb (length bytes - place) size)
-    (λ y. let l : length bytes - place ≤ size = leb-true (length bytes - place) size y in y ∙ sym (lt-ltb (length (bodyAt bytes size place)) size (omega (arith, cut-length bytes size place))))
-    (λ y. let l : size < length bytes - place = leb-false (length bytes - place) size y in y ∙ sym (le-ltb (length (bodyAt bytes size place)) size (omega (arith, cut-length bytes size place))))
+    (λ y. let l : length bytes - place ≤ size = leb-true _ _ y in lt-ltb (length (bodyAt bytes size place)) size (omega (arith, cut-length bytes size place)) ∙ sym y)
+    (λ y. let l : size < length bytes - place = leb-false _ _ y in le-ltb (length (bodyAt bytes size place)) size (omega (arith, cut-length bytes size place)) ∙ sym y)
+
+-- an item that passed the checks 2, 3, 4 and 1
+pub record Early (bytes : List ℕ) (c : Cursor) (k : ℕ) : Type 0 where
+  pub turn : c .last ≤ k
+  pub inside : c .at + 1 + bodyLength k ≤ length bytes
+  pub whole : Whole bytes (c .table) k (bodyAt bytes (bodyLength k) (c .at))
+  pub same : bodyRefusal (itemsBefore bytes c) k (bodyAt bytes (bodyLength k) (c .at)) ≡ refusal (itemsBefore bytes c) k (bodyAt bytes (bodyLength k) (c .at))
+
+module _ (bytes : List ℕ) (c : Cursor) (k : ℕ) (p : Passed bytes c) (inside : c .at < length bytes) (s : isStranger k ≡ false) where
+  -- all checks behind the first
+  refusal-known : refusal (itemsBefore bytes c) k (bodyAt bytes (bodyLength k) (c .at)) ≡
+      early (outOfTurn c k) (leb (ceiling k) (countsAt c k)) (leb (length bytes - c .at) (bodyLength k)) (bodyRefusal (itemsBefore bytes c) k (bodyAt bytes (bodyLength k) (c .at)))
+  unfolding refusal bodyRefusal
+  refusal-known = rw (s, turn-before bytes c p k, count-known bytes c k (kind-of k s .1), cut-test bytes (bodyLength k) (c .at) inside)
+
+  pub early-refused : (n : ℕ) → n ≡ early (outOfTurn c k) (leb (ceiling k) (countsAt c k)) (leb (length bytes - c .at) (bodyLength k)) 0 → (n ≡ 0 → ⊥) → n ≡ refusal (itemsBefore bytes c) k (bodyAt bytes (bodyLength k) (c .at))
+  early-refused n e h = early-found (outOfTurn c k) (leb (ceiling k) (countsAt c k)) (leb (length bytes - c .at) (bodyLength k)) _ n e h ∙ sym refusal-known
+
+  pub early-of : early (outOfTurn c k) (leb (ceiling k) (countsAt c k)) (leb (length bytes - c .at) (bodyLength k)) 0 ≡ 0 → Early bytes c k
+  early-of e =
+      let q = early-passed (outOfTurn c k) (leb (ceiling k) (countsAt c k)) (leb (length bytes - c .at) (bodyLength k)) e in
+      let i : c .at + 1 + bodyLength k ≤ length bytes = omega (arith, leb-false (length bytes - c .at) (bodyLength k) (q .2)) in
+      record {
+        turn = turn-of c k (q .0);
+        inside = i;
+        whole = record { heads = heads-of bytes c p; some = kind-of k s .0; known = kind-of k s .1; size = body-length bytes (bodyLength k) (c .at) i };
+        same = sym (refusal-known ∙ rw (q .0, q .1, q .2));
+      }
 
 module _ (bytes : List ℕ) (c : Cursor) (p : Passed bytes c) (inside : c .at < length bytes) where
   abbrev items : List Item

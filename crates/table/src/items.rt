@@ -2,7 +2,7 @@
 ghost use mathlib.Core.Path.{_≡_};
 ghost use mathlib.Core.Bool.{true, cond};
 ghost use Prim.Native.Nat.{_+_, _*_, _≤_, _<_};
-ghost use lib.Dec.{eqb};
+ghost use lib.Dec.{eqb, leb};
 ghost use lib.ListN.{length, take, drop};
 ghost use Rattle.model.specs.Lists.{anyOf};
 ghost use Rattle.model.specs.Tables.{bodyLength, ceiling, isStranger, sameBytes, isTwin, refusal};
@@ -14,7 +14,6 @@ use crate::checks::is_reentry;
 use crate::checks::is_stray;
 use crate::checks::value_fits;
 use crate::fields::RULE_BODY;
-use crate::fields::RULE_ITEM;
 use crate::fields::body_at;
 use numbers::eight_at;
 use numbers::wide;
@@ -133,23 +132,20 @@ pub fn is_seen(bytes: &[u8], size: usize, first: usize, count: usize, at: usize)
     false
 }
 
-// Check 8: the body stands before in kinds 3, 4, 5.
-pub fn is_twin(bytes: &[u8], c: Cursor, kind: u8) -> bool
-    requires { ⌜ Passed (now bytes) c × (c .last ≤ kind) × (c .at + 1 + bodyLength kind ≤ length (now bytes)) ⌝ }
+// Check 8: the body, of so many bytes, stands before in kinds 3, 4, 5.
+pub fn is_twin(bytes: &[u8], c: Cursor, kind: u8, size: usize) -> bool
+    requires { ⌜ Passed (now bytes) c × (c .last ≤ kind) × (c .at + 1 + bodyLength kind ≤ length (now bytes)) × (size ≡ bodyLength kind) ⌝ }
     ensures { λ r. ⌜ r ≡ isTwin (itemsBefore (now (bytes .entry)) c) kind (bodyAt (now (bytes .entry)) (bodyLength kind) (c .at)) ⌝ }
 {
+    if kind < 3 {
+        return false;
+    }
+    if 5 < kind {
+        return false;
+    }
     let at = c.at;
-    let t = c.table;
-    if kind == 3 {
-        return is_seen(bytes, RULE_BODY, at - RULE_ITEM * t.rules, t.rules, at);
-    }
-    if kind == 4 {
-        return is_seen(bytes, 9, at - 10 * t.transitions, t.transitions, at);
-    }
-    if kind == 5 {
-        return is_seen(bytes, 4, at - 5 * t.accepting, t.accepting, at);
-    }
-    false
+    let count = count_of(c, kind);
+    is_seen(bytes, size, at - count * (1 + size), count, at)
 }
 
 // ---- one item
@@ -168,22 +164,25 @@ pub fn check_body(bytes: &[u8], c: Cursor, kind: u8, body: &[u8]) -> u8
     if is_reentry(bytes, t, kind, body) {
         return 7;
     }
-    if is_twin(bytes, c, kind) {
+    if is_twin(bytes, c, kind, body.len()) {
         return 8;
     }
     0
 }
 
-// The number of the first of the checks 3, 4 and 1 that fails, or 0.
-pub fn early_refusal(turn: bool, crowd: bool, cut: bool) -> u8
-    ensures { λ r. ⌜ r ≡ cond turn 3 (cond crowd 4 (cond cut 1 0)) ⌝ }
+// The number of the first of the checks 3, 4 and 1 that fails, or 0; `left` is the number of bytes from the item on.
+pub fn early_refusal(c: Cursor, kind: u8, left: usize) -> u8
+    requires { ⌜ kind < 9 ⌝ }
+    ensures { λ r. ⌜ r ≡ cond (outOfTurn c kind) 3 (cond (leb (ceiling kind) (countsAt c kind)) 4 (cond (leb left (bodyLength kind)) 1 0)) ⌝ }
 {
-    if turn {
+    if is_out_of_turn(c, kind) {
         return 3;
     }
+    let crowd = ceiling_of(kind) <= count_of(c, kind);
     if crowd {
         return 4;
     }
+    let cut = left <= body_length(kind);
     if cut {
         return 1;
     }
@@ -199,15 +198,11 @@ pub fn check_item(bytes: &[u8], c: Cursor, kind: u8) -> u8
     if is_stranger(kind) {
         return 2;
     }
-    let size = body_length(kind);
-    let turn = is_out_of_turn(c, kind);
-    let crowd = ceiling_of(kind) <= count_of(c, kind);
-    let cut = bytes.len() - at <= size;
-    let number = early_refusal(turn, crowd, cut);
+    let number = early_refusal(c, kind, bytes.len() - at);
     if number != 0 {
         return number;
     }
-    check_body(bytes, c, kind, body_at(bytes, at, size))
+    check_body(bytes, c, kind, body_at(bytes, at, body_length(kind)))
 }
 
 // 1 where the kinds are equal, else 0.
