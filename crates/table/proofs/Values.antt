@@ -3,6 +3,7 @@ use mathlib.Core.Bool.{Bool, true, false, not, _&&_, _||_, true≢false}
 use mathlib.Core.List.{List, [], _∷_}
 use mathlib.Core.Path.{_≡_, refl, sym, ap, ap₂, _∙_}
 use Prim.Native.Nat.{ℕ, zero, suc, _-_, _*_, _^_, _<_, _≤_}
+use native.Mathlib.Nat.{le-antisymm, le-of-suc-le-suc}
 use native.Mathlib.Omega.{arith}
 use lib.Dec.{eqb, ltb, leb}
 use lib.ListN.{length, getD, take, drop}
@@ -92,13 +93,8 @@ module _ {bytes : List ℕ} {t : Table} {k : ℕ} {body : List ℕ} (w : Whole b
   whole-transition e v = rw (bodies-length bytes 1 (3 * t .processes) (t .letters)) at (transition-letter (processesIn bytes t) (lettersIn bytes t) body (rw e at v))
 
 -- a kind of item that is none of 1 to 7
+above : {k : ℕ} (j : ℕ) → j ≤ k → (k ≡ j → ⊥) → suc j ≤ k
+above j h n = omega arith
+
 pub is-end : (k : ℕ) → 0 < k → k < 9 → (k ≡ 1 → ⊥) → (k ≡ 2 → ⊥) → (k ≡ 3 → ⊥) → (k ≡ 4 → ⊥) → (k ≡ 5 → ⊥) → (k ≡ 6 → ⊥) → (k ≡ 7 → ⊥) → k ≡ 8
-is-end zero h l n1 n2 n3 n4 n5 n6 n7 = absurd (omega arith)
-is-end (suc zero) h l n1 n2 n3 n4 n5 n6 n7 = absurd (n1 refl)
-is-end (suc (suc zero)) h l n1 n2 n3 n4 n5 n6 n7 = absurd (n2 refl)
-is-end (suc (suc (suc zero))) h l n1 n2 n3 n4 n5 n6 n7 = absurd (n3 refl)
-is-end (suc (suc (suc (suc zero)))) h l n1 n2 n3 n4 n5 n6 n7 = absurd (n4 refl)
-is-end (suc (suc (suc (suc (suc zero))))) h l n1 n2 n3 n4 n5 n6 n7 = absurd (n5 refl)
-is-end (suc (suc (suc (suc (suc (suc zero)))))) h l n1 n2 n3 n4 n5 n6 n7 = absurd (n6 refl)
-is-end (suc (suc (suc (suc (suc (suc (suc zero))))))) h l n1 n2 n3 n4 n5 n6 n7 = absurd (n7 refl)
-is-end (suc (suc (suc (suc (suc (suc (suc (suc k)))))))) h l n1 n2 n3 n4 n5 n6 n7 = omega (arith, l)
+is-end k h l n1 n2 n3 n4 n5 n6 n7 = le-antisymm (le-of-suc-le-suc l) (above 7 (above 6 (above 5 (above 4 (above 3 (above 2 (above 1 h n1) n2) n3) n4) n5) n6) n7)

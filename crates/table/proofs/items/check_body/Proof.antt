@@ -7,13 +7,6 @@ use Rattle.table.proofs.Cursors.{processes-before, letters-before}
 use Rattle.table.proofs.items.check_body.Statement.{statement}
 use Rattle.table.proofs.items.check_body.Tie as tie
 
-returns : tie.Need-returns
-unfolding bodyRefusal
-returns c = simp (processes-before, letters-before, sym (c .before .value-fits .ensures) ∙ c .if1 .left)
-
-is-stray-requires : tie.Need-is-stray-requires
-is-stray-requires c κs = (c .before .before .before .before .before .pre .4, sym (c .before .value-fits .ensures) ∙ c .if1 .taken)
-
 returns-2 : tie.Need-returns-2
 unfolding bodyRefusal
 returns-2 c = simp (processes-before, letters-before, sym (c .before .before .before .value-fits .ensures) ∙ c .before .before .if1 .taken, sym (c .before .is-stray .ensures) ∙ c .if2 .taken)
@@ -34,4 +27,8 @@ unfolding bodyRefusal
 returns-5 c = simp (processes-before, letters-before, sym (c .before .before .before .before .before .before .before .value-fits .ensures) ∙ c .before .before .before .before .before .before .if1 .taken, sym (c .before .before .before .before .before .is-stray .ensures) ∙ c .before .before .before .before .if2 .left, sym (c .before .before .before .is-reentry .ensures) ∙ c .before .before .if3 .left, ap (isTwin _ _) (c .before .before .before .before .before .before .before .before .before .before .before .pre .3) ∙ sym (c .before .is-twin .ensures) ∙ c .if4 .left)
 
 pub check-body-spec : {M : Type 1} → statement M
-check-body-spec = tie.close (tie.spec (λ c κs. search needs) returns is-stray-requires returns-2 is-reentry-requires returns-3 (λ c κs. search needs) returns-4 returns-5)
+unfolding bodyRefusal
+check-body-spec = tie.close (tie.spec (λ c κs. search needs)
+    (λ c. simp (processes-before, letters-before, sym (c .before .value-fits .ensures) ∙ c .if1 .left))
+    (λ c κs. (c .before .before .before .before .before .pre .4, sym (c .before .value-fits .ensures) ∙ c .if1 .taken)) returns-2 is-reentry-requires
+    returns-3 (λ c κs. search needs) returns-4 returns-5)

@@ -7,18 +7,8 @@ use Rattle.table.proofs.Steps.{kind-of, early-refused, early-of}
 use Rattle.table.proofs.items.check_item.Statement.{statement}
 use Rattle.table.proofs.items.check_item.Tie as tie
 
-returns : tie.Need-returns
-unfolding refusal
-returns c = rw (sym (c .before .is-stranger .ensures) ∙ c .if1 .taken)
-
-early-refusal-requires : tie.Need-early-refusal-requires
-early-refusal-requires c κs = kind-of _ (sym (c .before .is-stranger .ensures) ∙ c .if1 .left) .1
-
 returns-2 : tie.Need-returns-2
 returns-2 c = early-refused _ _ _ (c .before .before .before .before .before .pre .0) (c .before .before .before .before .before .pre .1) (sym (c .before .before .before .is-stranger .ensures) ∙ c .before .before .if1 .left) _ (c .before .early-refusal .ensures) (c .if2 .taken)
-
-body-length-requires : tie.Need-body-length-requires
-body-length-requires c κs = kind-of _ (sym (c .before .before .before .is-stranger .ensures) ∙ c .before .before .if1 .left) .1
 
 body-at-requires : tie.Need-body-at-requires
 body-at-requires c κs = omega (arith, c .body-length .ensures, early-of _ _ _ (c .before .before .before .before .before .before .pre .0) (c .before .before .before .before .before .before .pre .1) (sym (c .before .before .before .before .is-stranger .ensures) ∙ c .before .before .before .if1 .left) (sym (c .before .before .early-refusal .ensures) ∙ c .before .if2 .left) .inside)
@@ -34,4 +24,8 @@ returns-3 c =
     rw (c .check-body .ensures, c .before .body-at .ensures .0, c .before .before .body-length .ensures) (f .same)
 
 pub check-item-spec : {M : Type 1} → statement M
-check-item-spec = tie.close (tie.spec (λ c κs. search needs) returns (λ c. search needs) early-refusal-requires returns-2 body-length-requires body-at-requires check-body-requires returns-3)
+unfolding refusal
+check-item-spec = tie.close (tie.spec (λ c κs. search needs) (λ c. rw (sym (c .before .is-stranger .ensures) ∙ c .if1 .taken)) (λ c. search needs)
+    (λ c κs. kind-of _ (sym (c .before .is-stranger .ensures) ∙ c .if1 .left) .1) returns-2
+    (λ c κs. kind-of _ (sym (c .before .before .before .is-stranger .ensures) ∙ c .before .before .if1 .left) .1) body-at-requires check-body-requires
+    returns-3)

@@ -8,14 +8,6 @@ use Rattle.table.proofs.Cursors.{seen-of}
 use Rattle.table.proofs.items.is_twin.Statement.{statement}
 use Rattle.table.proofs.items.is_twin.Tie as tie
 
-returns : tie.Need-returns
-unfolding isTwin
-returns c = rw (lt-leb _ _ (c .if1 .taken))
-
-returns-2 : tie.Need-returns-2
-unfolding isTwin
-returns-2 c = rw (le-leb _ _ (c .before .if1 .left), lt-leb _ _ (c .if2 .taken))
-
 mul-is-seen : tie.Need-mul-is-seen
 mul-is-seen c = omega (arith, seen-of _ _ _ _ _ (omega arith) (c .before .before .before .before .pre .0) (c .before .before .before .before .pre .1) (c .before .before .before .before .pre .2) (c .before .before .before .before .pre .3) (c .count-of .ensures) .room)
 
@@ -34,4 +26,6 @@ returns-3 c =
     rw (le-leb _ _ (c .before .before .before .if1 .left), le-leb _ _ (c .before .before .if2 .left)) (c .is-seen .ensures ∙ s .same)
 
 pub is-twin-spec : {M : Type 1} → statement M
-is-twin-spec = tie.close (tie.spec returns returns-2 (λ c κs. search needs) (λ c. search needs) mul-is-seen sub-is-seen is-seen-requires returns-3)
+unfolding isTwin
+is-twin-spec = tie.close (tie.spec (λ c. rw (lt-leb _ _ (c .if1 .taken))) (λ c. rw (le-leb _ _ (c .before .if1 .left), lt-leb _ _ (c .if2 .taken)))
+    (λ c κs. search needs) (λ c. search needs) mul-is-seen sub-is-seen is-seen-requires returns-3)
