@@ -3,16 +3,15 @@ use mathlib.Core.Bool.{true, _&&_}
 use mathlib.Core.List.{List, [], _∷_}
 use mathlib.Core.Logic.{⊎-elim}
 use mathlib.Core.Path.{_≡_, refl, sym, ap, _∙_, subst}
-use Prim.Native.Nat.{ℕ, zero, suc, _+_, _-_, _*_, _^_, _<_, _≤_}
+use Prim.Native.Nat.{ℕ, zero, suc, _+_, _*_, _^_, _<_, _≤_}
 use native.Mathlib.Nat.{not-suc-le-zero, le-of-suc-le-suc, eq-or-lt-of-le, mul-le-mul-right, suc-mul}
 use native.Mathlib.Omega.{arith}
 use lib.Dec.{ltb, leb}
 use lib.ListN.{length, getD, take, drop, length-map, length-take, length-drop, List·getD-map}
-use lib.Seq.{getD-take, getD-drop}
 use borrow.Author.Tests.{ltb-true, leb-true}
 use Rattle.model.proofs.Tests.{and-left, and-right}
 use Rattle.model.specs.Automata.{Transition}
-use Rattle.model.specs.Groups.{Process, Processes, processesOf}
+use Rattle.model.specs.Groups.{Processes, processesOf}
 use Rattle.model.specs.Systems.{Rule}
 use Rattle.model.specs.Tables.{locOf, statesOf, writtenPlaces, bodyLength, bodies, byteOf, groupOf, numberOf, absent, ruleOf, transitionOf, valueFits, systemOf}
 use Rattle.table.specs.Places.{bodyAt, bodiesAt, offset, placeOf, bodyOf, counts, processesIn, lettersIn, Modest, Heads}
@@ -22,7 +21,7 @@ use Rattle.table.proofs.Accepted.{Fit, layout}
 use Rattle.table.proofs.Bodies.{body-length, bodies-length, bodies-at}
 use Rattle.table.proofs.Places.{bodies-below, first-item, second-item}
 use Rattle.table.proofs.Scans.{all-at}
-use Rattle.table.proofs.Values.{power-bound, fit-rule, transition-letter}
+use Rattle.table.proofs.Values.{up-to-4, power-bound, fit-rule, transition-letter}
 
 -- ---- places
 -- the items of kind k end before those of a later kind
@@ -50,11 +49,7 @@ unfolding offset
 places t = omega arith
 
 number-at : (i : ℕ) → i < 4 → numberOf (processAt i) ≡ i
-number-at zero h = refl
-number-at (suc zero) h = refl
-number-at (suc (suc zero)) h = refl
-number-at (suc (suc (suc zero))) h = refl
-number-at (suc (suc (suc (suc i)))) h = absurd (omega arith)
+number-at i h = up-to-4 (λ n. n < 4 → numberOf (processAt n) ≡ n) (λ _. refl) (λ _. refl) (λ _. refl) (λ _. refl) (λ l. absurd (omega arith)) i (omega arith) h
 
 module _ (bytes : List ℕ) (t : Table) (h : Holds bytes t) where
   -- the counts are at most the ceilings

@@ -1,5 +1,5 @@
 -- Laws for the loops that test a part of the bytes one after the other.
-use mathlib.Core.Bool.{Bool, true, false, _&&_, _||_, true≢false}
+use mathlib.Core.Bool.{Bool, true, false, _&&_, true≢false}
 use mathlib.Core.List.{List, [], _∷_, _++_}
 use mathlib.Core.Path.{_≡_, refl, sym, ap, ap₂, _∙_}
 use Prim.Native.Nat.{ℕ, zero, suc, _+_, _-_, _<_, _≤_}
@@ -16,20 +16,12 @@ use Rattle.model.specs.Lists.{allOf}
 use Rattle.model.specs.Tables.{sameBytes}
 use Rattle.numbers.proofs.NumberBytes.{AllBytes, number-test}
 
-pub and-false : (b : Bool) → (b && false) ≡ false
+and-false : (b : Bool) → (b && false) ≡ false
 and-false true = refl
 and-false false = refl
 
-pub or-true : (b : Bool) → (b || true) ≡ true
-or-true true = refl
-or-true false = refl
-
-pub or-false : (b : Bool) → (b || false) ≡ b
-or-false true = refl
-or-false false = refl
-
 -- ---- all of a list
-pub all-append : {A : Type 0} (f : A → Bool) (xs ys : List A) → allOf f (xs ++ ys) ≡ (allOf f xs && allOf f ys)
+all-append : {A : Type 0} (f : A → Bool) (xs ys : List A) → allOf f (xs ++ ys) ≡ (allOf f xs && allOf f ys)
 all-append f [] ys = refl
 all-append f (x ∷ xs) ys = simp (all-append f xs ys) (regroup (f x) (allOf f xs) (allOf f ys))
   where

@@ -1,15 +1,15 @@
 -- One item: what the checks that it passed say, and how the reading goes on.
-use mathlib.Core.Bool.{Bool, true, false, cond, not, _&&_, _||_, true≢false}
+use mathlib.Core.Bool.{Bool, true, false, cond, not, _&&_, _||_}
 use mathlib.Core.List.{List, [], _∷_, _++_}
 use mathlib.Core.Path.{_≡_, refl, sym, ap, _∙_, subst}
 use Prim.Native.Nat.{ℕ, zero, suc, _+_, _-_, _<_, _≤_, min}
 use native.Mathlib.Numerals.{add-one}
 use native.Mathlib.Omega.{arith}
 use lib.Dec.{eqb, ltb, leb}
-use lib.ListN.{length, getD, drop, length-take, length-drop, drop-of-length-le}
+use lib.ListN.{length, getD, drop, replicate, length-take, length-drop, drop-of-length-le}
 use lib.Seq.{drop-cons, drop-drop}
 use borrow.Author.Tests.{not-false, eq-eqb, ne-eqb, eqb-false, ltb-false, lt-ltb, le-ltb, leb-true, leb-false}
-use Rattle.model.proofs.Tests.{by-test, or-right}
+use Rattle.model.proofs.Tests.{by-test, or-left, or-right}
 use Rattle.model.specs.Tables.{Item, bodyLength, ceiling, bodies, count, controlsOf, locOf, ruleOf, transitionOf, isStranger, isOutOfTurn, valueFits, cooperates, leavesControl, isTwin, refusal, Reading, accepted, ending, unlessRefused, readFrom, read}
 use Rattle.table.specs.Places.{bodyAt, bodiesAt, offset, itemsBelow, counts, countsAt, itemsBefore, advanced, Whole, Passed}
 use Rattle.table.specs.Reading.{countsOf, parsed, outOfTurn, bodyRefusal, readOn, Onward, Stepped}
@@ -64,10 +64,6 @@ early-passed true b c e = absurd (omega arith)
 early-passed false true c e = absurd (omega arith)
 early-passed false false true e = absurd (omega arith)
 early-passed false false false e = (refl, refl, refl)
-
-pub or-left : (a b : Bool) → (a || b) ≡ false → a ≡ false
-or-left true b e = e
-or-left false b e = refl
 
 -- a kind of item
 pub kind-of : (k : ℕ) → isStranger k ≡ false → (0 < k) × (k < 9)
@@ -227,26 +223,16 @@ pub record Going (bytes : List ℕ) (c : Cursor) : Type 0 where
 pub going-start : (bytes : List ℕ) (c : Cursor) → c ≡ record { at = 0; last = 0; starts = 0; table = countsOf [] } → Going bytes c
 unfolding read itemsBelow bodiesAt offset
 going-start bytes c e = rw e (record {
-  passed = record { place = refl; within = omega arith; last = refl; above = none; ceilings = λ k. rw (none′ k) (omega arith) };
+  passed = record { place = refl; within = omega arith; last = refl; above = λ k h. zeros 9 k; ceilings = λ k. rw (zeros 9 k) (omega arith) };
   fuel = length bytes + 1;
   enough = omega arith;
   same = refl;
 })
   where
-    none′ : (k : ℕ) → counts (countsOf []) 0 k ≡ 0
-    none′ zero = refl
-    none′ (suc zero) = refl
-    none′ (suc (suc zero)) = refl
-    none′ (suc (suc (suc zero))) = refl
-    none′ (suc (suc (suc (suc zero)))) = refl
-    none′ (suc (suc (suc (suc (suc zero))))) = refl
-    none′ (suc (suc (suc (suc (suc (suc zero)))))) = refl
-    none′ (suc (suc (suc (suc (suc (suc (suc zero))))))) = refl
-    none′ (suc (suc (suc (suc (suc (suc (suc (suc zero)))))))) = refl
-    none′ (suc (suc (suc (suc (suc (suc (suc (suc (suc k))))))))) = refl
-
-    none : (k : ℕ) → 0 < k → counts (countsOf []) 0 k ≡ 0
-    none k h = none′ k
+    zeros : (n k : ℕ) → _≡_ {A = ℕ} (getD (replicate n 0) k 0) 0
+    zeros zero k = refl
+    zeros (suc n) zero = refl
+    zeros (suc n) (suc k) = zeros n k
 
 module _ (bytes : List ℕ) (c : Cursor) (g : Going bytes c) where
   spent : g .fuel ≡ suc (g .fuel - 1)

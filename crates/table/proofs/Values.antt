@@ -1,55 +1,43 @@
 -- What check 5 says of a body.
-use mathlib.Core.Bool.{Bool, true, false, not, _&&_, _||_, true≢false}
+use mathlib.Core.Bool.{Bool, true, not, _&&_, _||_}
 use mathlib.Core.List.{List, [], _∷_}
-use mathlib.Core.Path.{_≡_, refl, sym, ap, ap₂, _∙_}
+use mathlib.Core.Path.{_≡_, refl, sym, ap, _∙_}
 use Prim.Native.Nat.{ℕ, zero, suc, _-_, _*_, _^_, _<_, _≤_}
 use native.Mathlib.Nat.{le-antisymm, le-of-suc-le-suc}
 use native.Mathlib.Omega.{arith}
-use lib.Dec.{eqb, ltb, leb}
+use lib.Dec.{ltb}
 use lib.ListN.{length, getD, take, drop}
 use borrow.Author.Tests.{ltb-true, leb-true}
 use Rattle.model.proofs.Tests.{and-left, and-right}
-use Rattle.model.specs.Automata.{Transition}
-use Rattle.model.specs.Groups.{Process, Processes, every, at, has, processesOf}
+use Rattle.model.specs.Groups.{Process, Processes, every, has, processesOf}
 use Rattle.model.specs.Lists.{allOf}
-use Rattle.model.specs.Tables.{writtenPlaces, bodyLength, byteOf, groupOf, controlsOf, statesOf, locOf, present, ruleOf, transitionOf, groupFits, cooperates, leavesControl, transitionFits, writtenFit, valueFits}
-use Rattle.model.specs.declared.Group.{Group}
+use Rattle.model.specs.Tables.{writtenPlaces, bodyLength, byteOf, controlsOf, statesOf, locOf, present, transitionOf, transitionFits, writtenFit, valueFits}
 use Rattle.table.specs.Places.{processesIn, lettersIn, Whole}
 use Rattle.table.specs.declared.Table.{Table}
 use Rattle.table.proofs.Bodies.{bodies-length}
 
+-- the numbers up to 4 one by one
+pub up-to-4 : (P : ℕ → Type 0) → P 0 → P 1 → P 2 → P 3 → P 4 → (n : ℕ) → n ≤ 4 → P n
+up-to-4 P a b c d e zero h = a
+up-to-4 P a b c d e (suc zero) h = b
+up-to-4 P a b c d e (suc (suc zero)) h = c
+up-to-4 P a b c d e (suc (suc (suc zero))) h = d
+up-to-4 P a b c d e (suc (suc (suc (suc zero)))) h = e
+up-to-4 P a b c d e (suc (suc (suc (suc (suc n))))) h = absurd (omega arith)
+
 -- the processes as bits, where all of n are in
 pub powers : (n : ℕ) → n ≤ 4 → getD (1 ∷ 2 ∷ 4 ∷ 8 ∷ 16 ∷ []) n 0 ≡ 2 ^ n
-powers zero h = refl
-powers (suc zero) h = refl
-powers (suc (suc zero)) h = refl
-powers (suc (suc (suc zero))) h = refl
-powers (suc (suc (suc (suc zero)))) h = refl
-powers (suc (suc (suc (suc (suc n))))) h = absurd (omega arith)
+powers = up-to-4 (λ n. getD (1 ∷ 2 ∷ 4 ∷ 8 ∷ 16 ∷ []) n 0 ≡ 2 ^ n) refl refl refl refl refl
 
 pub power-bound : (n : ℕ) → n ≤ 4 → (1 ≤ 2 ^ n) × (2 ^ n ≤ 16)
-power-bound zero h = omega arith
-power-bound (suc zero) h = omega arith
-power-bound (suc (suc zero)) h = omega arith
-power-bound (suc (suc (suc zero))) h = omega arith
-power-bound (suc (suc (suc (suc zero)))) h = omega arith
-power-bound (suc (suc (suc (suc (suc n))))) h = absurd (omega arith)
+power-bound = up-to-4 (λ n. (1 ≤ 2 ^ n) × (2 ^ n ≤ 16)) (omega arith) (omega arith) (omega arith) (omega arith) (omega arith)
 
 first : ℕ → Processes
 first n = record { b0 = ltb 0 n; b1 = ltb 1 n; b2 = ltb 2 n; b3 = ltb 3 n }
 
-first-bits : (n : ℕ) → n ≤ 4 → processesOf (2 ^ n - 1) ≡ first n
-unfolding first
-first-bits zero h = refl
-first-bits (suc zero) h = refl
-first-bits (suc (suc zero)) h = refl
-first-bits (suc (suc (suc zero))) h = refl
-first-bits (suc (suc (suc (suc zero)))) h = refl
-first-bits (suc (suc (suc (suc (suc n))))) h = absurd (omega arith)
-
 pub present-bits : (ps : List (List ℕ)) (n : ℕ) → n ≤ 4 → length ps ≡ n → processesOf (2 ^ n - 1) ≡ present ps
 unfolding first
-present-bits ps n h e = first-bits n h ∙ ap first (sym e)
+present-bits ps n h e = up-to-4 (λ m. processesOf (2 ^ m - 1) ≡ first m) refl refl refl refl refl n h ∙ ap first (sym e)
 
 -- each process of the letter is one of the set
 abbrev pub within : List ℕ → Table → ℕ → ℕ → Bool
@@ -57,8 +45,7 @@ within bytes t outer a = every (λ i. not (has (locOf (lettersIn bytes t) a) i) 
 
 -- ---- rules and transitions that pass
 both : (a b : Bool) → (a && b) ≡ true → (a ≡ true) × (b ≡ true)
-both true b e = (refl, e)
-both false b e = absurd (true≢false (sym e))
+both a b e = (and-left a b e, and-right a b e)
 
 pub record FitRule (letters : ℕ) (body : List ℕ) : Type 0 where
   pub letter : byteOf body 0 < letters

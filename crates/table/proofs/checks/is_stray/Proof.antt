@@ -1,5 +1,4 @@
 -- Only a rule can be stray, and then the letters it writes are compared with the one it takes (Values).
-use mathlib.Core.Path.{refl}
 use native.Mathlib.Omega.{arith}
 use borrow.Author.Needs.{needs}
 use borrow.Author.Tests.{eq-eqb, ne-eqb}

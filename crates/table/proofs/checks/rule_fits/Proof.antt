@@ -1,5 +1,4 @@
 -- The part that a rule shares with a transition is tested, and the letters it writes.
-use mathlib.Core.Path.{refl}
 use borrow.Author.Needs.{needs}
 use Rattle.model.specs.Tables.{writtenFit}
 use Rattle.table.proofs.Bodies.{bodies-length}

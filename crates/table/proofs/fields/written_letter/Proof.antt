@@ -1,6 +1,4 @@
 -- The letters stand behind their count, and there are few enough to lie in the body.
-use mathlib.Core.Path.{_≡_}
-use Prim.Native.Nat.{_<_}
 use native.Mathlib.Omega.{arith}
 use lib.ListN.{drop}
 use lib.Seq.{getD-take, getD-drop}
