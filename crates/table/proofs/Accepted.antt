@@ -58,14 +58,14 @@ module _ (bytes : List ℕ) (c : Cursor) (k : ℕ) (p : Passed bytes c) (a : Adm
   later = beyond bytes c k p a
 
   processes-later : (k ≡ 1 → ⊥) → processesIn bytes (c .table) ≡ processesIn bytes (later .table)
-  processes-later h = ap (bodiesAt bytes 2 0) (sym (count-other c k (c .at + 1 + bodyLength k) 1 (λ e. h (sym e))))
+  processes-later h = ap (bodiesAt bytes 2 0) (sym (count-other bytes c k p a 1 (λ e. h (sym e))))
 
   letters-later : (k ≡ 1 → ⊥) → (k ≡ 2 → ⊥) → lettersIn bytes (c .table) ≡ lettersIn bytes (later .table)
-  letters-later h h′ = ap₂ (λ (m l : ℕ). bodiesAt bytes 1 (3 * m) l) (sym (count-other c k (c .at + 1 + bodyLength k) 1 (λ e. h (sym e)))) (sym (count-other c k (c .at + 1 + bodyLength k) 2 (λ e. h′ (sym e))))
+  letters-later h h′ = ap₂ (λ (m l : ℕ). bodiesAt bytes 1 (3 * m) l) (sym (count-other bytes c k p a 1 (λ e. h (sym e)))) (sym (count-other bytes c k p a 2 (λ e. h′ (sym e))))
 
   -- items of kinds up to k stay where they are
   offset-later : (j : ℕ) → j ≤ k → offset (countsAt later) j ≡ offset (countsAt c) j
-  offset-later j h = offset-agrees bytes (countsAt later) (countsAt c) j (λ i l. count-other c k (c .at + 1 + bodyLength k) i (λ e. omega arith))
+  offset-later j h = offset-agrees bytes (countsAt later) (countsAt c) j (λ i l. count-other bytes c k p a i (λ e. omega arith))
 
   body-later : (j i : ℕ) → j ≤ k → bodyOf bytes (countsAt c) j i ≡ bodyOf bytes (countsAt later) j i
   body-later j i h = ap (λ (o : ℕ). bodyAt bytes (bodyLength j) (o + i * (1 + bodyLength j))) (sym (offset-later j h))
@@ -91,7 +91,7 @@ module _ (bytes : List ℕ) (c : Cursor) (k : ℕ) (p : Passed bytes c) (a : Adm
     where
       same : i < countsAt later k → Fit (processesIn bytes (later .table)) (lettersIn bytes (later .table)) k (bodyOf bytes (countsAt later) k i)
       same m =
-          let s : i < countsAt c k + 1 = subst (λ (x : ℕ). i < x) (count-same c k (c .at + 1 + bodyLength k) (a .some) (a .known)) m in
+          let s : i < countsAt c k + 1 = subst (λ (x : ℕ). i < x) (count-same bytes c k p a) m in
           fit-at k i (omega arith) (elim (ℕ-discrete i (countsAt c k)) [
             | yes e ↦ subst (λ (x : ℕ). Fit (processesIn bytes (c .table)) (lettersIn bytes (c .table)) k (bodyOf bytes (countsAt c) k x)) (sym e) (new-fit q)
             | no n ↦ f k i (a .known) (omega arith)
@@ -99,7 +99,7 @@ module _ (bytes : List ℕ) (c : Cursor) (k : ℕ) (p : Passed bytes c) (a : Adm
 
       other : (j ≡ k → ⊥) → Fit (processesIn bytes (later .table)) (lettersIn bytes (later .table)) j (bodyOf bytes (countsAt later) j i)
       other n =
-          let s : i < countsAt c j = subst (λ (x : ℕ). i < x) (count-other c k (c .at + 1 + bodyLength k) j n) l in
+          let s : i < countsAt c j = subst (λ (x : ℕ). i < x) (count-other bytes c k p a j n) l in
           by-test (leb j k)
           (λ y. fit-at j i (leb-true j k y) (f j i h s))
           (λ y. let z : countsAt c j ≡ 0 = p .above j (let b : k < j = leb-false j k y in omega (arith, a .turn)) in absurd (omega arith))

@@ -91,13 +91,13 @@ module _ (bytes : List ℕ) (t : Table) (h : Holds bytes t) where
 
   -- ---- processes and letters
   processes-are : bodies 1 (itemsIn bytes) ≡ processesIn bytes t
-  processes-are = bodies-in 1 (omega arith) ∙ ap (λ (p : ℕ). bodiesAt bytes 2 p (t .processes)) (first-item t)
+  processes-are = bodies-in 1 (omega arith) ∙ ap (λ (p : ℕ). bodiesAt bytes 2 p (t .processes)) (first-item t 1)
 
   pub states-at : (i : ℕ) → i < 4 → statesIn bytes (processAt i) ≡ byteOf (getD (processesIn bytes t) i absent) 1
   states-at i l = ap (λ (ps : List (List ℕ)). statesOf ps (processAt i)) processes-are ∙ ap (λ (j : ℕ). byteOf (getD (processesIn bytes t) j absent) 1) (number-at i l)
 
   pub letters-are : bodies 2 (itemsIn bytes) ≡ lettersIn bytes t
-  letters-are = bodies-in 2 (omega arith) ∙ ap (λ (p : ℕ). bodiesAt bytes 1 p (t .letters)) (second-item t)
+  letters-are = bodies-in 2 (omega arith) ∙ ap (λ (p : ℕ). bodiesAt bytes 1 p (t .letters)) (second-item t 1)
 
   pub loc-is : systemIn bytes .loc ≡ locOf (lettersIn bytes t)
   unfolding systemIn systemOf
