@@ -30,28 +30,13 @@ pub record Fit (ps ls : List (List ℕ)) (k : ℕ) (body : List ℕ) : Type 0 wh
 abbrev pub AllFit : List ℕ → Cursor → Type 0
 AllFit bytes c = (k j : ℕ) → k < 8 → j < countsAt c k → Fit (processesIn bytes (c .table)) (lettersIn bytes (c .table)) k (bodyOf bytes (countsAt c) k j)
 
--- a body is judged by the processes and letters before it alone, so it fits against those of the whole table
-same-lists : (ps ls ps′ ls′ : List (List ℕ)) (k : ℕ) (body : List ℕ) → ps ≡ ps′ → ls ≡ ls′ → Fit ps ls k body → Fit ps′ ls′ k body
-same-lists ps ls ps′ ls′ k body e f x = subst (λ (qs : List (List ℕ)). Fit qs ls′ k body) e (subst (λ (ms : List (List ℕ)). Fit ps ms k body) f x)
-
-fit-none : (ps ls : List (List ℕ)) (body : List ℕ) → Fit ps ls 0 body
-unfolding valueFits
-fit-none ps ls body = record { values = refl; stray = refl; reentry = refl }
-
-fit-process : (ps ls ps′ ls′ : List (List ℕ)) (body : List ℕ) → Fit ps ls 1 body → Fit ps′ ls′ 1 body
-unfolding valueFits
-fit-process ps ls ps′ ls′ body x = record { values = x .values; stray = refl; reentry = refl }
-
-fit-letter : (ps ls ls′ : List (List ℕ)) (body : List ℕ) → Fit ps ls 2 body → Fit ps ls′ 2 body
-unfolding valueFits
-fit-letter ps ls ls′ body x = record { values = x .values; stray = refl; reentry = refl }
-
--- the new item is of kind k, the judged one of kind j
+-- A body is judged by the processes and letters before it alone, so it fits against those of the whole table. The new item is of kind k, the judged one of kind j.
 fit-later : (ps ls ps′ ls′ : List (List ℕ)) (k j : ℕ) (body : List ℕ) → j ≤ k → ((k ≡ 1 → ⊥) → ps ≡ ps′) → ((k ≡ 1 → ⊥) → (k ≡ 2 → ⊥) → ls ≡ ls′) → Fit ps ls j body → Fit ps′ ls′ j body
-fit-later ps ls ps′ ls′ k zero body h e f x = fit-none ps′ ls′ body
-fit-later ps ls ps′ ls′ k (suc zero) body h e f x = fit-process ps ls ps′ ls′ body x
-fit-later ps ls ps′ ls′ k (suc (suc zero)) body h e f x = subst (λ (qs : List (List ℕ)). Fit qs ls′ 2 body) (e (λ q. omega arith)) (fit-letter ps ls ls′ body x)
-fit-later ps ls ps′ ls′ k (suc (suc (suc j))) body h e f x = same-lists ps ls ps′ ls′ (suc (suc (suc j))) body (e (λ q. omega arith)) (f (λ q. omega arith) (λ q. omega arith)) x
+unfolding valueFits
+fit-later ps ls ps′ ls′ k zero body h e f x = record { values = refl; stray = refl; reentry = refl }
+fit-later ps ls ps′ ls′ k (suc zero) body h e f x = record { values = x .values; stray = refl; reentry = refl }
+fit-later ps ls ps′ ls′ k (suc (suc zero)) body h e f x = rw (← (e (λ q. omega arith))) (record { values = x .values; stray = refl; reentry = refl })
+fit-later ps ls ps′ ls′ k (suc (suc (suc j))) body h e f x = rw (← (e (λ q. omega arith)), ← (f (λ q. omega arith) (λ q. omega arith))) x
 
 module _ (bytes : List ℕ) (c : Cursor) (k : ℕ) (p : Passed bytes c) (a : Admitted bytes c k) where
   abbrev later : Cursor
@@ -80,8 +65,7 @@ module _ (bytes : List ℕ) (c : Cursor) (k : ℕ) (p : Passed bytes c) (a : Adm
 
   new-fit : Clear (itemsBefore bytes c) k (bodyAt bytes (bodyLength k) (c .at)) → Fit (processesIn bytes (c .table)) (lettersIn bytes (c .table)) k (bodyOf bytes (countsAt c) k (countsAt c k))
   new-fit q = subst (Fit (processesIn bytes (c .table)) (lettersIn bytes (c .table)) k) body-new
-      (same-lists (bodies 1 (itemsBefore bytes c)) (bodies 2 (itemsBefore bytes c)) (processesIn bytes (c .table)) (lettersIn bytes (c .table)) k (bodyAt bytes (bodyLength k) (c .at)) (processes-before bytes c) (letters-before bytes c)
-      (record { values = q .values; stray = q .stray; reentry = q .reentry }))
+      (rw (← (processes-before bytes c), ← (letters-before bytes c)) (record { values = q .values; stray = q .stray; reentry = q .reentry }))
 
   pub fit-beyond : Clear (itemsBefore bytes c) k (bodyAt bytes (bodyLength k) (c .at)) → AllFit bytes c → AllFit bytes later
   fit-beyond q f j i h l = elim (ℕ-discrete j k) [

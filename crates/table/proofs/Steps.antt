@@ -119,33 +119,6 @@ module _ (bytes : List ℕ) (c : Cursor) (k : ℕ) (p : Passed bytes c) (inside 
         same = sym (refusal-known ∙ rw (q .0, q .1, q .2));
       }
 
-module _ (bytes : List ℕ) (c : Cursor) (p : Passed bytes c) (inside : c .at < length bytes) where
-  abbrev items : List Item
-  items = itemsBefore bytes c
-
-  abbrev body : ℕ → List ℕ
-  body k = bodyAt bytes (bodyLength k) (c .at)
-
-  pub admitted-of : (k : ℕ) → k < 8 → Clear items k (body k) → Admitted bytes c k
-  admitted-of k h q =
-      let whole : bodyLength k ≤ length (body k) = ltb-false _ _ (q .whole) in
-      let room : count k items < ceiling k = leb-false _ _ (q .room) in
-      record {
-        some = kind-of k (q .stranger) .0;
-        known = h;
-        turn = turn-of c k (sym (turn-before bytes c p k) ∙ q .turn);
-        room = omega (arith, count-before bytes c k h);
-        whole = omega (arith, cut-length bytes (bodyLength k) (c .at));
-      }
-
-  -- the reading at an item
-  pub read-item : (fuel : ℕ) → readOn bytes c (suc fuel) ≡
-      unlessRefused (refusal items (getD bytes (c .at) 0) (body (getD bytes (c .at) 0))) (c .at)
-      (cond (eqb (getD bytes (c .at) 0) 8) (ending items (drop (c .at + 1) bytes) (c .at + 1))
-      (readFrom fuel (items ++ (record { kind = getD bytes (c .at) 0; body = body (getD bytes (c .at) 0) } ∷ [])) (drop (bodyLength (getD bytes (c .at) 0)) (drop (c .at + 1) bytes)) (c .at + 1 + bodyLength (getD bytes (c .at) 0))))
-  unfolding readFrom
-  read-item fuel = ap (λ (l : List ℕ). readFrom (suc fuel) items l (c .at)) (drop-cons bytes (c .at) 0 inside ∙ ap (λ (i : ℕ). getD bytes (c .at) 0 ∷ drop i bytes) (sym (add-one (c .at))))
-
 -- ---- how an item ends the reading
 done-with : (bytes : List ℕ) (c : Cursor) (p : Parsed) → ((fuel : ℕ) → parsed (readOn bytes c (suc fuel)) ≡ p) → Stepped bytes c (Done p)
 done-with bytes c p f = record { next = λ d e. let z : _≡_ {A = ℕ} 0 1 = cc in absurd (omega arith); done = λ q e fuel. f fuel ∙ (let s : p ≡ q = cc in s) }
@@ -165,32 +138,47 @@ module _ (bytes : List ℕ) (c : Cursor) (p : Passed bytes c) (inside : c .at < 
   abbrev kind : ℕ
   kind = getD bytes (c .at) 0
 
+  abbrev body : List ℕ
+  body = bodyAt bytes (bodyLength kind) (c .at)
+
   abbrev number : ℕ
-  number = refusal (itemsBefore bytes c) (getD bytes (c .at) 0) (bodyAt bytes (bodyLength (getD bytes (c .at) 0)) (c .at))
+  number = refusal (itemsBefore bytes c) kind body
+
+  -- what is read if the item passes
+  abbrev behind : ℕ → Reading
+  behind fuel =
+      cond (eqb kind 8) (ending (itemsBefore bytes c) (drop (c .at + 1) bytes) (c .at + 1))
+      (readFrom fuel (itemsBefore bytes c ++ (record { kind = kind; body = body } ∷ [])) (drop (bodyLength kind) (drop (c .at + 1) bytes)) (c .at + 1 + bodyLength kind))
+
+  read-item : (fuel : ℕ) → readOn bytes c (suc fuel) ≡ unlessRefused number (c .at) (behind fuel)
+  unfolding readFrom
+  read-item fuel = ap (λ (l : List ℕ). readFrom (suc fuel) (itemsBefore bytes c) l (c .at)) (drop-cons bytes (c .at) 0 inside ∙ ap (λ (i : ℕ). kind ∷ drop i bytes) (sym (add-one (c .at))))
 
   -- a check that the item does not pass
   unless-parsed : (n place : ℕ) (r : Reading) → (n ≡ 0 → ⊥) → parsed (unlessRefused n place r) ≡ Refused n place
   unless-parsed zero place r h = absurd (h refl)
   unless-parsed (suc n) place r h = refl
 
-  unless-zero : (n place : ℕ) (r : Reading) → n ≡ 0 → unlessRefused n place r ≡ r
-  unless-zero zero place r e = refl
-  unless-zero (suc n) place r e = absurd (omega arith)
-
   pub step-refused : (r : ℕ) → r ≡ number → (r ≡ 0 → ⊥) → Stepped bytes c (Done (Refused r (c .at)))
-  step-refused r e h = done-with bytes c (Refused r (c .at)) (λ fuel. ap parsed (read-item bytes c p inside fuel) ∙ unless-parsed number (c .at) _ (λ z. h (e ∙ z)) ∙ ap (λ (i : ℕ). Refused i (c .at)) (sym e))
+  step-refused r e h = done-with bytes c (Refused r (c .at)) (λ fuel. ap parsed (read-item fuel) ∙ unless-parsed number (c .at) (behind fuel) (λ z. h (e ∙ z)) ∙ ap (λ (i : ℕ). Refused i (c .at)) (sym e))
 
-  passing : number ≡ 0 → (fuel : ℕ) → readOn bytes c (suc fuel) ≡
-      cond (eqb kind 8) (ending (itemsBefore bytes c) (drop (c .at + 1) bytes) (c .at + 1))
-      (readFrom fuel (itemsBefore bytes c ++ (record { kind = kind; body = bodyAt bytes (bodyLength kind) (c .at) } ∷ [])) (drop (bodyLength kind) (drop (c .at + 1) bytes)) (c .at + 1 + bodyLength kind))
-  passing z fuel = read-item bytes c p inside fuel ∙ unless-zero number (c .at) _ z
+  passing : number ≡ 0 → (fuel : ℕ) → readOn bytes c (suc fuel) ≡ behind fuel
+  passing z fuel = read-item fuel ∙ ap (λ (n : ℕ). unlessRefused n (c .at) (behind fuel)) z
 
   -- one item more
   pub next-admitted : number ≡ 0 → (kind ≡ 8 → ⊥) → Admitted bytes c kind
   next-admitted z h =
-      let q = clear-of (itemsBefore bytes c) kind (bodyAt bytes (bodyLength kind) (c .at)) z in
+      let q = clear-of (itemsBefore bytes c) kind body z in
       let l : kind < 9 = kind-of kind (q .stranger) .1 in
-      admitted-of bytes c p inside kind (omega arith) q
+      let whole : bodyLength kind ≤ length body = ltb-false _ _ (q .whole) in
+      let room : count kind (itemsBefore bytes c) < ceiling kind = leb-false _ _ (q .room) in
+      record {
+        some = kind-of kind (q .stranger) .0;
+        known = omega arith;
+        turn = turn-of c kind (sym (turn-before bytes c p kind) ∙ q .turn);
+        room = omega (arith, count-before bytes c kind (omega arith));
+        whole = omega (arith, cut-length bytes (bodyLength kind) (c .at));
+      }
 
   pub step-next : number ≡ 0 → (kind ≡ 8 → ⊥) → Stepped bytes c (Next (advanced c kind (c .at + 1 + bodyLength kind)))
   unfolding advanced
