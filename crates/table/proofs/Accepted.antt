@@ -9,7 +9,7 @@ use lib.Dec.{eqb, ltb, leb}
 use lib.ListN.{length, getD}
 use borrow.Author.Tests.{eqb-false, leb-true, leb-false}
 use Rattle.model.proofs.Tests.{by-test, by-zero, or-right}
-use Rattle.model.specs.Tables.{Item, bodyLength, bodies, controlsOf, locOf, ruleOf, transitionOf, valueFits, cooperates, leavesControl, refusal, Reading, accepted, refused, readFrom, read}
+use Rattle.model.specs.Tables.{Item, bodyLength, controlsOf, locOf, ruleOf, transitionOf, valueFits, cooperates, leavesControl, refusal, Reading, accepted, refused, readFrom, read}
 use Rattle.table.specs.Places.{bodyAt, bodiesAt, offset, bodyOf, itemsBelow, counts, countsAt, itemsBefore, processesIn, lettersIn, Modest, Passed}
 use Rattle.table.specs.Reading.{countsOf, parsed, Holds, itemsOf, itemsIn, outOfTurn, readOn, Stepped}
 use Rattle.table.specs.declared.Cursor.{Cursor}
