@@ -93,7 +93,13 @@ fn read_member(table: &[u8], t: Table, letter: u8, n: usize, scratch: &mut [u8])
     requires { ⌜ Holds (now table) t × (n < stateCount) × (1024 ≤ length (now scratch)) ⌝ }
     ensures { λ r. ⌜ (here (now (scratch .exit)) ≡ here (now (scratch .entry))) × (r ≡ nextMember (here (now (scratch .entry))) (n + 1)) × Extends (systemIn (now (table .entry))) (presentIn t) (there (now (scratch .entry))) (there (now (scratch .exit))) (λ w. acceptsFrom (systemIn (now (table .entry))) (letter ∷ w) (groupNumbered (presentIn t) n)) ⌝ }
 {
-    follow_all(table, t, letter, state_at(t, n), &mut scratch[THERE..THERE_END]);
+    follow_all(
+        table,
+        t,
+        letter,
+        state_at(t, n),
+        &mut scratch[THERE..THERE_END],
+    );
     sets::next_member(&scratch[HERE..THERE], n + 1)
 }
 
