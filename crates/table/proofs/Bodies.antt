@@ -57,13 +57,13 @@ absent-bound (suc zero) h = refl
 absent-bound (suc (suc field)) h = absurd (omega arith)
 
 -- ---- a loop over bodies: `left` of them, from `place` on, are to be compared with the body at `at`
-pub record Left (bytes : List ℕ) (size first count at place left : ℕ) : Type 0 where
+pub record Left (bytes : List ℕ) (size count at place left : ℕ) : Type 0 where
   pub room : place + left * (1 + size) ≤ at
-  pub same : anyOf (sameBytes (bodyAt bytes size at)) (bodiesAt bytes size first count) ≡ anyOf (sameBytes (bodyAt bytes size at)) (bodiesAt bytes size place left)
+  pub same : anyOf (sameBytes (bodyAt bytes size at)) (bodiesAt bytes size (at - count * (1 + size)) count) ≡ anyOf (sameBytes (bodyAt bytes size at)) (bodiesAt bytes size place left)
 
-module _ {bytes : List ℕ} {size first count at place left : ℕ} (g : Left bytes size first count at place left) where
+module _ {bytes : List ℕ} {size count at place left : ℕ} (g : Left bytes size count at place left) where
   abbrev seen : Bool
-  seen = anyOf (sameBytes (bodyAt bytes size at)) (bodiesAt bytes size first count)
+  seen = anyOf (sameBytes (bodyAt bytes size at)) (bodiesAt bytes size (at - count * (1 + size)) count)
 
   split : 0 < left → left ≡ suc (left - 1)
   split h = omega arith
@@ -78,7 +78,7 @@ module _ {bytes : List ℕ} {size first count at place left : ℕ} (g : Left byt
   pub left-found : 0 < left → sameBytes (bodyAt bytes size at) (bodyAt bytes size place) ≡ true → seen ≡ true
   left-found h e = first-of h ∙ rw e
 
-  pub left-turn : 0 < left → sameBytes (bodyAt bytes size at) (bodyAt bytes size place) ≡ false → Left bytes size first count at (place + 1 + size) (left - 1)
+  pub left-turn : 0 < left → sameBytes (bodyAt bytes size at) (bodyAt bytes size place) ≡ false → Left bytes size count at (place + 1 + size) (left - 1)
   left-turn h e = record { room = omega (arith, left-room h); same = first-of h ∙ rw e }
 
   pub left-end : left ≤ 0 → seen ≡ false

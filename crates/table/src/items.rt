@@ -1,7 +1,7 @@
 // The checks of one item, in their order, and the cursor behind it.
 ghost use mathlib.Core.Path.{_≡_};
 ghost use mathlib.Core.Bool.{true, cond};
-ghost use Prim.Native.Nat.{_+_, _*_, _≤_, _<_};
+ghost use Prim.Native.Nat.{_+_, _-_, _*_, _≤_, _<_};
 ghost use lib.Dec.{eqb, leb};
 ghost use lib.ListN.{length, take, drop};
 ghost use Rattle.model.specs.Lists.{anyOf};
@@ -115,12 +115,12 @@ pub fn same_bytes(bytes: &[u8], a: usize, b: usize, n: usize) -> bool
     same_from(bytes, a, b, n, 8)
 }
 
-// The body of the item at `at` is one of the bodies of `count` items from `first` on.
-pub fn is_seen(bytes: &[u8], size: usize, first: usize, count: usize, at: usize) -> bool
-    requires { ⌜ (first + count * (1 + size) ≤ at) × (at + 1 + size ≤ length (now bytes)) ⌝ }
-    ensures { λ r. ⌜ r ≡ anyOf (sameBytes (bodyAt (now (bytes .entry)) size at)) (bodiesAt (now (bytes .entry)) size first count) ⌝ }
+// The body of the item at `at` is one of the bodies of the `count` items right before it.
+pub fn is_seen(bytes: &[u8], size: usize, count: usize, at: usize) -> bool
+    requires { ⌜ (count * (1 + size) ≤ at) × (at + 1 + size ≤ length (now bytes)) ⌝ }
+    ensures { λ r. ⌜ r ≡ anyOf (sameBytes (bodyAt (now (bytes .entry)) size at)) (bodiesAt (now (bytes .entry)) size (at - count * (1 + size)) count) ⌝ }
 {
-    let mut place = first;
+    let mut place = at - count * (1 + size);
     let mut left = count;
     while 0 < left {
         if same_bytes(bytes, at + 1, place + 1, size) {
@@ -132,20 +132,23 @@ pub fn is_seen(bytes: &[u8], size: usize, first: usize, count: usize, at: usize)
     false
 }
 
-// Check 8: the body, of so many bytes, stands before in kinds 3, 4, 5.
-pub fn is_twin(bytes: &[u8], c: Cursor, kind: u8, size: usize) -> bool
-    requires { ⌜ Passed (now bytes) c × (c .last ≤ kind) × (c .at + 1 + bodyLength kind ≤ length (now bytes)) × (size ≡ bodyLength kind) ⌝ }
+// Check 8: the body stands before in kinds 3, 4, 5.
+pub fn is_twin(bytes: &[u8], c: Cursor, kind: u8) -> bool
+    requires { ⌜ Passed (now bytes) c × (c .last ≤ kind) × (c .at + 1 + bodyLength kind ≤ length (now bytes)) ⌝ }
     ensures { λ r. ⌜ r ≡ isTwin (itemsBefore (now (bytes .entry)) c) kind (bodyAt (now (bytes .entry)) (bodyLength kind) (c .at)) ⌝ }
 {
-    if kind < 3 {
-        return false;
-    }
-    if 5 < kind {
-        return false;
-    }
     let at = c.at;
-    let count = count_of(c, kind);
-    is_seen(bytes, size, at - count * (1 + size), count, at)
+    let t = c.table;
+    if kind == 3 {
+        return is_seen(bytes, RULE_BODY, t.rules, at);
+    }
+    if kind == 4 {
+        return is_seen(bytes, 9, t.transitions, at);
+    }
+    if kind == 5 {
+        return is_seen(bytes, 4, t.accepting, at);
+    }
+    false
 }
 
 // ---- one item
@@ -164,7 +167,7 @@ pub fn check_body(bytes: &[u8], c: Cursor, kind: u8, body: &[u8]) -> u8
     if is_reentry(bytes, t, kind, body) {
         return 7;
     }
-    if is_twin(bytes, c, kind, body.len()) {
+    if is_twin(bytes, c, kind) {
         return 8;
     }
     0
