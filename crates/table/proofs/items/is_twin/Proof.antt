@@ -33,9 +33,7 @@ returns-3 : tie.Need-returns-3
 unfolding isTwin
 returns-3 c = rw (c .before .if3 .taken) (c .is-seen3 .ensures ∙ seen-of _ _ _ 5 (c .before .if3 .taken) (omega arith) (c .before .before .before .before .before .before .pre .0) (c .before .before .before .before .before .before .pre .1) (c .before .before .before .before .before .before .pre .2) .same)
 
-returns-4 : tie.Need-returns-4
-unfolding isTwin
-returns-4 c = sym (no-twin _ _ (c .before .before .if1 .left) (c .before .if2 .left) (c .if3 .left))
-
 pub is-twin-spec : {M : Type 1} → statement M
-is-twin-spec = tie.close (tie.spec is-seen-requires returns is-seen-requires-2 returns-2 is-seen-requires-3 returns-3 returns-4)
+unfolding isTwin
+is-twin-spec = tie.close (tie.spec is-seen-requires returns is-seen-requires-2 returns-2 is-seen-requires-3 returns-3
+    (λ c. sym (no-twin _ _ (c .before .before .if1 .left) (c .before .if2 .left) (c .if3 .left))))
