@@ -194,9 +194,6 @@ module _ (sys : System) (L : Processes) where
         same = λ w. some-next (memberAccepts sys L members w) from n (f .low) (λ j l q. rw (f .fails j l q) refl);
       }
 
-  pub next-low : (members : List ℕ) (from n : ℕ) → n ≡ nextMember members from → from ≤ n
-  next-low members from n e = next-at members from n e .low
-
   -- one member more
   more : (members w : List ℕ) (n : ℕ) → member members n ≡ true → someBelow (memberAccepts sys L members w) (n + 1) ≡ (someBelow (memberAccepts sys L members w) n || acceptsFrom sys w (groupNumbered L n))
   unfolding someBelow
@@ -232,14 +229,6 @@ module _ (sys : System) (L : Processes) where
       let e : n ≡ stateCount = omega (arith, f .at .high) in
       record { words = λ w. f .words .words w ∙ ap (λ (k : ℕ). someAccepts sys L next w || someBelow (memberAccepts sys L members (a ∷ w)) k) e }
 
-  -- the states after a from state n, named by bits that stand for the table's processes, and put back into the scratch
-  pub read-known : (a : ℕ) (members ys members′ : List ℕ) (M : Processes) (n : ℕ) (g : Group) → M ≡ L → g ≡ groupNumbered M n → members′ ≡ ys → Extends sys L members ys (λ (w : List ℕ). acceptsFrom sys (a ∷ w) g)
-      → Extends sys L members members′ (λ (w : List ℕ). acceptsFrom sys (a ∷ w) (groupNumbered L n))
-  read-known a members ys members′ M n g e q f x = record {
-    words = λ w. ap (λ (l : List ℕ). someAccepts sys L l w) f ∙ x .words w
-        ∙ ap (λ (h : Group). someAccepts sys L members w || acceptsFrom sys (a ∷ w) h) (q ∙ ap (λ (K : Processes). groupNumbered K n) e);
-  }
-
   -- ---- the last test
   -- no member below n is accepting
   pub record Searching (members : List ℕ) (n : ℕ) : Type 0 where
@@ -249,10 +238,6 @@ module _ (sys : System) (L : Processes) where
   accepting-is : (g : Group) → isAccepting g (sys .accepting) ≡ acceptsFrom sys [] g
   unfolding acceptsFrom
   accepting-is g = refl
-
-  -- the test of state n by bits that stand for the table's processes
-  pub group-known : (M : Processes) (n : ℕ) (g : Group) (t v : Bool) → M ≡ L → g ≡ groupNumbered M n → t ≡ isAccepting g (sys .accepting) → t ≡ v → isAccepting (groupNumbered L n) (sys .accepting) ≡ v
-  group-known M n g t v e q f r = sym (f ∙ ap (λ (h : Group). isAccepting h (sys .accepting)) (q ∙ ap (λ (K : Processes). groupNumbered K n) e)) ∙ r
 
   pub searching-start : (members : List ℕ) (n : ℕ) → n ≡ nextMember members 0 → Searching members n
   unfolding someBelow

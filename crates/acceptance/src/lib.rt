@@ -80,13 +80,26 @@ fn follow_all(table: &[u8], t: Table, letter: u8, g: Group, next: &mut [u8])
     }
 }
 
+// State n of the table's processes.
+fn state_at(t: Table, n: usize) -> Group
+    requires { ⌜ (t .processes ≤ 4) × (n < stateCount) ⌝ }
+    ensures { λ r. ⌜ r ≡ groupNumbered (presentIn t) n ⌝ }
+{
+    states::numbered(present(t), n)
+}
+
 // Puts in the states that the letter leads to from state n, and gives the next state of the set.
 fn read_member(table: &[u8], t: Table, letter: u8, n: usize, scratch: &mut [u8]) -> usize
     requires { ⌜ Holds (now table) t × (n < stateCount) × (1024 ≤ length (now scratch)) ⌝ }
     ensures { λ r. ⌜ (here (now (scratch .exit)) ≡ here (now (scratch .entry))) × (r ≡ nextMember (here (now (scratch .entry))) (n + 1)) × Extends (systemIn (now (table .entry))) (presentIn t) (there (now (scratch .entry))) (there (now (scratch .exit))) (λ w. acceptsFrom (systemIn (now (table .entry))) (letter ∷ w) (groupNumbered (presentIn t) n)) ⌝ }
 {
-    let g = states::numbered(present(t), n);
-    follow_all(table, t, letter, g, &mut scratch[THERE..THERE_END]);
+    follow_all(
+        table,
+        t,
+        letter,
+        state_at(t, n),
+        &mut scratch[THERE..THERE_END],
+    );
     sets::next_member(&scratch[HERE..THERE], n + 1)
 }
 
@@ -145,7 +158,7 @@ fn has_accepting(table: &[u8], t: Table, members: &[u8]) -> bool
 {
     let mut n = sets::next_member(members, 0);
     while n < STATES {
-        if is_accepting(table, t, states::numbered(present(t), n)) {
+        if is_accepting(table, t, state_at(t, n)) {
             return true;
         }
         n = sets::next_member(members, n + 1);

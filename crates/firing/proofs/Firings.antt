@@ -1,6 +1,6 @@
 -- What firing a rule comes to, by the place of its letter and the number of the letters that it writes.
 use mathlib.Core.Path.{_≡_, refl, ap, ap₂, sym, _∙_}
-use mathlib.Core.Bool.{Bool, true, false}
+use mathlib.Core.Bool.{true, false}
 use mathlib.Core.Option.{Option, none, some}
 use mathlib.Core.List.{List, _++_}
 use Prim.Native.Nat.{ℕ, _+_, _-_, _<_, _≤_}
@@ -21,11 +21,6 @@ use Rattle.firing.specs.Places.{place, firingPlace, rewritten}
 use Rattle.firing.proofs.Scans.{place-enabled, place-rest}
 
 -- ---- the place, by the tests of the code
--- the states before, tested by bits that stand for the letter's processes
-pub test-known : (loc : ℕ → Processes) (r : Rule) (states : Group) (L : Processes) (b : Group) (t v : Bool) → t ≡ sameGroup (restrict L states) b → L ≡ loc (r .letter) → b ≡ r .before → t ≡ v
-    → sameGroup (restrict (loc (r .letter)) states) (r .before) ≡ v
-test-known loc r states L b t v e l q f = sym (e ∙ ap₂ (λ (M : Processes) (g : Group). sameGroup (restrict M states) g) l q) ∙ f
-
 pub place-found : (loc : ℕ → Processes) (r : Rule) (pile : List ℕ) (c : Placed) (a n : ℕ) → sameGroup (restrict (loc (r .letter)) (c .states)) (r .before) ≡ true → a ≡ r .letter
     → n ≡ c .top + place loc a (drop (c .top) pile) → n ≡ firingPlace loc r pile c
 unfolding firingPlace

@@ -1,6 +1,6 @@
 -- The scan from the top for the letter at which a rule fires.
 use mathlib.Core.Path.{_≡_, refl, ap, sym, subst, _∙_}
-use mathlib.Core.Bool.{Bool, true, false}
+use mathlib.Core.Bool.{true, false}
 use mathlib.Core.List.{List, [], _∷_, _++_}
 use Prim.Native.Nat.{ℕ, suc, _+_, _-_, _<_, _≤_}
 use native.Mathlib.Numerals.{add-one}
@@ -27,10 +27,6 @@ apart-bits x y h q =
     same-bool (eqb (bitAnd x y) 0) (apartTest (processesOf x) (processesOf y))
     (all-below 16 (λ j. sameBool (eqb (bitAnd x j) 0) (apartTest (processesOf x) (processesOf j))) y
     (all-below 16 (λ i. allBelow 16 (λ j. sameBool (eqb (bitAnd i j) 0) (apartTest (processesOf i) (processesOf j)))) x refl (omega arith)) (omega arith))
-
--- the test of a letter w by the bits of its processes
-pub apart-known : (loc : ℕ → Processes) (a w b : ℕ) (L : Processes) (r v : Bool) → r ≡ apartTest L (loc b) → L ≡ loc w → w ≡ a → r ≡ v → apartTest (loc a) (loc b) ≡ v
-apart-known loc a w b L r v e l q f = sym (e ∙ ap (λ (M : Processes). apartTest M (loc b)) (l ∙ ap loc q)) ∙ f
 
 -- ---- the scan, letter by letter
 ltb-suc : (m n : ℕ) → ltb m n ≡ ltb (suc m) (suc n)

@@ -9,7 +9,7 @@ use lib.Dec.{eqb, ltb, leb}
 use lib.ListN.{length, getD}
 use borrow.Author.Tests.{eqb-false, leb-true, leb-false}
 use Rattle.model.proofs.Tests.{by-test, by-zero, or-right}
-use Rattle.model.specs.Tables.{Item, bodyLength, bodies, controlsOf, locOf, ruleOf, transitionOf, valueFits, cooperates, leavesControl, refusal, Reading, accepted, refused, readFrom, read}
+use Rattle.model.specs.Tables.{Item, bodyLength, controlsOf, locOf, ruleOf, transitionOf, valueFits, cooperates, leavesControl, refusal, Reading, accepted, refused, readFrom, read}
 use Rattle.table.specs.Places.{bodyAt, bodiesAt, offset, bodyOf, itemsBelow, counts, countsAt, itemsBefore, processesIn, lettersIn, Modest, Passed}
 use Rattle.table.specs.Reading.{countsOf, parsed, Holds, itemsOf, itemsIn, outOfTurn, readOn, Stepped}
 use Rattle.table.specs.declared.Cursor.{Cursor}
@@ -30,42 +30,27 @@ pub record Fit (ps ls : List (List ℕ)) (k : ℕ) (body : List ℕ) : Type 0 wh
 abbrev pub AllFit : List ℕ → Cursor → Type 0
 AllFit bytes c = (k j : ℕ) → k < 8 → j < countsAt c k → Fit (processesIn bytes (c .table)) (lettersIn bytes (c .table)) k (bodyOf bytes (countsAt c) k j)
 
--- a body is judged by the processes and letters before it alone, so it fits against those of the whole table
-same-lists : (ps ls ps′ ls′ : List (List ℕ)) (k : ℕ) (body : List ℕ) → ps ≡ ps′ → ls ≡ ls′ → Fit ps ls k body → Fit ps′ ls′ k body
-same-lists ps ls ps′ ls′ k body e f x = subst (λ (qs : List (List ℕ)). Fit qs ls′ k body) e (subst (λ (ms : List (List ℕ)). Fit ps ms k body) f x)
-
-fit-none : (ps ls : List (List ℕ)) (body : List ℕ) → Fit ps ls 0 body
-unfolding valueFits
-fit-none ps ls body = record { values = refl; stray = refl; reentry = refl }
-
-fit-process : (ps ls ps′ ls′ : List (List ℕ)) (body : List ℕ) → Fit ps ls 1 body → Fit ps′ ls′ 1 body
-unfolding valueFits
-fit-process ps ls ps′ ls′ body x = record { values = x .values; stray = refl; reentry = refl }
-
-fit-letter : (ps ls ls′ : List (List ℕ)) (body : List ℕ) → Fit ps ls 2 body → Fit ps ls′ 2 body
-unfolding valueFits
-fit-letter ps ls ls′ body x = record { values = x .values; stray = refl; reentry = refl }
-
--- the new item is of kind k, the judged one of kind j
+-- A body is judged by the processes and letters before it alone, so it fits against those of the whole table. The new item is of kind k, the judged one of kind j.
 fit-later : (ps ls ps′ ls′ : List (List ℕ)) (k j : ℕ) (body : List ℕ) → j ≤ k → ((k ≡ 1 → ⊥) → ps ≡ ps′) → ((k ≡ 1 → ⊥) → (k ≡ 2 → ⊥) → ls ≡ ls′) → Fit ps ls j body → Fit ps′ ls′ j body
-fit-later ps ls ps′ ls′ k zero body h e f x = fit-none ps′ ls′ body
-fit-later ps ls ps′ ls′ k (suc zero) body h e f x = fit-process ps ls ps′ ls′ body x
-fit-later ps ls ps′ ls′ k (suc (suc zero)) body h e f x = subst (λ (qs : List (List ℕ)). Fit qs ls′ 2 body) (e (λ q. omega arith)) (fit-letter ps ls ls′ body x)
-fit-later ps ls ps′ ls′ k (suc (suc (suc j))) body h e f x = same-lists ps ls ps′ ls′ (suc (suc (suc j))) body (e (λ q. omega arith)) (f (λ q. omega arith) (λ q. omega arith)) x
+unfolding valueFits
+fit-later ps ls ps′ ls′ k zero body h e f x = record { values = refl; stray = refl; reentry = refl }
+fit-later ps ls ps′ ls′ k (suc zero) body h e f x = record { values = x .values; stray = refl; reentry = refl }
+fit-later ps ls ps′ ls′ k (suc (suc zero)) body h e f x = rw (← (e (λ q. omega arith))) (record { values = x .values; stray = refl; reentry = refl })
+fit-later ps ls ps′ ls′ k (suc (suc (suc j))) body h e f x = rw (← (e (λ q. omega arith)), ← (f (λ q. omega arith) (λ q. omega arith))) x
 
 module _ (bytes : List ℕ) (c : Cursor) (k : ℕ) (p : Passed bytes c) (a : Admitted bytes c k) where
   abbrev later : Cursor
   later = beyond bytes c k p a
 
   processes-later : (k ≡ 1 → ⊥) → processesIn bytes (c .table) ≡ processesIn bytes (later .table)
-  processes-later h = ap (bodiesAt bytes 2 0) (sym (count-other c k (c .at + 1 + bodyLength k) 1 (λ e. h (sym e))))
+  processes-later h = ap (bodiesAt bytes 2 0) (sym (count-other bytes c k p a 1 (λ e. h (sym e))))
 
   letters-later : (k ≡ 1 → ⊥) → (k ≡ 2 → ⊥) → lettersIn bytes (c .table) ≡ lettersIn bytes (later .table)
-  letters-later h h′ = ap₂ (λ (m l : ℕ). bodiesAt bytes 1 (3 * m) l) (sym (count-other c k (c .at + 1 + bodyLength k) 1 (λ e. h (sym e)))) (sym (count-other c k (c .at + 1 + bodyLength k) 2 (λ e. h′ (sym e))))
+  letters-later h h′ = ap₂ (λ (m l : ℕ). bodiesAt bytes 1 (3 * m) l) (sym (count-other bytes c k p a 1 (λ e. h (sym e)))) (sym (count-other bytes c k p a 2 (λ e. h′ (sym e))))
 
   -- items of kinds up to k stay where they are
   offset-later : (j : ℕ) → j ≤ k → offset (countsAt later) j ≡ offset (countsAt c) j
-  offset-later j h = offset-agrees bytes (countsAt later) (countsAt c) j (λ i l. count-other c k (c .at + 1 + bodyLength k) i (λ e. omega arith))
+  offset-later j h = offset-agrees bytes (countsAt later) (countsAt c) j (λ i l. count-other bytes c k p a i (λ e. omega arith))
 
   body-later : (j i : ℕ) → j ≤ k → bodyOf bytes (countsAt c) j i ≡ bodyOf bytes (countsAt later) j i
   body-later j i h = ap (λ (o : ℕ). bodyAt bytes (bodyLength j) (o + i * (1 + bodyLength j))) (sym (offset-later j h))
@@ -80,8 +65,7 @@ module _ (bytes : List ℕ) (c : Cursor) (k : ℕ) (p : Passed bytes c) (a : Adm
 
   new-fit : Clear (itemsBefore bytes c) k (bodyAt bytes (bodyLength k) (c .at)) → Fit (processesIn bytes (c .table)) (lettersIn bytes (c .table)) k (bodyOf bytes (countsAt c) k (countsAt c k))
   new-fit q = subst (Fit (processesIn bytes (c .table)) (lettersIn bytes (c .table)) k) body-new
-      (same-lists (bodies 1 (itemsBefore bytes c)) (bodies 2 (itemsBefore bytes c)) (processesIn bytes (c .table)) (lettersIn bytes (c .table)) k (bodyAt bytes (bodyLength k) (c .at)) (processes-before bytes c) (letters-before bytes c)
-      (record { values = q .values; stray = q .stray; reentry = q .reentry }))
+      (rw (← (processes-before bytes c), ← (letters-before bytes c)) (record { values = q .values; stray = q .stray; reentry = q .reentry }))
 
   pub fit-beyond : Clear (itemsBefore bytes c) k (bodyAt bytes (bodyLength k) (c .at)) → AllFit bytes c → AllFit bytes later
   fit-beyond q f j i h l = elim (ℕ-discrete j k) [
@@ -91,7 +75,7 @@ module _ (bytes : List ℕ) (c : Cursor) (k : ℕ) (p : Passed bytes c) (a : Adm
     where
       same : i < countsAt later k → Fit (processesIn bytes (later .table)) (lettersIn bytes (later .table)) k (bodyOf bytes (countsAt later) k i)
       same m =
-          let s : i < countsAt c k + 1 = subst (λ (x : ℕ). i < x) (count-same c k (c .at + 1 + bodyLength k) (a .some) (a .known)) m in
+          let s : i < countsAt c k + 1 = subst (λ (x : ℕ). i < x) (count-same bytes c k p a) m in
           fit-at k i (omega arith) (elim (ℕ-discrete i (countsAt c k)) [
             | yes e ↦ subst (λ (x : ℕ). Fit (processesIn bytes (c .table)) (lettersIn bytes (c .table)) k (bodyOf bytes (countsAt c) k x)) (sym e) (new-fit q)
             | no n ↦ f k i (a .known) (omega arith)
@@ -99,7 +83,7 @@ module _ (bytes : List ℕ) (c : Cursor) (k : ℕ) (p : Passed bytes c) (a : Adm
 
       other : (j ≡ k → ⊥) → Fit (processesIn bytes (later .table)) (lettersIn bytes (later .table)) j (bodyOf bytes (countsAt later) j i)
       other n =
-          let s : i < countsAt c j = subst (λ (x : ℕ). i < x) (count-other c k (c .at + 1 + bodyLength k) j n) l in
+          let s : i < countsAt c j = subst (λ (x : ℕ). i < x) (count-other bytes c k p a j n) l in
           by-test (leb j k)
           (λ y. fit-at j i (leb-true j k y) (f j i h s))
           (λ y. let z : countsAt c j ≡ 0 = p .above j (let b : k < j = leb-false j k y in omega (arith, a .turn)) in absurd (omega arith))

@@ -15,9 +15,6 @@ use Rattle.table.specs.Places.{bodyAt, bodiesAt}
 pub body-length : (bytes : List ℕ) (size place : ℕ) → place + 1 + size ≤ length bytes → length (bodyAt bytes size place) ≡ size
 body-length bytes size place h = simp (length-take, length-drop) (omega arith)
 
-pub body-byte : (bytes : List ℕ) (size place i : ℕ) → i < size → byteOf (bodyAt bytes size place) i ≡ getD bytes (place + 1 + i) 0
-body-byte bytes size place i h = rw (getD-take size (drop (place + 1) bytes) i 0 h, getD-drop (place + 1) bytes i 0)
-
 pub bodies-length : (bytes : List ℕ) (size place n : ℕ) → length (bodiesAt bytes size place n) ≡ n
 unfolding bodiesAt
 bodies-length bytes size place zero = refl
@@ -37,8 +34,8 @@ bodies-at bytes size place (suc n) zero d h = ap (bodyAt bytes size) (first-plac
 bodies-at bytes size place (suc n) (suc j) d h = bodies-at bytes size (place + 1 + size) n j d (le-of-suc-le-suc h) ∙ ap (bodyAt bytes size) (next-place place size j)
 
 -- byte i of body j
-pub bodies-byte : (bytes : List ℕ) (size place n j i : ℕ) (d : List ℕ) → j < n → i < size → byteOf (getD (bodiesAt bytes size place n) j d) i ≡ getD bytes (place + j * (1 + size) + 1 + i) 0
-bodies-byte bytes size place n j i d h k = rw (bodies-at bytes size place n j d h) (body-byte bytes size (place + j * (1 + size)) i k)
+pub bodies-byte : (bytes : List ℕ) (size place n j i at : ℕ) (d : List ℕ) → j < n → i < size → at ≡ place + j * (1 + size) + 1 + i → getD bytes at 0 ≡ byteOf (getD (bodiesAt bytes size place n) j d) i
+bodies-byte bytes size place n j i at d h k e = rw (e, bodies-at bytes size place n j d h, getD-take size (drop (place + j * (1 + size) + 1) bytes) i 0 k, getD-drop (place + j * (1 + size) + 1) bytes i 0)
 
 -- no body j
 pub bodies-past : (bytes : List ℕ) (size place n j : ℕ) (d : List ℕ) → n ≤ j → getD (bodiesAt bytes size place n) j d ≡ d
@@ -60,13 +57,13 @@ absent-bound (suc zero) h = refl
 absent-bound (suc (suc field)) h = absurd (omega arith)
 
 -- ---- a loop over bodies: `left` of them, from `place` on, are to be compared with the body at `at`
-pub record Left (bytes : List ℕ) (size first count at place left : ℕ) : Type 0 where
+pub record Left (bytes : List ℕ) (size count at place left : ℕ) : Type 0 where
   pub room : place + left * (1 + size) ≤ at
-  pub same : anyOf (sameBytes (bodyAt bytes size at)) (bodiesAt bytes size first count) ≡ anyOf (sameBytes (bodyAt bytes size at)) (bodiesAt bytes size place left)
+  pub same : anyOf (sameBytes (bodyAt bytes size at)) (bodiesAt bytes size (at - count * (1 + size)) count) ≡ anyOf (sameBytes (bodyAt bytes size at)) (bodiesAt bytes size place left)
 
-module _ {bytes : List ℕ} {size first count at place left : ℕ} (g : Left bytes size first count at place left) where
+module _ {bytes : List ℕ} {size count at place left : ℕ} (g : Left bytes size count at place left) where
   abbrev seen : Bool
-  seen = anyOf (sameBytes (bodyAt bytes size at)) (bodiesAt bytes size first count)
+  seen = anyOf (sameBytes (bodyAt bytes size at)) (bodiesAt bytes size (at - count * (1 + size)) count)
 
   split : 0 < left → left ≡ suc (left - 1)
   split h = omega arith
@@ -81,7 +78,7 @@ module _ {bytes : List ℕ} {size first count at place left : ℕ} (g : Left byt
   pub left-found : 0 < left → sameBytes (bodyAt bytes size at) (bodyAt bytes size place) ≡ true → seen ≡ true
   left-found h e = first-of h ∙ rw e
 
-  pub left-turn : 0 < left → sameBytes (bodyAt bytes size at) (bodyAt bytes size place) ≡ false → Left bytes size first count at (place + 1 + size) (left - 1)
+  pub left-turn : 0 < left → sameBytes (bodyAt bytes size at) (bodyAt bytes size place) ≡ false → Left bytes size count at (place + 1 + size) (left - 1)
   left-turn h e = record { room = omega (arith, left-room h); same = first-of h ∙ rw e }
 
   pub left-end : left ≤ 0 → seen ≡ false

@@ -1,42 +1,34 @@
 -- Laws of a cursor: what its counts say of the items before it, and the cursor behind one item more.
 use mathlib.Core.Bool.{Bool, false, cond, _&&_}
 use mathlib.Core.List.{List, [], _∷_, _++_}
-use mathlib.Core.Path.{_≡_, refl, sym, ap, _∙_, subst}
-use Prim.Native.Nat.{ℕ, zero, suc, _+_, _*_, _<_, _≤_}
+use mathlib.Core.Path.{_≡_, refl, sym, ap, _∙_}
+use Prim.Native.Nat.{ℕ, zero, suc, _+_, _-_, _*_, _<_, _≤_}
 use native.Mathlib.Decide.{ℕ-discrete}
 use native.Mathlib.Omega.{arith}
 use lib.Dec.{eqb, leb}
 use lib.ListN.{length}
-use borrow.Author.Tests.{ne-eqb, lt-leb}
+use borrow.Author.Tests.{eq-eqb, ne-eqb, leb-true}
+use Rattle.model.proofs.Tests.{by-test}
 use Rattle.model.specs.Lists.{anyOf}
 use Rattle.model.specs.Tables.{bodyLength, ceiling, bodies, count, isOutOfTurn, sameBytes}
 use Rattle.table.specs.Places.{bodyAt, bodiesAt, offset, countsAt, itemsBefore, processesIn, lettersIn, Modest, advanced, Heads, Passed}
 use Rattle.table.specs.Reading.{countsOf, outOfTurn}
 use Rattle.table.specs.declared.Cursor.{Cursor}
 use Rattle.table.proofs.Bodies.{bodies-length}
-use Rattle.table.proofs.Places.{bodies-above, bodies-below, offset-snoc, items-snoc, offset-still, lastKind-snoc}
-use Rattle.table.proofs.Scans.{and-false}
+use Rattle.table.proofs.Places.{bodies-above, bodies-below, offset-snoc, items-snoc, offset-still, lastKind-snoc, first-item, second-item}
 
 -- ---- places by counts
 module _ (bytes : List ℕ) (c : Cursor) where
-  processes-place : offset (countsAt c) 1 ≡ 0
-  unfolding offset
-  processes-place = omega arith
-
-  pub letters-place : offset (countsAt c) 2 ≡ 3 * c .table .processes
-  unfolding offset
-  letters-place = omega arith
-
-  pub heads-place : 3 * c .table .processes + 2 * c .table .letters ≤ offset (countsAt c) 8
+  heads-place : 3 * c .table .processes + 2 * c .table .letters ≤ offset (countsAt c) 8
   unfolding offset
   heads-place = omega arith
 
   -- ---- bodies
   pub processes-before : bodies 1 (itemsBefore bytes c) ≡ processesIn bytes (c .table)
-  processes-before = bodies-below bytes (countsAt c) 1 8 (omega arith) ∙ ap (λ (p : ℕ). bodiesAt bytes 2 p (c .table .processes)) processes-place
+  processes-before = bodies-below bytes (countsAt c) 1 8 (omega arith) ∙ ap (λ (p : ℕ). bodiesAt bytes 2 p (c .table .processes)) (first-item (c .table) (c .starts))
 
   pub letters-before : bodies 2 (itemsBefore bytes c) ≡ lettersIn bytes (c .table)
-  letters-before = bodies-below bytes (countsAt c) 2 8 (omega arith) ∙ ap (λ (p : ℕ). bodiesAt bytes 1 p (c .table .letters)) letters-place
+  letters-before = bodies-below bytes (countsAt c) 2 8 (omega arith) ∙ ap (λ (p : ℕ). bodiesAt bytes 1 p (c .table .letters)) (second-item (c .table) (c .starts))
 
   pub count-before : (k : ℕ) → k < 8 → count k (itemsBefore bytes c) ≡ countsAt c k
   count-before k h = ap length (bodies-below bytes (countsAt c) k 8 h) ∙ bodies-length bytes (bodyLength k) (offset (countsAt c) k) (countsAt c k)
@@ -73,42 +65,20 @@ module _ (bytes : List ℕ) (c : Cursor) where
   pub kind-place : Passed bytes c → (k : ℕ) → k < 8 → c .last ≤ k → offset (countsAt c) k + countsAt c k * (1 + bodyLength k) ≡ c .at
   kind-place p k h l = sym (p .place ∙ offset-still (countsAt c) k 8 h (λ j m. p .above j (omega arith)))
 
-  -- check 8
-  pub seen-before : Passed bytes c → (k first : ℕ) (body : List ℕ) → k < 8 → c .last ≤ k → first + countsAt c k * (1 + bodyLength k) ≡ c .at
-      → anyOf (sameBytes body) (bodiesAt bytes (bodyLength k) first (countsAt c k)) ≡ anyOf (sameBytes body) (bodies k (itemsBefore bytes c))
-  seen-before p k first body h l e =
-      let same : first ≡ offset (countsAt c) k = omega (arith, kind-place p k h l) in
-      rw (bodies-below bytes (countsAt c) k 8 h, same)
-
 -- ---- the cursor behind one item more
-module _ (c : Cursor) (k next : ℕ) where
-  none-added : (x : ℕ) → (k ≡ x → ⊥) → (m : ℕ) → m + cond (eqb k x) 1 0 ≡ m
-  none-added x h m = rw (ne-eqb k x h) (omega arith)
-
-  pub count-other : (j : ℕ) → (j ≡ k → ⊥) → countsAt (advanced c k next) j ≡ countsAt c j
+module _ (c : Cursor) (k next : ℕ) (h : 0 < k) (l : k < 8) where
+  count-advanced : (j : ℕ) → countsAt (advanced c k next) j ≡ countsAt c j + cond (eqb k j) 1 0
   unfolding advanced
-  count-other zero h = refl
-  count-other (suc zero) h = none-added 1 (λ e. h (sym e)) (c .table .processes)
-  count-other (suc (suc zero)) h = none-added 2 (λ e. h (sym e)) (c .table .letters)
-  count-other (suc (suc (suc zero))) h = none-added 3 (λ e. h (sym e)) (c .table .rules)
-  count-other (suc (suc (suc (suc zero)))) h = none-added 4 (λ e. h (sym e)) (c .table .transitions)
-  count-other (suc (suc (suc (suc (suc zero))))) h = none-added 5 (λ e. h (sym e)) (c .table .accepting)
-  count-other (suc (suc (suc (suc (suc (suc zero)))))) h = none-added 6 (λ e. h (sym e)) (c .starts)
-  count-other (suc (suc (suc (suc (suc (suc (suc zero))))))) h = none-added 7 (λ e. h (sym e)) (c .table .pile)
-  count-other (suc (suc (suc (suc (suc (suc (suc (suc zero)))))))) h = refl
-  count-other (suc (suc (suc (suc (suc (suc (suc (suc (suc j))))))))) h = refl
-
-pub count-same : (c : Cursor) (k next : ℕ) → 0 < k → k < 8 → countsAt (advanced c k next) k ≡ countsAt c k + 1
-unfolding advanced
-count-same c zero next h l = absurd (omega arith)
-count-same c (suc zero) next h l = refl
-count-same c (suc (suc zero)) next h l = refl
-count-same c (suc (suc (suc zero))) next h l = refl
-count-same c (suc (suc (suc (suc zero)))) next h l = refl
-count-same c (suc (suc (suc (suc (suc zero))))) next h l = refl
-count-same c (suc (suc (suc (suc (suc (suc zero)))))) next h l = refl
-count-same c (suc (suc (suc (suc (suc (suc (suc zero))))))) next h l = refl
-count-same c (suc (suc (suc (suc (suc (suc (suc (suc k)))))))) next h l = absurd (omega (arith, l))
+  count-advanced zero = rw (ne-eqb k 0 (λ e. omega arith))
+  count-advanced (suc zero) = refl
+  count-advanced (suc (suc zero)) = refl
+  count-advanced (suc (suc (suc zero))) = refl
+  count-advanced (suc (suc (suc (suc zero)))) = refl
+  count-advanced (suc (suc (suc (suc (suc zero))))) = refl
+  count-advanced (suc (suc (suc (suc (suc (suc zero)))))) = refl
+  count-advanced (suc (suc (suc (suc (suc (suc (suc zero))))))) = refl
+  count-advanced (suc (suc (suc (suc (suc (suc (suc (suc zero)))))))) = rw (ne-eqb k 8 (λ e. omega arith))
+  count-advanced (suc (suc (suc (suc (suc (suc (suc (suc (suc j))))))))) = rw (ne-eqb k (suc (suc (suc (suc (suc (suc (suc (suc (suc j))))))))) (λ e. omega arith))
 
 -- an item that is in turn, below its ceiling and whole
 pub record Admitted (bytes : List ℕ) (c : Cursor) (k : ℕ) : Type 0 where
@@ -125,46 +95,44 @@ module _ (bytes : List ℕ) (c : Cursor) (k : ℕ) (p : Passed bytes c) (a : Adm
   above-kind : (j : ℕ) → k < j → countsAt c j ≡ 0
   above-kind j h = p .above j (omega (arith, a .turn))
 
+  pub count-other : (j : ℕ) → (j ≡ k → ⊥) → countsAt beyond j ≡ countsAt c j
+  count-other j n = count-advanced c k (c .at + 1 + bodyLength k) (a .some) (a .known) j ∙ rw (ne-eqb k j (λ e. n (sym e))) (omega arith)
+
+  pub count-same : countsAt beyond k ≡ countsAt c k + 1
+  count-same = count-advanced c k (c .at + 1 + bodyLength k) (a .some) (a .known) k ∙ rw (eq-eqb k k refl)
+
   pub items-beyond : itemsBefore bytes c ++ (record { kind = k; body = bodyAt bytes (bodyLength k) (c .at) } ∷ []) ≡ itemsBefore bytes beyond
   items-beyond =
       ap (λ (q : ℕ). itemsBefore bytes c ++ (record { kind = k; body = bodyAt bytes (bodyLength k) q } ∷ [])) (p .place)
-      ∙ items-snoc bytes (countsAt c) (countsAt beyond) k (count-same c k (c .at + 1 + bodyLength k) (a .some) (a .known)) (λ j h. count-other c k (c .at + 1 + bodyLength k) j h) 8 (omega (arith, a .known)) above-kind
+      ∙ items-snoc bytes (countsAt c) (countsAt beyond) k count-same count-other 8 (omega (arith, a .known)) above-kind
 
   pub passed-beyond : Passed bytes beyond
   unfolding advanced
   passed-beyond = record {
-    place = ap (λ (q : ℕ). q + 1 + bodyLength k) (p .place) ∙ sym (offset-snoc bytes (countsAt c) (countsAt beyond) k (count-same c k (c .at + 1 + bodyLength k) (a .some) (a .known)) (λ j h. count-other c k (c .at + 1 + bodyLength k) j h) 8 (omega (arith, a .known)) above-kind);
+    place = ap (λ (q : ℕ). q + 1 + bodyLength k) (p .place) ∙ sym (offset-snoc bytes (countsAt c) (countsAt beyond) k count-same count-other 8 (omega (arith, a .known)) above-kind);
     within = a .whole;
     last = rw (← items-beyond) (lastKind-snoc (itemsBefore bytes c) (record { kind = k; body = bodyAt bytes (bodyLength k) (c .at) }));
-    above = λ j h. count-other c k (c .at + 1 + bodyLength k) j (λ e. omega arith) ∙ above-kind j h;
+    above = λ j h. count-other j (λ e. omega arith) ∙ above-kind j h;
     ceilings = λ j. elim (ℕ-discrete j k) [
-      | yes e ↦ subst (λ (i : ℕ). countsAt beyond i ≤ ceiling i) (sym e) (rw (count-same c k (c .at + 1 + bodyLength k) (a .some) (a .known)) (omega (arith, a .room)))
-      | no n ↦ rw (count-other c k (c .at + 1 + bodyLength k) j n) (p .ceilings j)
+      | yes e ↦ rw (e, count-same) (omega (arith, a .room))
+      | no n ↦ rw (count-other j n) (p .ceilings j)
     ];
   }
 
--- what check 8 needs of an item of kind 3, 4 or 5 at the cursor
+-- what check 8 needs of an item at the cursor: the items of its kind stand right before it
 pub record Seen (bytes : List ℕ) (c : Cursor) (k : ℕ) : Type 0 where
-  pub place : offset (countsAt c) k + countsAt c k * (1 + bodyLength k) ≡ c .at
+  pub room : countsAt c k * (1 + bodyLength k) ≤ c .at
   pub inside : c .at + 1 + bodyLength k ≤ length bytes
-  pub same : (first : ℕ) → first + countsAt c k * (1 + bodyLength k) ≡ c .at
-      → anyOf (sameBytes (bodyAt bytes (bodyLength k) (c .at))) (bodiesAt bytes (bodyLength k) first (countsAt c k)) ≡ anyOf (sameBytes (bodyAt bytes (bodyLength k) (c .at))) (bodies k (itemsBefore bytes c))
+  pub same : anyOf (sameBytes (bodyAt bytes (bodyLength k) (c .at))) (bodiesAt bytes (bodyLength k) (c .at - countsAt c k * (1 + bodyLength k)) (countsAt c k)) ≡ anyOf (sameBytes (bodyAt bytes (bodyLength k) (c .at))) (bodies k (itemsBefore bytes c))
 
 pub seen-of : (bytes : List ℕ) (c : Cursor) (kind k : ℕ) → kind ≡ k → k < 8 → Passed bytes c → c .last ≤ kind → c .at + 1 + bodyLength kind ≤ length bytes → Seen bytes c k
 seen-of bytes c kind k e h p l w =
-    let m : c .last ≤ k = subst (λ (i : ℕ). c .last ≤ i) e l in
-    record {
-      place = kind-place bytes c p k h m;
-      inside = subst (λ (i : ℕ). c .at + 1 + bodyLength i ≤ length bytes) e w;
-      same = λ first q. seen-before bytes c p k first (bodyAt bytes (bodyLength k) (c .at)) h m q;
-    }
+    let place = kind-place bytes c p k h (rw e at l) in
+    let first : c .at - countsAt c k * (1 + bodyLength k) ≡ offset (countsAt c) k = omega arith in
+    record { room = omega arith; inside = rw e at w; same = rw (first, bodies-below bytes (countsAt c) k 8 h) refl }
 
 -- kinds without check 8
 pub no-twin : (k : ℕ) (b : Bool) → (k ≡ 3 → ⊥) → (k ≡ 4 → ⊥) → (k ≡ 5 → ⊥) → (leb 3 k && leb k 5 && b) ≡ false
-no-twin zero b n3 n4 n5 = refl
-no-twin (suc zero) b n3 n4 n5 = refl
-no-twin (suc (suc zero)) b n3 n4 n5 = refl
-no-twin (suc (suc (suc zero))) b n3 n4 n5 = absurd (n3 refl)
-no-twin (suc (suc (suc (suc zero)))) b n3 n4 n5 = absurd (n4 refl)
-no-twin (suc (suc (suc (suc (suc zero))))) b n3 n4 n5 = absurd (n5 refl)
-no-twin (suc (suc (suc (suc (suc (suc k)))))) b n3 n4 n5 = rw (lt-leb (suc (suc (suc (suc (suc (suc k)))))) 5 (omega arith), and-false (leb 3 (suc (suc (suc (suc (suc (suc k))))))))
+no-twin k b n3 n4 n5 = by-test (leb 3 k)
+    (λ y. by-test (leb k 5) (λ z. absurd (omega (arith, leb-true 3 k y, leb-true k 5 z))) (λ z. rw (y, z)))
+    (λ y. rw y)

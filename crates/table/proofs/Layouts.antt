@@ -3,26 +3,25 @@ use mathlib.Core.Bool.{true, _&&_}
 use mathlib.Core.List.{List, [], _∷_}
 use mathlib.Core.Logic.{⊎-elim}
 use mathlib.Core.Path.{_≡_, refl, sym, ap, _∙_, subst}
-use Prim.Native.Nat.{ℕ, zero, suc, _+_, _-_, _*_, _^_, _<_, _≤_}
+use Prim.Native.Nat.{ℕ, zero, suc, _+_, _*_, _^_, _<_, _≤_}
 use native.Mathlib.Nat.{not-suc-le-zero, le-of-suc-le-suc, eq-or-lt-of-le, mul-le-mul-right, suc-mul}
 use native.Mathlib.Omega.{arith}
 use lib.Dec.{ltb, leb}
 use lib.ListN.{length, getD, take, drop, length-map, length-take, length-drop, List·getD-map}
-use lib.Seq.{getD-take, getD-drop}
 use borrow.Author.Tests.{ltb-true, leb-true}
 use Rattle.model.proofs.Tests.{and-left, and-right}
 use Rattle.model.specs.Automata.{Transition}
-use Rattle.model.specs.Groups.{Process, Processes, processesOf}
+use Rattle.model.specs.Groups.{Processes, processesOf}
 use Rattle.model.specs.Systems.{Rule}
 use Rattle.model.specs.Tables.{locOf, statesOf, writtenPlaces, bodyLength, bodies, byteOf, groupOf, numberOf, absent, ruleOf, transitionOf, valueFits, systemOf}
-use Rattle.table.specs.Places.{bodiesAt, offset, placeOf, bodyOf, counts, processesIn, lettersIn, Modest, Heads}
+use Rattle.table.specs.Places.{bodyAt, bodiesAt, offset, placeOf, bodyOf, counts, processesIn, lettersIn, Modest, Heads}
 use Rattle.table.specs.Reading.{Holds, itemsIn, systemIn, ruleIn, transitionIn, acceptingIn, pileIn, statesIn, processAt}
 use Rattle.table.specs.declared.Table.{Table}
 use Rattle.table.proofs.Accepted.{Fit, layout}
 use Rattle.table.proofs.Bodies.{body-length, bodies-length, bodies-at}
 use Rattle.table.proofs.Places.{bodies-below, first-item, second-item}
 use Rattle.table.proofs.Scans.{all-at}
-use Rattle.table.proofs.Values.{power-bound, rule-letter, rule-count, rule-written, transition-letter}
+use Rattle.table.proofs.Values.{up-to-4, power-bound, fit-rule, transition-letter}
 
 -- ---- places
 -- the items of kind k end before those of a later kind
@@ -40,12 +39,17 @@ item-ends n k j h =
     let e : j * (1 + bodyLength k) + (1 + bodyLength k) ≤ n k * (1 + bodyLength k) = subst (λ (x : ℕ). x ≤ n k * (1 + bodyLength k)) (suc-mul j (1 + bodyLength k)) (mul-le-mul-right {m = suc j} {n = n k} (1 + bodyLength k) h) in
     omega arith
 
+-- the first rule, transition, accepting group, the start and the pile
+pub places : (t : Table) → (3 * t .processes + 2 * t .letters ≡ offset (counts t 1) 3)
+    × (3 * t .processes + 2 * t .letters + (1 + bodyLength 3) * t .rules ≡ offset (counts t 1) 4)
+    × (3 * t .processes + 2 * t .letters + (1 + bodyLength 3) * t .rules + 10 * t .transitions ≡ offset (counts t 1) 5)
+    × (3 * t .processes + 2 * t .letters + (1 + bodyLength 3) * t .rules + 10 * t .transitions + 5 * t .accepting ≡ offset (counts t 1) 6)
+    × (3 * t .processes + 2 * t .letters + (1 + bodyLength 3) * t .rules + 10 * t .transitions + 5 * t .accepting + 5 ≡ offset (counts t 1) 7)
+unfolding offset
+places t = omega arith
+
 number-at : (i : ℕ) → i < 4 → numberOf (processAt i) ≡ i
-number-at zero h = refl
-number-at (suc zero) h = refl
-number-at (suc (suc zero)) h = refl
-number-at (suc (suc (suc zero))) h = refl
-number-at (suc (suc (suc (suc i)))) h = absurd (omega arith)
+number-at i h = up-to-4 (λ n. n < 4 → numberOf (processAt n) ≡ n) (λ _. refl) (λ _. refl) (λ _. refl) (λ _. refl) (λ l. absurd (omega arith)) i (omega arith) h
 
 module _ (bytes : List ℕ) (t : Table) (h : Holds bytes t) where
   -- the counts are at most the ceilings
@@ -60,6 +64,13 @@ module _ (bytes : List ℕ) (t : Table) (h : Holds bytes t) where
   -- it stands in the bytes
   pub body-inside : (k j : ℕ) → k < 8 → j < counts t 1 k → placeOf (counts t 1) k j + 1 + bodyLength k ≤ length bytes
   body-inside k j m l = omega (arith, item-ends (counts t 1) k j l, offset-below (counts t 1) k 8 m, layout bytes t h .size)
+
+  -- it is read from where the first of its kind stands
+  pub item-inside : (k j first : ℕ) → k < 8 → j < counts t 1 k → first ≡ offset (counts t 1) k → first + j * (1 + bodyLength k) + 1 + bodyLength k ≤ length bytes
+  item-inside k j first m l e = rw e (body-inside k j m l)
+
+  pub item-read : (k j first : ℕ) (body : List ℕ) → first ≡ offset (counts t 1) k → body ≡ bodyAt bytes (bodyLength k) (first + j * (1 + bodyLength k)) → body ≡ bodyOf bytes (counts t 1) k j
+  item-read k j first body e f = f ∙ rw e
 
   -- it has its kind's length
   pub body-size : (k j : ℕ) → k < 8 → j < counts t 1 k → length (bodyOf bytes (counts t 1) k j) ≡ bodyLength k
@@ -80,13 +91,13 @@ module _ (bytes : List ℕ) (t : Table) (h : Holds bytes t) where
 
   -- ---- processes and letters
   processes-are : bodies 1 (itemsIn bytes) ≡ processesIn bytes t
-  processes-are = bodies-in 1 (omega arith) ∙ ap (λ (p : ℕ). bodiesAt bytes 2 p (t .processes)) (first-item t)
+  processes-are = bodies-in 1 (omega arith) ∙ ap (λ (p : ℕ). bodiesAt bytes 2 p (t .processes)) (first-item t 1)
 
   pub states-at : (i : ℕ) → i < 4 → statesIn bytes (processAt i) ≡ byteOf (getD (processesIn bytes t) i absent) 1
   states-at i l = ap (λ (ps : List (List ℕ)). statesOf ps (processAt i)) processes-are ∙ ap (λ (j : ℕ). byteOf (getD (processesIn bytes t) j absent) 1) (number-at i l)
 
   pub letters-are : bodies 2 (itemsIn bytes) ≡ lettersIn bytes t
-  letters-are = bodies-in 2 (omega arith) ∙ ap (λ (p : ℕ). bodiesAt bytes 1 p (t .letters)) (second-item t)
+  letters-are = bodies-in 2 (omega arith) ∙ ap (λ (p : ℕ). bodiesAt bytes 1 p (t .letters)) (second-item t 1)
 
   pub loc-is : systemIn bytes .loc ≡ locOf (lettersIn bytes t)
   unfolding systemIn systemOf
@@ -157,7 +168,7 @@ module _ (bytes : List ℕ) (t : Table) (h : Holds bytes t) where
   pub rule-letter-in : (k : ℕ) → k < t .rules → ruleIn bytes k .letter < t .letters
   rule-letter-in k l =
       let e : ruleIn bytes k .letter ≡ byteOf (bodyOf bytes (counts t 1) 3 k) 0 = ap (λ (r : Rule). r .letter) (rule-in k l) in
-      omega (arith, rule-letter (processesIn bytes t) (lettersIn bytes t) (bodyOf bytes (counts t 1) 3 k) (body-fits 3 k (omega arith) l .values), letters-count)
+      omega (arith, fit-rule (processesIn bytes t) (lettersIn bytes t) (bodyOf bytes (counts t 1) 3 k) (body-fits 3 k (omega arith) l .values) .letter, letters-count)
 
   pub transition-letter-in : (k : ℕ) → k < t .transitions → transitionIn bytes k .letter < t .letters
   transition-letter-in k l =
@@ -169,25 +180,15 @@ module _ (bytes : List ℕ) (t : Table) (h : Holds bytes t) where
   pile-letter-in k l = omega (arith, pile-in k l, letters-count, ltb-true (byteOf (bodyOf bytes (counts t 1) 7 k) 0) (length (lettersIn bytes t)) (body-fits 7 k (omega arith) l .values))
 
   -- ---- the letters that rule k writes
-  written-few′ : (k : ℕ) → k < t .rules → byteOf (bodyOf bytes (counts t 1) 3 k) 9 ≤ writtenPlaces
-  written-few′ k l = rule-count (processesIn bytes t) (lettersIn bytes t) (bodyOf bytes (counts t 1) 3 k) (body-fits 3 k (omega arith) l .values)
+  pub written-most : (k : ℕ) → k < t .rules → byteOf (bodyOf bytes (counts t 1) 3 k) 9 ≤ writtenPlaces
+  written-most k l = fit-rule (processesIn bytes t) (lettersIn bytes t) (bodyOf bytes (counts t 1) 3 k) (body-fits 3 k (omega arith) l .values) .count
 
-  pub written-count-in : (k : ℕ) → k < t .rules → length (ruleIn bytes k .written) ≡ byteOf (bodyOf bytes (counts t 1) 3 k) 9
-  written-count-in k l =
-      let s : length (bodyOf bytes (counts t 1) 3 k) ≡ bodyLength 3 = body-size 3 k (omega arith) l in
-      let f : byteOf (bodyOf bytes (counts t 1) 3 k) 9 ≤ writtenPlaces = written-few′ k l in
-      ap (λ (r : Rule). length (r .written)) (rule-in k l) ∙ length-take (byteOf (bodyOf bytes (counts t 1) 3 k) 9) (drop 10 (bodyOf bytes (counts t 1) 3 k)) ∙ (
-      let d : length (drop 10 (bodyOf bytes (counts t 1) 3 k)) ≡ length (bodyOf bytes (counts t 1) 3 k) - 10 = length-drop 10 (bodyOf bytes (counts t 1) 3 k) in omega arith)
+  pub written-size : (k : ℕ) → k < t .rules → length (take (byteOf (bodyOf bytes (counts t 1) 3 k) 9) (drop 10 (bodyOf bytes (counts t 1) 3 k))) ≡ byteOf (bodyOf bytes (counts t 1) 3 k) 9
+  written-size k l = simp (length-take, length-drop) (omega (arith, written-most k l, body-inside 3 k (omega arith) l))
 
   -- at most 4, the number of places
   pub written-few : (k : ℕ) → k < t .rules → length (ruleIn bytes k .written) ≤ writtenPlaces
-  written-few k l = omega (arith, written-count-in k l, written-few′ k l)
-
-  pub written-in : (k j : ℕ) → k < t .rules → j < length (ruleIn bytes k .written) → getD (ruleIn bytes k .written) j 0 ≡ byteOf (bodyOf bytes (counts t 1) 3 k) (10 + j)
-  written-in k j l m =
-      ap (λ (r : Rule). getD (r .written) j 0) (rule-in k l)
-      ∙ getD-take (byteOf (bodyOf bytes (counts t 1) 3 k) 9) (drop 10 (bodyOf bytes (counts t 1) 3 k)) j 0 (omega (arith, written-count-in k l))
-      ∙ getD-drop 10 (bodyOf bytes (counts t 1) 3 k) j 0
+  written-few k l = rw (rule-in k l, written-size k l) (written-most k l)
 
   -- letters of the table
   pub written-letter-in : (k j : ℕ) → k < t .rules → j < length (ruleIn bytes k .written) → getD (ruleIn bytes k .written) j 0 < t .letters
@@ -195,6 +196,6 @@ module _ (bytes : List ℕ) (t : Table) (h : Holds bytes t) where
       let b = bodyOf bytes (counts t 1) 3 k in
       let w = take (byteOf (bodyOf bytes (counts t 1) 3 k) 9) (drop 10 (bodyOf bytes (counts t 1) 3 k)) in
       let e : ruleIn bytes k .written ≡ take (byteOf (bodyOf bytes (counts t 1) 3 k) 9) (drop 10 (bodyOf bytes (counts t 1) 3 k)) = ap (λ (r : Rule). r .written) (rule-in k l) in
-      let a = rule-written (processesIn bytes t) (lettersIn bytes t) (bodyOf bytes (counts t 1) 3 k) (body-fits 3 k (omega arith) l .values) in
+      let a = fit-rule (processesIn bytes t) (lettersIn bytes t) (bodyOf bytes (counts t 1) 3 k) (body-fits 3 k (omega arith) l .values) .written in
       let x : getD w j 0 < length (lettersIn bytes t) = ltb-true (getD w j 0) (length (lettersIn bytes t)) (all-at (λ x. ltb x (length (lettersIn bytes t))) w j (subst (λ (u : List ℕ). j < length u) e m) a) in
       subst (λ (u : List ℕ). getD u j 0 < t .letters) (sym e) (omega (arith, letters-count))

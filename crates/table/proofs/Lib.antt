@@ -1,4 +1,3 @@
-pub mod Tests
 pub mod Scans
 pub mod Bodies
 pub mod Values

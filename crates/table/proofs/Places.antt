@@ -127,10 +127,10 @@ lastKind-snoc (y ∷ []) x = refl
 lastKind-snoc (y ∷ z ∷ xs) x = lastKind-snoc (z ∷ xs) x
 
 -- processes stand first, then letters
-pub first-item : (t : Table) → offset (counts t 1) 1 ≡ 0
+pub first-item : (t : Table) (starts : ℕ) → offset (counts t starts) 1 ≡ 0
 unfolding offset
-first-item t = omega arith
+first-item t starts = omega arith
 
-pub second-item : (t : Table) → offset (counts t 1) 2 ≡ 3 * t .processes
+pub second-item : (t : Table) (starts : ℕ) → offset (counts t starts) 2 ≡ 3 * t .processes
 unfolding offset
-second-item t = omega arith
+second-item t starts = omega arith

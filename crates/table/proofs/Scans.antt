@@ -1,5 +1,5 @@
 -- Laws for the loops that test a part of the bytes one after the other.
-use mathlib.Core.Bool.{Bool, true, false, _&&_, _||_, true≢false}
+use mathlib.Core.Bool.{Bool, true, false, _&&_, true≢false}
 use mathlib.Core.List.{List, [], _∷_, _++_}
 use mathlib.Core.Path.{_≡_, refl, sym, ap, ap₂, _∙_}
 use Prim.Native.Nat.{ℕ, zero, suc, _+_, _-_, _<_, _≤_}
@@ -16,20 +16,12 @@ use Rattle.model.specs.Lists.{allOf}
 use Rattle.model.specs.Tables.{sameBytes}
 use Rattle.numbers.proofs.NumberBytes.{AllBytes, number-test}
 
-pub and-false : (b : Bool) → (b && false) ≡ false
+and-false : (b : Bool) → (b && false) ≡ false
 and-false true = refl
 and-false false = refl
 
-pub or-true : (b : Bool) → (b || true) ≡ true
-or-true true = refl
-or-true false = refl
-
-pub or-false : (b : Bool) → (b || false) ≡ b
-or-false true = refl
-or-false false = refl
-
 -- ---- all of a list
-pub all-append : {A : Type 0} (f : A → Bool) (xs ys : List A) → allOf f (xs ++ ys) ≡ (allOf f xs && allOf f ys)
+all-append : {A : Type 0} (f : A → Bool) (xs ys : List A) → allOf f (xs ++ ys) ≡ (allOf f xs && allOf f ys)
 all-append f [] ys = refl
 all-append f (x ∷ xs) ys = simp (all-append f xs ys) (regroup (f x) (allOf f xs) (allOf f ys))
   where
@@ -37,21 +29,33 @@ all-append f (x ∷ xs) ys = simp (all-append f xs ys) (regroup (f x) (allOf f x
     regroup true b c = refl
     regroup false b c = refl
 
-pub all-more : (f : ℕ → Bool) (l : List ℕ) (j : ℕ) → j < length l → allOf f (take j l) ≡ true → f (getD l j 0) ≡ true → allOf f (take (j + 1) l) ≡ true
+all-more : (f : ℕ → Bool) (l : List ℕ) (j : ℕ) → j < length l → allOf f (take j l) ≡ true → f (getD l j 0) ≡ true → allOf f (take (j + 1) l) ≡ true
 all-more f l j h p q = simp (add-one, take-suc l j 0 h, all-append, p, q)
 
-pub all-fails : (f : ℕ → Bool) (l : List ℕ) (j : ℕ) → j < length l → f (getD l j 0) ≡ false → allOf f l ≡ false
+all-fails : (f : ℕ → Bool) (l : List ℕ) (j : ℕ) → j < length l → f (getD l j 0) ≡ false → allOf f l ≡ false
 all-fails f [] j h q = absurd (not-suc-le-zero h)
 all-fails f (x ∷ l) zero h q = rw q
 all-fails f (x ∷ l) (suc j) h q = rw (all-fails f l j (le-of-suc-le-suc h) q) (and-false (f x))
-
-pub all-end : (f : ℕ → Bool) (l : List ℕ) (j : ℕ) → length l ≤ j → allOf f (take j l) ≡ true → allOf f l ≡ true
-all-end f l j h p = rw (take-all j l h) at p
 
 pub all-at : (f : ℕ → Bool) (l : List ℕ) (j : ℕ) → j < length l → allOf f l ≡ true → f (getD l j 0) ≡ true
 all-at f [] j h p = absurd (not-suc-le-zero h)
 all-at f (x ∷ l) zero h p = and-left (f x) (allOf f l) p
 all-at f (x ∷ l) (suc j) h p = all-at f l j (le-of-suc-le-suc h) (and-right (f x) (allOf f l) p)
+
+-- the bytes before j passed the test
+pub record Tested (f : ℕ → Bool) (l : List ℕ) (j : ℕ) : Type 0 where
+  pub within : j ≤ length l
+  pub passed : allOf f (take j l) ≡ true
+
+module _ {f : ℕ → Bool} {l : List ℕ} {j : ℕ} (g : Tested f l j) where
+  pub tested-more : j < length l → f (getD l j 0) ≡ true → Tested f l (j + 1)
+  tested-more h q = record { within = omega arith; passed = all-more f l j h (g .passed) q }
+
+  pub tested-fails : j < length l → f (getD l j 0) ≡ false → false ≡ allOf f l
+  tested-fails h q = sym (all-fails f l j h q)
+
+  pub tested-end : length l ≤ j → true ≡ allOf f l
+  tested-end h = sym (rw (take-all j l h) at (g .passed))
 
 -- ---- parts of a list as the code lends them
 pub part-front : (l : List ℕ) (a n : ℕ) → take (a + n - a) (drop a l) ≡ take n (drop a l)

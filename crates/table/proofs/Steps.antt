@@ -1,23 +1,24 @@
 -- One item: what the checks that it passed say, and how the reading goes on.
-use mathlib.Core.Bool.{Bool, true, false, cond, not, _&&_, _||_, true≢false}
+use mathlib.Core.Bool.{Bool, true, false, cond, not, _&&_, _||_}
 use mathlib.Core.List.{List, [], _∷_, _++_}
 use mathlib.Core.Path.{_≡_, refl, sym, ap, _∙_, subst}
 use Prim.Native.Nat.{ℕ, zero, suc, _+_, _-_, _<_, _≤_, min}
 use native.Mathlib.Numerals.{add-one}
 use native.Mathlib.Omega.{arith}
 use lib.Dec.{eqb, ltb, leb}
-use lib.ListN.{length, getD, drop, length-take, length-drop, drop-of-length-le}
+use lib.ListN.{length, getD, drop, replicate, length-take, length-drop, drop-of-length-le}
 use lib.Seq.{drop-cons, drop-drop}
 use borrow.Author.Tests.{not-false, eq-eqb, ne-eqb, eqb-false, ltb-false, lt-ltb, le-ltb, leb-true, leb-false}
-use Rattle.model.proofs.Tests.{by-test, or-right}
-use Rattle.model.specs.Tables.{Item, bodyLength, ceiling, bodies, count, controlsOf, locOf, ruleOf, transitionOf, isStranger, isOutOfTurn, valueFits, cooperates, leavesControl, isTwin, refusal, Reading, accepted, ending, unlessRefused, readFrom, read}
-use Rattle.table.specs.Places.{bodyAt, bodiesAt, offset, itemsBelow, counts, itemsBefore, advanced, Passed}
+use Rattle.model.proofs.Tests.{by-test, or-left, or-right}
+use Rattle.model.specs.Tables.{Item, bodyLength, ceiling, bodies, count, controlsOf, locOf, ruleOf, transitionOf, isStranger, isOutOfTurn, valueFits, cooperates, leavesControl, refusal, Reading, accepted, ending, unlessRefused, readFrom, read}
+use Rattle.table.specs.Places.{bodyAt, bodiesAt, offset, itemsBelow, countsAt, itemsBefore, advanced, Whole, Passed}
 use Rattle.table.specs.Reading.{countsOf, parsed, outOfTurn, bodyRefusal, readOn, Onward, Stepped}
 use Rattle.table.specs.declared.Cursor.{Cursor}
 use Rattle.table.specs.declared.Parsed.{Parsed}
 use Rattle.table.specs.declared.Parsed.the-variants.{Accepted, Refused}
 use Rattle.table.specs.declared.Step.the-variants.{Next, Done}
-use Rattle.table.proofs.Cursors.{count-before, counts-before, turn-before, Admitted, items-beyond, passed-beyond}
+use Rattle.table.proofs.Bodies.{body-length}
+use Rattle.table.proofs.Cursors.{count-before, count-known, counts-before, turn-before, heads-of, Admitted, items-beyond, passed-beyond}
 
 -- ---- the checks that an item passed
 pub record Clear (items : List Item) (k : ℕ) (body : List ℕ) : Type 0 where
@@ -28,7 +29,6 @@ pub record Clear (items : List Item) (k : ℕ) (body : List ℕ) : Type 0 where
   pub values : valueFits (bodies 1 items) (bodies 2 items) k body ≡ true
   pub stray : (eqb k 3 && not (cooperates (locOf (bodies 2 items)) (ruleOf body))) ≡ false
   pub reentry : (eqb k 4 && not (leavesControl (locOf (bodies 2 items)) (controlsOf (bodies 1 items)) (transitionOf body))) ≡ false
-  pub twin : isTwin items k body ≡ false
 
 -- a check that did not pass gives a number above 0
 no-refusal : (a : Bool) (n m : ℕ) → cond a (suc n) m ≡ 0 → (a ≡ false) × (m ≡ 0)
@@ -45,37 +45,23 @@ clear-of items k body e =
     let f = no-refusal (not (valueFits (bodies 1 items) (bodies 2 items) k body)) 4 _ (d .1) in
     let g = no-refusal (eqb k 3 && not (cooperates (locOf (bodies 2 items)) (ruleOf body))) 5 _ (f .1) in
     let h = no-refusal (eqb k 4 && not (leavesControl (locOf (bodies 2 items)) (controlsOf (bodies 1 items)) (transitionOf body))) 6 _ (g .1) in
-    let i = no-refusal (isTwin items k body) 7 _ (h .1) in
-    record { stranger = a .0; turn = b .0; room = c .0; whole = d .0; values = not-false _ (f .0); stray = g .0; reentry = h .0; twin = i .0 }
+    record { stranger = a .0; turn = b .0; room = c .0; whole = d .0; values = not-false _ (f .0); stray = g .0; reentry = h .0 }
 
 -- the checks 3, 4 and 1 in a row, with the number m behind them
-abbrev pub early : Bool → Bool → Bool → ℕ → ℕ
+abbrev early : Bool → Bool → Bool → ℕ → ℕ
 early a b c m = cond a 3 (cond b 4 (cond c 1 m))
 
-pub early-found : (a b c : Bool) (m : ℕ) → (early a b c 0 ≡ 0 → ⊥) → early a b c 0 ≡ early a b c m
-early-found true b c m h = refl
-early-found false true c m h = refl
-early-found false false true m h = refl
-early-found false false false m h = absurd (h refl)
+early-found : (a b c : Bool) (m n : ℕ) → n ≡ early a b c 0 → (n ≡ 0 → ⊥) → n ≡ early a b c m
+early-found true b c m n e h = e
+early-found false true c m n e h = e
+early-found false false true m n e h = e
+early-found false false false m n e h = absurd (h e)
 
-pub early-passed : (a b c : Bool) → early a b c 0 ≡ 0 → (a ≡ false) × (b ≡ false) × (c ≡ false)
+early-passed : (a b c : Bool) → early a b c 0 ≡ 0 → (a ≡ false) × (b ≡ false) × (c ≡ false)
 early-passed true b c e = absurd (omega arith)
 early-passed false true c e = absurd (omega arith)
 early-passed false false true e = absurd (omega arith)
 early-passed false false false e = (refl, refl, refl)
-
-pub late-found : (a b c : Bool) (m : ℕ) → early a b c 0 ≡ 0 → m ≡ early a b c m
-late-found a b c m e = let q = early-passed a b c e in rw (q .0, q .1, q .2)
-
--- all checks behind the first
-pub refusal-known : (items : List Item) (k : ℕ) (body : List ℕ) → isStranger k ≡ false
-    → refusal items k body ≡ early (isOutOfTurn items k) (leb (ceiling k) (count k items)) (ltb (length body) (bodyLength k)) (bodyRefusal items k body)
-unfolding refusal bodyRefusal
-refusal-known items k body a = rw a
-
-pub or-left : (a b : Bool) → (a || b) ≡ false → a ≡ false
-or-left true b e = e
-or-left false b e = refl
 
 -- a kind of item
 pub kind-of : (k : ℕ) → isStranger k ≡ false → (0 < k) × (k < 9)
@@ -98,37 +84,38 @@ pub cut-length : (bytes : List ℕ) (size place : ℕ) → length (bodyAt bytes 
 cut-length bytes size place = simp (length-take, length-drop)
 
 -- check 1 by the bytes that are left
-pub cut-test : (bytes : List ℕ) (size place : ℕ) → place < length bytes → leb (length bytes - place) size ≡ ltb (length (bodyAt bytes size place)) size
+cut-test : (bytes : List ℕ) (size place : ℕ) → place < length bytes → ltb (length (bodyAt bytes size place)) size ≡ leb (length bytes - place) size
 cut-test bytes size place h = by-test (leb (length bytes - place) size)
-    (λ y. let l : length bytes - place ≤ size = leb-true (length bytes - place) size y in y ∙ sym (lt-ltb (length (bodyAt bytes size place)) size (omega (arith, cut-length bytes size place))))
-    (λ y. let l : size < length bytes - place = leb-false (length bytes - place) size y in y ∙ sym (le-ltb (length (bodyAt bytes size place)) size (omega (arith, cut-length bytes size place))))
+    (λ y. let l : length bytes - place ≤ size = leb-true _ _ y in lt-ltb (length (bodyAt bytes size place)) size (omega (arith, cut-length bytes size place)) ∙ sym y)
+    (λ y. let l : size < length bytes - place = leb-false _ _ y in le-ltb (length (bodyAt bytes size place)) size (omega (arith, cut-length bytes size place)) ∙ sym y)
 
-module _ (bytes : List ℕ) (c : Cursor) (p : Passed bytes c) (inside : c .at < length bytes) where
-  abbrev items : List Item
-  items = itemsBefore bytes c
+-- an item that passed the checks 2, 3, 4 and 1
+pub record Early (bytes : List ℕ) (c : Cursor) (k : ℕ) : Type 0 where
+  pub turn : c .last ≤ k
+  pub inside : c .at + 1 + bodyLength k ≤ length bytes
+  pub whole : Whole bytes (c .table) k (bodyAt bytes (bodyLength k) (c .at))
+  pub same : bodyRefusal (itemsBefore bytes c) k (bodyAt bytes (bodyLength k) (c .at)) ≡ refusal (itemsBefore bytes c) k (bodyAt bytes (bodyLength k) (c .at))
 
-  abbrev body : ℕ → List ℕ
-  body k = bodyAt bytes (bodyLength k) (c .at)
+module _ (bytes : List ℕ) (c : Cursor) (k : ℕ) (p : Passed bytes c) (inside : c .at < length bytes) (s : isStranger k ≡ false) where
+  -- all checks behind the first
+  refusal-known : refusal (itemsBefore bytes c) k (bodyAt bytes (bodyLength k) (c .at)) ≡
+      early (outOfTurn c k) (leb (ceiling k) (countsAt c k)) (leb (length bytes - c .at) (bodyLength k)) (bodyRefusal (itemsBefore bytes c) k (bodyAt bytes (bodyLength k) (c .at)))
+  unfolding refusal bodyRefusal
+  refusal-known = rw (s, turn-before bytes c p k, count-known bytes c k (kind-of k s .1), cut-test bytes (bodyLength k) (c .at) inside)
 
-  pub admitted-of : (k : ℕ) → k < 8 → Clear items k (body k) → Admitted bytes c k
-  admitted-of k h q =
-      let whole : bodyLength k ≤ length (body k) = ltb-false _ _ (q .whole) in
-      let room : count k items < ceiling k = leb-false _ _ (q .room) in
+  pub early-refused : (n : ℕ) → n ≡ early (outOfTurn c k) (leb (ceiling k) (countsAt c k)) (leb (length bytes - c .at) (bodyLength k)) 0 → (n ≡ 0 → ⊥) → n ≡ refusal (itemsBefore bytes c) k (bodyAt bytes (bodyLength k) (c .at))
+  early-refused n e h = early-found (outOfTurn c k) (leb (ceiling k) (countsAt c k)) (leb (length bytes - c .at) (bodyLength k)) _ n e h ∙ sym refusal-known
+
+  pub early-of : early (outOfTurn c k) (leb (ceiling k) (countsAt c k)) (leb (length bytes - c .at) (bodyLength k)) 0 ≡ 0 → Early bytes c k
+  early-of e =
+      let q = early-passed (outOfTurn c k) (leb (ceiling k) (countsAt c k)) (leb (length bytes - c .at) (bodyLength k)) e in
+      let i : c .at + 1 + bodyLength k ≤ length bytes = omega (arith, leb-false (length bytes - c .at) (bodyLength k) (q .2)) in
       record {
-        some = kind-of k (q .stranger) .0;
-        known = h;
-        turn = turn-of c k (sym (turn-before bytes c p k) ∙ q .turn);
-        room = omega (arith, count-before bytes c k h);
-        whole = omega (arith, cut-length bytes (bodyLength k) (c .at));
+        turn = turn-of c k (q .0);
+        inside = i;
+        whole = record { heads = heads-of bytes c p; some = kind-of k s .0; known = kind-of k s .1; size = body-length bytes (bodyLength k) (c .at) i };
+        same = sym (refusal-known ∙ rw (q .0, q .1, q .2));
       }
-
-  -- the reading at an item
-  pub read-item : (fuel : ℕ) → readOn bytes c (suc fuel) ≡
-      unlessRefused (refusal items (getD bytes (c .at) 0) (body (getD bytes (c .at) 0))) (c .at)
-      (cond (eqb (getD bytes (c .at) 0) 8) (ending items (drop (c .at + 1) bytes) (c .at + 1))
-      (readFrom fuel (items ++ (record { kind = getD bytes (c .at) 0; body = body (getD bytes (c .at) 0) } ∷ [])) (drop (bodyLength (getD bytes (c .at) 0)) (drop (c .at + 1) bytes)) (c .at + 1 + bodyLength (getD bytes (c .at) 0))))
-  unfolding readFrom
-  read-item fuel = ap (λ (l : List ℕ). readFrom (suc fuel) items l (c .at)) (drop-cons bytes (c .at) 0 inside ∙ ap (λ (i : ℕ). getD bytes (c .at) 0 ∷ drop i bytes) (sym (add-one (c .at))))
 
 -- ---- how an item ends the reading
 done-with : (bytes : List ℕ) (c : Cursor) (p : Parsed) → ((fuel : ℕ) → parsed (readOn bytes c (suc fuel)) ≡ p) → Stepped bytes c (Done p)
@@ -149,32 +136,47 @@ module _ (bytes : List ℕ) (c : Cursor) (p : Passed bytes c) (inside : c .at < 
   abbrev kind : ℕ
   kind = getD bytes (c .at) 0
 
+  abbrev body : List ℕ
+  body = bodyAt bytes (bodyLength kind) (c .at)
+
   abbrev number : ℕ
-  number = refusal (itemsBefore bytes c) (getD bytes (c .at) 0) (bodyAt bytes (bodyLength (getD bytes (c .at) 0)) (c .at))
+  number = refusal (itemsBefore bytes c) kind body
+
+  -- what is read if the item passes
+  abbrev behind : ℕ → Reading
+  behind fuel =
+      cond (eqb kind 8) (ending (itemsBefore bytes c) (drop (c .at + 1) bytes) (c .at + 1))
+      (readFrom fuel (itemsBefore bytes c ++ (record { kind = kind; body = body } ∷ [])) (drop (bodyLength kind) (drop (c .at + 1) bytes)) (c .at + 1 + bodyLength kind))
+
+  read-item : (fuel : ℕ) → readOn bytes c (suc fuel) ≡ unlessRefused number (c .at) (behind fuel)
+  unfolding readFrom
+  read-item fuel = ap (λ (l : List ℕ). readFrom (suc fuel) (itemsBefore bytes c) l (c .at)) (drop-cons bytes (c .at) 0 inside ∙ ap (λ (i : ℕ). kind ∷ drop i bytes) (sym (add-one (c .at))))
 
   -- a check that the item does not pass
   unless-parsed : (n place : ℕ) (r : Reading) → (n ≡ 0 → ⊥) → parsed (unlessRefused n place r) ≡ Refused n place
   unless-parsed zero place r h = absurd (h refl)
   unless-parsed (suc n) place r h = refl
 
-  unless-zero : (n place : ℕ) (r : Reading) → n ≡ 0 → unlessRefused n place r ≡ r
-  unless-zero zero place r e = refl
-  unless-zero (suc n) place r e = absurd (omega arith)
-
   pub step-refused : (r : ℕ) → r ≡ number → (r ≡ 0 → ⊥) → Stepped bytes c (Done (Refused r (c .at)))
-  step-refused r e h = done-with bytes c (Refused r (c .at)) (λ fuel. ap parsed (read-item bytes c p inside fuel) ∙ unless-parsed number (c .at) _ (λ z. h (e ∙ z)) ∙ ap (λ (i : ℕ). Refused i (c .at)) (sym e))
+  step-refused r e h = done-with bytes c (Refused r (c .at)) (λ fuel. ap parsed (read-item fuel) ∙ unless-parsed number (c .at) (behind fuel) (λ z. h (e ∙ z)) ∙ ap (λ (i : ℕ). Refused i (c .at)) (sym e))
 
-  passing : number ≡ 0 → (fuel : ℕ) → readOn bytes c (suc fuel) ≡
-      cond (eqb kind 8) (ending (itemsBefore bytes c) (drop (c .at + 1) bytes) (c .at + 1))
-      (readFrom fuel (itemsBefore bytes c ++ (record { kind = kind; body = bodyAt bytes (bodyLength kind) (c .at) } ∷ [])) (drop (bodyLength kind) (drop (c .at + 1) bytes)) (c .at + 1 + bodyLength kind))
-  passing z fuel = read-item bytes c p inside fuel ∙ unless-zero number (c .at) _ z
+  passing : number ≡ 0 → (fuel : ℕ) → readOn bytes c (suc fuel) ≡ behind fuel
+  passing z fuel = read-item fuel ∙ ap (λ (n : ℕ). unlessRefused n (c .at) (behind fuel)) z
 
   -- one item more
   pub next-admitted : number ≡ 0 → (kind ≡ 8 → ⊥) → Admitted bytes c kind
   next-admitted z h =
-      let q = clear-of (itemsBefore bytes c) kind (bodyAt bytes (bodyLength kind) (c .at)) z in
+      let q = clear-of (itemsBefore bytes c) kind body z in
       let l : kind < 9 = kind-of kind (q .stranger) .1 in
-      admitted-of bytes c p inside kind (omega arith) q
+      let whole : bodyLength kind ≤ length body = ltb-false _ _ (q .whole) in
+      let room : count kind (itemsBefore bytes c) < ceiling kind = leb-false _ _ (q .room) in
+      record {
+        some = kind-of kind (q .stranger) .0;
+        known = omega arith;
+        turn = turn-of c kind (sym (turn-before bytes c p kind) ∙ q .turn);
+        room = omega (arith, count-before bytes c kind (omega arith));
+        whole = omega (arith, cut-length bytes (bodyLength kind) (c .at));
+      }
 
   pub step-next : number ≡ 0 → (kind ≡ 8 → ⊥) → Stepped bytes c (Next (advanced c kind (c .at + 1 + bodyLength kind)))
   unfolding advanced
@@ -207,26 +209,16 @@ pub record Going (bytes : List ℕ) (c : Cursor) : Type 0 where
 pub going-start : (bytes : List ℕ) (c : Cursor) → c ≡ record { at = 0; last = 0; starts = 0; table = countsOf [] } → Going bytes c
 unfolding read itemsBelow bodiesAt offset
 going-start bytes c e = rw e (record {
-  passed = record { place = refl; within = omega arith; last = refl; above = none; ceilings = λ k. rw (none′ k) (omega arith) };
+  passed = record { place = refl; within = omega arith; last = refl; above = λ k h. zeros 9 k; ceilings = λ k. rw (zeros 9 k) (omega arith) };
   fuel = length bytes + 1;
   enough = omega arith;
   same = refl;
 })
   where
-    none′ : (k : ℕ) → counts (countsOf []) 0 k ≡ 0
-    none′ zero = refl
-    none′ (suc zero) = refl
-    none′ (suc (suc zero)) = refl
-    none′ (suc (suc (suc zero))) = refl
-    none′ (suc (suc (suc (suc zero)))) = refl
-    none′ (suc (suc (suc (suc (suc zero))))) = refl
-    none′ (suc (suc (suc (suc (suc (suc zero)))))) = refl
-    none′ (suc (suc (suc (suc (suc (suc (suc zero))))))) = refl
-    none′ (suc (suc (suc (suc (suc (suc (suc (suc zero)))))))) = refl
-    none′ (suc (suc (suc (suc (suc (suc (suc (suc (suc k))))))))) = refl
-
-    none : (k : ℕ) → 0 < k → counts (countsOf []) 0 k ≡ 0
-    none k h = none′ k
+    zeros : (n k : ℕ) → _≡_ {A = ℕ} (getD (replicate n 0) k 0) 0
+    zeros zero k = refl
+    zeros (suc n) zero = refl
+    zeros (suc n) (suc k) = zeros n k
 
 module _ (bytes : List ℕ) (c : Cursor) (g : Going bytes c) where
   spent : g .fuel ≡ suc (g .fuel - 1)

@@ -43,16 +43,10 @@ pub fn group_fits(bytes: &[u8], t: Table, field: usize, bits: u8, g: Group) -> b
     requires { ⌜ Heads (now bytes) t × (field < 2) ⌝ }
     ensures { λ r. ⌜ r ≡ groupFits (processesOf bits) (boundIn (now (bytes .entry)) t field) g ⌝ }
 {
-    if state_fits(bytes, t, field, 0, bits % 2 == 1, g.s0) {} else {
-        return false;
-    }
-    if state_fits(bytes, t, field, 1, bits / 2 % 2 == 1, g.s1) {} else {
-        return false;
-    }
-    if state_fits(bytes, t, field, 2, bits / 4 % 2 == 1, g.s2) {} else {
-        return false;
-    }
-    state_fits(bytes, t, field, 3, bits / 8 % 2 == 1, g.s3)
+    state_fits(bytes, t, field, 0, bits % 2 == 1, g.s0)
+        & state_fits(bytes, t, field, 1, bits / 2 % 2 == 1, g.s1)
+        & state_fits(bytes, t, field, 2, bits / 4 % 2 == 1, g.s2)
+        & state_fits(bytes, t, field, 3, bits / 8 % 2 == 1, g.s3)
 }
 
 // The body of a process: 1 to 8 states, of which 1 or more are control states.
@@ -62,13 +56,7 @@ pub fn process_fits(body: &[u8]) -> bool
 {
     let controls = body[0];
     let states = body[1];
-    if controls < 1 {
-        return false;
-    }
-    if states < controls {
-        return false;
-    }
-    states <= 8
+    (1 <= controls) & (controls <= states) & (states <= 8)
 }
 
 // The body of a letter: bits of processes that the table has, at least one.
@@ -77,10 +65,7 @@ pub fn letter_fits(t: Table, body: &[u8]) -> bool
     ensures { λ r. ⌜ r ≡ (leb 1 (byteOf (now (body .entry)) 0) && ltb (byteOf (now (body .entry)) 0) (2 ^ t .processes)) ⌝ }
 {
     let bits = body[0];
-    if bits < 1 {
-        return false;
-    }
-    bits < power_of(t.processes)
+    (1 <= bits) & (bits < power_of(t.processes))
 }
 
 // The letter of a rule or a transition is one of the table's, and both groups fit it.
@@ -93,10 +78,8 @@ pub fn transition_fits(bytes: &[u8], t: Table, field: usize, body: &[u8]) -> boo
         return false;
     }
     let bits = bits_of(bytes, t, a);
-    if group_fits(bytes, t, field, bits, group_at(body, 1)) {} else {
-        return false;
-    }
-    group_fits(bytes, t, field, bits, group_at(body, 5))
+    group_fits(bytes, t, field, bits, group_at(body, 1))
+        & group_fits(bytes, t, field, bits, group_at(body, 5))
 }
 
 // Each byte is a letter of the table.
@@ -137,10 +120,7 @@ pub fn written_fit(letters: usize, body: &[u8]) -> bool
         return false;
     }
     let end = 10 + n;
-    if are_letters(&body[10..end], letters) {} else {
-        return false;
-    }
-    are_spare(&body[end..])
+    are_letters(&body[10..end], letters) & are_spare(&body[end..])
 }
 
 // The body of a rule.
@@ -148,10 +128,7 @@ pub fn rule_fits(bytes: &[u8], t: Table, body: &[u8]) -> bool
     requires { ⌜ Heads (now bytes) t × (length (now body) ≡ bodyLength 3) ⌝ }
     ensures { λ r. ⌜ r ≡ (transitionFits (lettersIn (now (bytes .entry)) t) (boundIn (now (bytes .entry)) t 0) (transitionOf (now (body .entry))) && writtenFit (lettersIn (now (bytes .entry)) t) (byteOf (now (body .entry)) 9) (drop 10 (now (body .entry)))) ⌝ }
 {
-    if transition_fits(bytes, t, 0, body) {} else {
-        return false;
-    }
-    written_fit(t.letters, body)
+    transition_fits(bytes, t, 0, body) & written_fit(t.letters, body)
 }
 
 // A group of all processes: accepting ones and the start.
@@ -207,16 +184,10 @@ pub fn implies(a: bool, b: bool) -> bool
 pub fn is_within(inner: u8, outer: u8) -> bool
     ensures { λ r. ⌜ r ≡ every (λ i. not (has (processesOf inner) i) || has (processesOf outer) i) ⌝ }
 {
-    if implies(inner % 2 == 1, outer % 2 == 1) {} else {
-        return false;
-    }
-    if implies(inner / 2 % 2 == 1, outer / 2 % 2 == 1) {} else {
-        return false;
-    }
-    if implies(inner / 4 % 2 == 1, outer / 4 % 2 == 1) {} else {
-        return false;
-    }
-    implies(inner / 8 % 2 == 1, outer / 8 % 2 == 1)
+    implies(inner % 2 == 1, outer % 2 == 1)
+        & implies(inner / 2 % 2 == 1, outer / 2 % 2 == 1)
+        & implies(inner / 4 % 2 == 1, outer / 4 % 2 == 1)
+        & implies(inner / 8 % 2 == 1, outer / 8 % 2 == 1)
 }
 
 // Each process of the written letters is one of the set.
@@ -244,10 +215,7 @@ pub fn is_stray(bytes: &[u8], t: Table, kind: u8, body: &[u8]) -> bool
     }
     let outer = bits_of(bytes, t, wide(body[0]));
     let end = 10 + wide(body[9]);
-    if are_within(bytes, t, outer, &body[10..end]) {
-        return false;
-    }
-    true
+    !are_within(bytes, t, outer, &body[10..end])
 }
 
 // The state x of process i is no control state.
@@ -266,16 +234,10 @@ pub fn leaves_control(bytes: &[u8], t: Table, bits: u8, g: Group) -> bool
     requires { ⌜ Heads (now bytes) t ⌝ }
     ensures { λ r. ⌜ r ≡ every (λ i. not (has (processesOf bits) i) || leb (boundIn (now (bytes .entry)) t 0 i) (at g i)) ⌝ }
 {
-    if is_outside(bytes, t, 0, bits % 2 == 1, g.s0) {} else {
-        return false;
-    }
-    if is_outside(bytes, t, 1, bits / 2 % 2 == 1, g.s1) {} else {
-        return false;
-    }
-    if is_outside(bytes, t, 2, bits / 4 % 2 == 1, g.s2) {} else {
-        return false;
-    }
-    is_outside(bytes, t, 3, bits / 8 % 2 == 1, g.s3)
+    is_outside(bytes, t, 0, bits % 2 == 1, g.s0)
+        & is_outside(bytes, t, 1, bits / 2 % 2 == 1, g.s1)
+        & is_outside(bytes, t, 2, bits / 4 % 2 == 1, g.s2)
+        & is_outside(bytes, t, 3, bits / 8 % 2 == 1, g.s3)
 }
 
 // Check 7, of a transition that passed check 5.
@@ -287,8 +249,5 @@ pub fn is_reentry(bytes: &[u8], t: Table, kind: u8, body: &[u8]) -> bool
         return false;
     }
     let bits = bits_of(bytes, t, wide(body[0]));
-    if leaves_control(bytes, t, bits, group_at(body, 5)) {
-        return false;
-    }
-    true
+    !leaves_control(bytes, t, bits, group_at(body, 5))
 }

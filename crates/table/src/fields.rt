@@ -1,10 +1,10 @@
 // The parts of an accepted table, read from the caller's bytes at computed places.
 ghost use mathlib.Core.Path.{_≡_};
 ghost use mathlib.Core.List.{[], _∷_};
-ghost use Prim.Native.Nat.{_+_, _≤_, _<_};
-ghost use lib.ListN.{length, getD};
-ghost use Rattle.model.specs.Tables.{absent, byteOf};
-ghost use Rattle.table.specs.Places.{bodyAt, offset, bodyOf, counts, processesIn, lettersIn, Heads, Modest};
+ghost use Prim.Native.Nat.{_+_, _*_, _≤_, _<_};
+ghost use lib.ListN.{length, getD, take, drop};
+ghost use Rattle.model.specs.Tables.{writtenPlaces, absent, bodyLength, byteOf, groupOf};
+ghost use Rattle.table.specs.Places.{bodyAt, processesIn, lettersIn, Heads, Modest};
 ghost use Rattle.table.specs.Reading.{Holds, systemIn, ruleIn, transitionIn, acceptingIn, pileIn, statesIn, processAt, BitsOf};
 use crate::Table;
 use model::Group;
@@ -20,53 +20,61 @@ pub const RULE_ITEM: usize = 1 + RULE_BODY;
 // The body of the item at a place.
 pub fn body_at(bytes: &[u8], at: usize, size: usize) -> &[u8]
     requires { ⌜ at + 1 + size ≤ length (now bytes) ⌝ }
-    ensures { λ r. ⌜ now r ≡ bodyAt (now (bytes .entry)) size at ⌝ }
+    ensures { λ r. ⌜ (now r ≡ bodyAt (now (bytes .entry)) size at) × (length (now r) ≡ size) ⌝ }
 {
     let from = at + 1;
     let to = from + size;
     &bytes[from..to]
 }
 
+// The body of item k of a kind: the first one stands at `first`.
+fn item_body(bytes: &[u8], first: usize, size: usize, k: usize) -> &[u8]
+    requires { ⌜ first + k * (1 + size) + 1 + size ≤ length (now bytes) ⌝ }
+    ensures { λ r. ⌜ (now r ≡ bodyAt (now (bytes .entry)) size (first + k * (1 + size))) × (length (now r) ≡ size) ⌝ }
+{
+    body_at(bytes, first + k * (1 + size), size)
+}
+
 // ---- places
 // The places of the first letter, rule, transition, accepting group, of the start and of the pile.
 pub fn letters_at(t: Table) -> usize
     requires { ⌜ t .processes ≤ 4 ⌝ }
-    ensures { λ r. ⌜ r ≡ offset (counts t 1) 2 ⌝ }
+    ensures { λ r. ⌜ r ≡ 3 * t .processes ⌝ }
 {
     3 * t.processes
 }
 
 pub fn rules_at(t: Table) -> usize
     requires { ⌜ Modest t ⌝ }
-    ensures { λ r. ⌜ r ≡ offset (counts t 1) 3 ⌝ }
+    ensures { λ r. ⌜ r ≡ 3 * t .processes + 2 * t .letters ⌝ }
 {
     letters_at(t) + 2 * t.letters
 }
 
 pub fn transitions_at(t: Table) -> usize
     requires { ⌜ Modest t ⌝ }
-    ensures { λ r. ⌜ r ≡ offset (counts t 1) 4 ⌝ }
+    ensures { λ r. ⌜ r ≡ 3 * t .processes + 2 * t .letters + (1 + bodyLength 3) * t .rules ⌝ }
 {
     rules_at(t) + RULE_ITEM * t.rules
 }
 
 pub fn accepting_at(t: Table) -> usize
     requires { ⌜ Modest t ⌝ }
-    ensures { λ r. ⌜ r ≡ offset (counts t 1) 5 ⌝ }
+    ensures { λ r. ⌜ r ≡ 3 * t .processes + 2 * t .letters + (1 + bodyLength 3) * t .rules + 10 * t .transitions ⌝ }
 {
     transitions_at(t) + 10 * t.transitions
 }
 
 pub fn start_at(t: Table) -> usize
     requires { ⌜ Modest t ⌝ }
-    ensures { λ r. ⌜ r ≡ offset (counts t 1) 6 ⌝ }
+    ensures { λ r. ⌜ r ≡ 3 * t .processes + 2 * t .letters + (1 + bodyLength 3) * t .rules + 10 * t .transitions + 5 * t .accepting ⌝ }
 {
     accepting_at(t) + 5 * t.accepting
 }
 
 pub fn pile_at(t: Table) -> usize
     requires { ⌜ Modest t ⌝ }
-    ensures { λ r. ⌜ r ≡ offset (counts t 1) 7 ⌝ }
+    ensures { λ r. ⌜ r ≡ 3 * t .processes + 2 * t .letters + (1 + bodyLength 3) * t .rules + 10 * t .transitions + 5 * t .accepting + 5 ⌝ }
 {
     start_at(t) + 5
 }
@@ -111,9 +119,9 @@ pub fn letter_bits(bytes: &[u8], t: Table, a: usize) -> u8
 // The body of rule k.
 pub fn rule_body(bytes: &[u8], t: Table, k: usize) -> &[u8]
     requires { ⌜ Holds (now bytes) t × (k < t .rules) ⌝ }
-    ensures { λ r. ⌜ now r ≡ bodyOf (now (bytes .entry)) (counts t 1) 3 k ⌝ }
+    ensures { λ r. ⌜ (byteOf (now r) 0 ≡ ruleIn (now (bytes .entry)) k .letter) × (groupOf (now r) 1 ≡ ruleIn (now (bytes .entry)) k .before) × (groupOf (now r) 5 ≡ ruleIn (now (bytes .entry)) k .after) × (byteOf (now r) 9 ≡ length (ruleIn (now (bytes .entry)) k .written)) × (take (byteOf (now r) 9) (drop 10 (now r)) ≡ ruleIn (now (bytes .entry)) k .written) × (byteOf (now r) 9 ≤ writtenPlaces) × (length (now r) ≡ bodyLength 3) ⌝ }
 {
-    body_at(bytes, rules_at(t) + RULE_ITEM * k, RULE_BODY)
+    item_body(bytes, rules_at(t), RULE_BODY, k)
 }
 
 // Its letter, and its groups before and after.
@@ -161,9 +169,9 @@ pub fn written_letter(bytes: &[u8], t: Table, k: usize, j: usize) -> u8
 // The body of transition k.
 pub fn transition_body(bytes: &[u8], t: Table, k: usize) -> &[u8]
     requires { ⌜ Holds (now bytes) t × (k < t .transitions) ⌝ }
-    ensures { λ r. ⌜ now r ≡ bodyOf (now (bytes .entry)) (counts t 1) 4 k ⌝ }
+    ensures { λ r. ⌜ (byteOf (now r) 0 ≡ transitionIn (now (bytes .entry)) k .letter) × (groupOf (now r) 1 ≡ transitionIn (now (bytes .entry)) k .before) × (groupOf (now r) 5 ≡ transitionIn (now (bytes .entry)) k .after) × (length (now r) ≡ 9) ⌝ }
 {
-    body_at(bytes, transitions_at(t) + 10 * k, 9)
+    item_body(bytes, transitions_at(t), 9, k)
 }
 
 // Its letter, and its groups before and after.
@@ -194,7 +202,7 @@ pub fn accepting_group(bytes: &[u8], t: Table, k: usize) -> Group
     requires { ⌜ Holds (now bytes) t × (k < t .accepting) ⌝ }
     ensures { λ r. ⌜ r ≡ acceptingIn (now (bytes .entry)) k ⌝ }
 {
-    group_at(body_at(bytes, accepting_at(t) + 5 * k, 4), 0)
+    group_at(item_body(bytes, accepting_at(t), 4, k), 0)
 }
 
 // The states of the start.
@@ -202,7 +210,7 @@ pub fn start_group(bytes: &[u8], t: Table) -> Group
     requires { ⌜ Holds (now bytes) t ⌝ }
     ensures { λ r. ⌜ r ≡ systemIn (now (bytes .entry)) .start .states ⌝ }
 {
-    group_at(body_at(bytes, start_at(t), 4), 0)
+    group_at(item_body(bytes, start_at(t), 4, 0), 0)
 }
 
 // Letter k of the start's word, top first.
@@ -210,5 +218,6 @@ pub fn pile_letter(bytes: &[u8], t: Table, k: usize) -> u8
     requires { ⌜ Holds (now bytes) t × (k < t .pile) ⌝ }
     ensures { λ r. ⌜ r ≡ pileIn (now (bytes .entry)) k ⌝ }
 {
-    bytes[pile_at(t) + 2 * k + 1]
+    let body = item_body(bytes, pile_at(t), 1, k);
+    body[0]
 }

@@ -1,8 +1,8 @@
 // The checks of one item, in their order, and the cursor behind it.
 ghost use mathlib.Core.Path.{_≡_};
 ghost use mathlib.Core.Bool.{true, cond};
-ghost use Prim.Native.Nat.{_+_, _*_, _≤_, _<_};
-ghost use lib.Dec.{eqb};
+ghost use Prim.Native.Nat.{_+_, _-_, _*_, _≤_, _<_};
+ghost use lib.Dec.{eqb, leb};
 ghost use lib.ListN.{length, take, drop};
 ghost use Rattle.model.specs.Lists.{anyOf};
 ghost use Rattle.model.specs.Tables.{bodyLength, ceiling, isStranger, sameBytes, isTwin, refusal};
@@ -14,7 +14,6 @@ use crate::checks::is_reentry;
 use crate::checks::is_stray;
 use crate::checks::value_fits;
 use crate::fields::RULE_BODY;
-use crate::fields::RULE_ITEM;
 use crate::fields::body_at;
 use numbers::eight_at;
 use numbers::wide;
@@ -72,10 +71,7 @@ pub fn count_of(c: Cursor, kind: u8) -> usize
 pub fn is_stranger(kind: u8) -> bool
     ensures { λ r. ⌜ r ≡ isStranger kind ⌝ }
 {
-    if kind == 0 {
-        return true;
-    }
-    8 < kind
+    (kind == 0) | (8 < kind)
 }
 
 // Check 3: the kind falls, no process before another kind, a second start, or no start before kinds 7 and 8.
@@ -83,22 +79,10 @@ pub fn is_out_of_turn(c: Cursor, kind: u8) -> bool
     ensures { λ r. ⌜ r ≡ outOfTurn c kind ⌝ }
 {
     let t = c.table;
-    if kind < c.last {
-        return true;
-    }
-    if kind <= 1 {
-        return false;
-    }
-    if t.processes == 0 {
-        return true;
-    }
-    if kind < 6 {
-        return false;
-    }
-    if kind == 6 {
-        return 0 < c.starts;
-    }
-    c.starts == 0
+    (kind < c.last)
+        | ((kind == 6) & (0 < c.starts))
+        | ((t.processes == 0) & (1 < kind))
+        | ((6 < kind) & (c.starts == 0))
 }
 
 // ---- check 8
@@ -131,12 +115,12 @@ pub fn same_bytes(bytes: &[u8], a: usize, b: usize, n: usize) -> bool
     same_from(bytes, a, b, n, 8)
 }
 
-// The body of the item at `at` is one of the bodies of `count` items from `first` on.
-pub fn is_seen(bytes: &[u8], size: usize, first: usize, count: usize, at: usize) -> bool
-    requires { ⌜ (first + count * (1 + size) ≤ at) × (at + 1 + size ≤ length (now bytes)) ⌝ }
-    ensures { λ r. ⌜ r ≡ anyOf (sameBytes (bodyAt (now (bytes .entry)) size at)) (bodiesAt (now (bytes .entry)) size first count) ⌝ }
+// The body of the item at `at` is one of the bodies of the `count` items right before it.
+pub fn is_seen(bytes: &[u8], size: usize, count: usize, at: usize) -> bool
+    requires { ⌜ (count * (1 + size) ≤ at) × (at + 1 + size ≤ length (now bytes)) ⌝ }
+    ensures { λ r. ⌜ r ≡ anyOf (sameBytes (bodyAt (now (bytes .entry)) size at)) (bodiesAt (now (bytes .entry)) size (at - count * (1 + size)) count) ⌝ }
 {
-    let mut place = first;
+    let mut place = at - count * (1 + size);
     let mut left = count;
     while 0 < left {
         if same_bytes(bytes, at + 1, place + 1, size) {
@@ -156,13 +140,13 @@ pub fn is_twin(bytes: &[u8], c: Cursor, kind: u8) -> bool
     let at = c.at;
     let t = c.table;
     if kind == 3 {
-        return is_seen(bytes, RULE_BODY, at - RULE_ITEM * t.rules, t.rules, at);
+        return is_seen(bytes, RULE_BODY, t.rules, at);
     }
     if kind == 4 {
-        return is_seen(bytes, 9, at - 10 * t.transitions, t.transitions, at);
+        return is_seen(bytes, 9, t.transitions, at);
     }
     if kind == 5 {
-        return is_seen(bytes, 4, at - 5 * t.accepting, t.accepting, at);
+        return is_seen(bytes, 4, t.accepting, at);
     }
     false
 }
@@ -189,16 +173,19 @@ pub fn check_body(bytes: &[u8], c: Cursor, kind: u8, body: &[u8]) -> u8
     0
 }
 
-// The number of the first of the checks 3, 4 and 1 that fails, or 0.
-pub fn early_refusal(turn: bool, crowd: bool, cut: bool) -> u8
-    ensures { λ r. ⌜ r ≡ cond turn 3 (cond crowd 4 (cond cut 1 0)) ⌝ }
+// The number of the first of the checks 3, 4 and 1 that fails, or 0; `left` is the number of bytes from the item on.
+pub fn early_refusal(c: Cursor, kind: u8, left: usize) -> u8
+    requires { ⌜ kind < 9 ⌝ }
+    ensures { λ r. ⌜ r ≡ cond (outOfTurn c kind) 3 (cond (leb (ceiling kind) (countsAt c kind)) 4 (cond (leb left (bodyLength kind)) 1 0)) ⌝ }
 {
-    if turn {
+    if is_out_of_turn(c, kind) {
         return 3;
     }
+    let crowd = ceiling_of(kind) <= count_of(c, kind);
     if crowd {
         return 4;
     }
+    let cut = left <= body_length(kind);
     if cut {
         return 1;
     }
@@ -214,15 +201,11 @@ pub fn check_item(bytes: &[u8], c: Cursor, kind: u8) -> u8
     if is_stranger(kind) {
         return 2;
     }
-    let size = body_length(kind);
-    let turn = is_out_of_turn(c, kind);
-    let crowd = ceiling_of(kind) <= count_of(c, kind);
-    let cut = bytes.len() - at <= size;
-    let number = early_refusal(turn, crowd, cut);
+    let number = early_refusal(c, kind, bytes.len() - at);
     if number != 0 {
         return number;
     }
-    check_body(bytes, c, kind, body_at(bytes, at, size))
+    check_body(bytes, c, kind, body_at(bytes, at, body_length(kind)))
 }
 
 // 1 where the kinds are equal, else 0.

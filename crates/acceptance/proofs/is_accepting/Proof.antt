@@ -2,13 +2,13 @@
 use mathlib.Core.Path.{refl, _∙_, ap, sym}
 use mathlib.Core.List.{[]}
 use Prim.Native.Nat.{_-_}
+use native.Mathlib.Omega.{arith}
+use borrow.Author.Needs.{needs}
 use Rattle.model.specs.Groups.{sameGroup}
 use Rattle.model.specs.Tables.{groupOf}
 use Rattle.table.specs.Reading.{systemIn}
 use Rattle.table.proofs.Layouts.{accepting-count}
 use Rattle.acceptance.proofs.Sets.{Unfound, unfound-turn, unfound-here, unfound-end}
-use native.Mathlib.Omega.{arith}
-use borrow.Author.Needs.{needs}
 use Rattle.acceptance.proofs.is_accepting.Statement.{statement}
 use Rattle.acceptance.proofs.is_accepting.Tie as tie
 
@@ -19,18 +19,13 @@ abbrev μ-loop : tie.MeasureT-loop
 μ-loop table t g k₀ k = t .accepting - k
 
 returns : tie.Need-returns Inv-loop μ-loop
-returns c =
-    unfound-here (sameGroup (c .before .before .before .before .before .before .before .args .g)) (systemIn (c .before .before .before .before .before .before .before .args .table .now) .accepting) (groupOf [] 0) (c .before .before .before .before .before .loop .k) (omega (arith, accepting-count (c .before .before .before .before .before .before .before .args .table .now) (c .before .before .before .before .before .before .before .args .t) (c .before .before .before .before .before .before .before .pre))) (c .before .before .before .before .before .loop .inv)
-    (ap (sameGroup (c .before .before .before .before .before .before .before .args .g)) (sym (c .before .before .accepting-group .ensures)) ∙ sym (c .before .same .ensures) ∙ c .if2 .taken)
+returns c = unfound-here _ _ _ (c .before .before .before .before .before .loop .k) (omega (arith, accepting-count _ _ (c .before .before .before .before .before .before .before .pre))) (c .before .before .before .before .before .loop .inv) (ap (sameGroup _) (sym (c .before .before .accepting-group .ensures)) ∙ sym (c .before .same .ensures) ∙ c .if2 .taken)
 
 loop-again : tie.Need-loop-again Inv-loop μ-loop
-loop-again c =
-    unfound-turn (sameGroup (c .before .before .before .before .before .before .before .args .g)) (systemIn (c .before .before .before .before .before .before .before .args .table .now) .accepting) (groupOf [] 0) (c .before .before .before .before .before .loop .k) (omega (arith, accepting-count (c .before .before .before .before .before .before .before .args .table .now) (c .before .before .before .before .before .before .before .args .t) (c .before .before .before .before .before .before .before .pre))) (c .before .before .before .before .before .loop .inv)
-    (ap (sameGroup (c .before .before .before .before .before .before .before .args .g)) (sym (c .before .before .accepting-group .ensures)) ∙ sym (c .before .same .ensures) ∙ c .if2 .left)
+loop-again c = unfound-turn _ _ _ (c .before .before .before .before .before .loop .k) (omega (arith, accepting-count _ _ (c .before .before .before .before .before .before .before .pre))) (c .before .before .before .before .before .loop .inv) (ap (sameGroup _) (sym (c .before .before .accepting-group .ensures)) ∙ sym (c .before .same .ensures) ∙ c .if2 .left)
 
 returns-2 : tie.Need-returns-2 Inv-loop μ-loop
-returns-2 c =
-    unfound-end (sameGroup (c .before .before .before .before .args .g)) (systemIn (c .before .before .before .before .args .table .now) .accepting) (groupOf [] 0) (c .before .before .loop .k) (omega (arith, accepting-count (c .before .before .before .before .args .table .now) (c .before .before .before .before .args .t) (c .before .before .before .before .pre), c .if1 .left)) (c .before .before .loop .inv)
+returns-2 c = unfound-end _ _ (groupOf [] 0) (c .before .before .loop .k) (omega (arith, accepting-count _ _ (c .before .before .before .before .pre), c .if1 .left)) (c .before .before .loop .inv)
 
 pub is-accepting-spec : {M : Type 1} → statement M
 is-accepting-spec = tie.close (tie.spec Inv-loop μ-loop (λ c. record { same = refl }) (λ c κs. search needs) (λ c κs. search needs) returns (λ c. omega arith)

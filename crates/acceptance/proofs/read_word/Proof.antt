@@ -1,10 +1,10 @@
 -- The set accepts the rest of the word just where the first set accepts the whole (Regions).
 use Prim.Native.Nat.{_-_}
+use native.Mathlib.Omega.{arith}
+use lib.ListN.{length}
 use Rattle.table.specs.Reading.{systemIn}
 use Rattle.shapes.specs.Shapes.{presentIn}
 use Rattle.acceptance.proofs.Regions.{Ahead, ahead-start, ahead-turn, ahead-end}
-use native.Mathlib.Omega.{arith}
-use lib.ListN.{length}
 use Rattle.acceptance.proofs.read_word.Statement.{statement}
 use Rattle.acceptance.proofs.read_word.Tie as tie
 
@@ -14,20 +14,12 @@ Inv-loop table t word scratch₀ i₀ scratch i = Ahead (systemIn table) (presen
 abbrev μ-loop : tie.MeasureT-loop
 μ-loop table t word scratch₀ i₀ scratch i = length word - i
 
-loop-holds : tie.Need-loop-holds Inv-loop μ-loop
-loop-holds c = let a = c .before .before .before .args in ahead-start (systemIn (a .table .now)) (presentIn (a .t)) (a .word .now) (a .scratch .now)
-
 read-letter-requires : tie.Need-read-letter-requires Inv-loop μ-loop
 read-letter-requires c κs = (c .before .before .before .before .before .before .before .pre .0, omega (arith, c .before .before .before .loop .inv .size, c .before .before .before .before .before .before .before .pre .1))
 
 loop-again : tie.Need-loop-again Inv-loop μ-loop
-loop-again c =
-    let a = c .before .before .before .before .before .before .before .before .before .before .args in
-    ahead-turn (systemIn (a .table .now)) (presentIn (a .t)) (a .word .now) (a .scratch .now) (c .before .before .before .before .before .before .loop .scratch) (c .before .before .read-letter .last .1 .1 .1 .0) (c .before .before .before .before .before .before .loop .i) (c .before .before .before .before .before .loop-test .taken) (c .before .before .read-letter .kept .1 .1 .1 .0) (c .before .before .before .before .before .before .loop .inv) (c .before .before .read-letter .ensures)
-
-returns : tie.Need-returns Inv-loop μ-loop
-returns c = let a = c .before .before .before .before .before .args in ahead-end (systemIn (a .table .now)) (presentIn (a .t)) (a .word .now) (a .scratch .now) (c .before .loop .scratch) (c .before .loop .i) (c .loop-test .left) (c .before .loop .inv)
+loop-again c = ahead-turn _ _ _ _ _ _ _ (c .before .before .before .before .before .loop-test .taken) (c .before .before .read-letter .kept .1 .1 .1 .0) (c .before .before .before .before .before .before .loop .inv) (c .before .before .read-letter .ensures)
 
 pub read-word-spec : {M : Type 1} → statement M
-read-word-spec = tie.close (tie.spec Inv-loop μ-loop loop-holds (λ c. omega arith) read-letter-requires (λ c. omega arith) (λ c. omega arith) loop-again
-    (λ c. c .before .loop .inv .size) returns)
+read-word-spec = tie.close (tie.spec Inv-loop μ-loop (λ c. ahead-start _ _ _ _) (λ c. omega arith) read-letter-requires (λ c. omega arith) (λ c. omega arith)
+    loop-again (λ c. c .before .loop .inv .size) (λ c. ahead-end _ _ _ _ _ _ (c .loop-test .left) (c .before .loop .inv)))

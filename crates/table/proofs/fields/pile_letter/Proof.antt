@@ -1,53 +1,27 @@
--- The item's one byte is the letter, and it lies inside the table (Bodies, Layouts).
-use mathlib.Core.Path.{_≡_, sym, _∙_, ap}
-use Prim.Native.Nat.{ℕ, _+_, _*_}
+-- The letter is the one byte of the item's body, which lies inside the table (Layouts).
+use mathlib.Core.List.{List}
+use mathlib.Core.Path.{sym, _∙_, ap}
+use Prim.Native.Nat.{ℕ}
 use native.Mathlib.Omega.{arith}
-use lib.ListN.{getD}
-use Rattle.table.specs.Places.{placeOf, counts}
-use Rattle.table.proofs.Bodies.{body-byte}
-use Rattle.table.proofs.Layouts.{table-modest, body-inside, pile-in}
+use borrow.Author.Needs.{needs}
+use Rattle.model.specs.Tables.{byteOf}
+use Rattle.table.proofs.Layouts.{places, table-modest, item-inside, item-read, pile-in}
 use Rattle.table.proofs.fields.pile_letter.Statement.{statement}
 use Rattle.table.proofs.fields.pile_letter.Tie as tie
 
-pile-at-requires : tie.Need-pile-at-requires
-pile-at-requires c κs =
-    let b = c .before .args .bytes .now in
-    let t = c .before .args .t in
-    table-modest b t (c .before .pre .0)
-
-mul-result : tie.Need-mul-result
-mul-result c =
-    let b = c .before .before .args .bytes .now in
-    let t = c .before .before .args .t in
-    omega (arith, table-modest b t (c .before .before .pre .0) .pile, c .before .before .pre .1)
-
-add-result : tie.Need-add-result
-add-result c =
-    let b = c .before .before .args .bytes .now in
-    let t = c .before .before .args .t in
-    omega (arith, body-inside b t (c .before .before .pre .0) 7 (c .before .before .args .k) (omega arith) (c .before .before .pre .1), c .pile-at .ensures)
-
-add-result-2 : tie.Need-add-result-2
-add-result-2 c =
-    let b = c .before .before .args .bytes .now in
-    let t = c .before .before .args .t in
-    omega (arith, body-inside b t (c .before .before .pre .0) 7 (c .before .before .args .k) (omega arith) (c .before .before .pre .1), c .pile-at .ensures)
-
-shared-slice-read-result : tie.Need-shared-slice-read-result
-shared-slice-read-result c =
-    let b = c .before .before .before .args .bytes .now in
-    let t = c .before .before .before .args .t in
-    omega (arith, body-inside b t (c .before .before .before .pre .0) 7 (c .before .before .before .args .k) (omega arith) (c .before .before .before .pre .1), c .before .pile-at .ensures)
+item-body-requires : tie.Need-item-body-requires
+item-body-requires c κs =
+    let x = c .before .before .args in
+    item-inside (x .bytes .now) (x .t) (c .before .before .pre .0) 7 (x .k) _ (omega arith) (c .before .before .pre .1) (c .pile-at .ensures ∙ places (x .t) .4)
 
 returns : tie.Need-returns
 returns c =
-    let b = c .before .before .before .args .bytes .now in
-    let t = c .before .before .before .args .t in
-    let o : placeOf (counts t 1) 7 (c .before .before .before .args .k) + 1 + 0 ≡ c .before .pile-at .result + 2 * c .before .before .before .args .k + 1 = omega (arith, c .before .pile-at .ensures) in
-    let e = body-byte b 1 (placeOf (counts t 1) 7 (c .before .before .before .args .k)) 0 (omega arith) ∙ ap (λ (i : ℕ). getD b i 0) o in
-    sym (pile-in b t (c .before .before .before .pre .0) (c .before .before .before .args .k) (c .before .before .before .pre .1) ∙ e)
+    let at-entry = c .before .before .before .before in
+    let x = at-entry .args in
+    let b = x .bytes .now in
+    let e = item-read b (x .t) (at-entry .pre .0) 7 (x .k) _ _ (c .before .before .pile-at .ensures ∙ places (x .t) .4) (c .before .item-body .ensures .0) in
+    ap (λ (l : List ℕ). byteOf l 0) e ∙ sym (pile-in b (x .t) (at-entry .pre .0) (x .k) (at-entry .pre .1))
 
 pub pile-letter-spec : {M : Type 1} → statement M
-pile-letter-spec =
-    tie.close
-    (tie.spec pile-at-requires mul-result add-result add-result-2 shared-slice-read-result returns)
+pile-letter-spec = tie.close (tie.spec (λ c κs. table-modest (c .before .args .bytes .now) (c .before .args .t) (c .before .pre .0)) item-body-requires
+    (λ c. search needs) returns)

@@ -1,44 +1,24 @@
--- The item lies inside the table at its computed place (Layouts).
-use mathlib.Core.Path.{_≡_, _∙_, ap}
-use Prim.Native.Nat.{_+_, _*_}
+-- The rule's item lies inside the table, and its body has the rule's parts (Layouts).
+use mathlib.Core.Path.{refl, sym, _∙_}
 use native.Mathlib.Omega.{arith}
-use Rattle.model.specs.Tables.{bodyLength}
-use Rattle.table.specs.Places.{bodyAt, placeOf, counts}
-use Rattle.table.proofs.Layouts.{table-modest, body-inside}
+use Rattle.table.proofs.Layouts.{places, table-modest, item-inside, item-read, body-size, rule-in, written-most, written-size}
 use Rattle.table.proofs.fields.rule_body.Statement.{statement}
 use Rattle.table.proofs.fields.rule_body.Tie as tie
 
-rules-at-requires : tie.Need-rules-at-requires
-rules-at-requires c κs =
-    let b = c .before .args .bytes .now in
-    let t = c .before .args .t in
-    table-modest b t (c .before .pre .0)
-
-mul-body-at : tie.Need-mul-body-at
-mul-body-at c =
-    let b = c .before .before .args .bytes .now in
-    let t = c .before .before .args .t in
-    omega (arith, table-modest b t (c .before .before .pre .0) .rules, c .before .before .pre .1)
-
-add-body-at : tie.Need-add-body-at
-add-body-at c =
-    let b = c .before .before .args .bytes .now in
-    let t = c .before .before .args .t in
-    omega (arith, body-inside b t (c .before .before .pre .0) 3 (c .before .before .args .k) (omega arith) (c .before .before .pre .1), c .rules-at .ensures)
-
-body-at-requires : tie.Need-body-at-requires
-body-at-requires c κs =
-    let b = c .before .before .args .bytes .now in
-    let t = c .before .before .args .t in
-    omega (arith, body-inside b t (c .before .before .pre .0) 3 (c .before .before .args .k) (omega arith) (c .before .before .pre .1), c .rules-at .ensures)
+item-body-requires : tie.Need-item-body-requires
+item-body-requires c κs =
+    let x = c .before .before .args in
+    item-inside (x .bytes .now) (x .t) (c .before .before .pre .0) 3 (x .k) _ (omega arith) (c .before .before .pre .1) (c .rules-at .ensures ∙ places (x .t) .0)
 
 returns : tie.Need-returns
 returns c =
-    let b = c .before .before .before .args .bytes .now in
-    let t = c .before .before .before .args .t in
-    let o : c .before .rules-at .result + (1 + bodyLength 3) * c .before .before .before .args .k ≡ placeOf (counts t 1) 3 (c .before .before .before .args .k) = omega (arith, c .before .rules-at .ensures) in
-    c .body-at .ensures ∙ ap (bodyAt b (bodyLength 3)) o
+    let at-entry = c .before .before .before in
+    let x = at-entry .args in
+    let b = x .bytes .now in
+    let h = at-entry .pre .0 in
+    let l = at-entry .pre .1 in
+    rw (item-read b (x .t) h 3 (x .k) _ _ (c .before .rules-at .ensures ∙ places (x .t) .0) (c .item-body .ensures .0), rule-in b (x .t) h (x .k) l)
+    (refl, refl, refl, sym (written-size b (x .t) h (x .k) l), refl, written-most b (x .t) h (x .k) l, body-size b (x .t) h 3 (x .k) (omega arith) l)
 
 pub rule-body-spec : {M : Type 1} → statement M
-rule-body-spec =
-    tie.close (tie.spec rules-at-requires mul-body-at add-body-at body-at-requires returns)
+rule-body-spec = tie.close (tie.spec (λ c κs. table-modest (c .before .args .bytes .now) (c .before .args .t) (c .before .pre .0)) item-body-requires returns)

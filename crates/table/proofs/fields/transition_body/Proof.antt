@@ -1,43 +1,24 @@
--- The item lies inside the table at its computed place (Layouts).
-use mathlib.Core.Path.{_≡_, _∙_, ap}
-use Prim.Native.Nat.{_+_, _*_}
+-- The transition's item lies inside the table, and its body has the transition's parts (Layouts).
+use mathlib.Core.Path.{refl, _∙_}
 use native.Mathlib.Omega.{arith}
-use Rattle.table.specs.Places.{bodyAt, placeOf, counts}
-use Rattle.table.proofs.Layouts.{table-modest, body-inside}
+use Rattle.table.proofs.Layouts.{places, table-modest, item-inside, item-read, body-size, transition-in}
 use Rattle.table.proofs.fields.transition_body.Statement.{statement}
 use Rattle.table.proofs.fields.transition_body.Tie as tie
 
-transitions-at-requires : tie.Need-transitions-at-requires
-transitions-at-requires c κs =
-    let b = c .before .args .bytes .now in
-    let t = c .before .args .t in
-    table-modest b t (c .before .pre .0)
-
-mul-body-at : tie.Need-mul-body-at
-mul-body-at c =
-    let b = c .before .before .args .bytes .now in
-    let t = c .before .before .args .t in
-    omega (arith, table-modest b t (c .before .before .pre .0) .transitions, c .before .before .pre .1)
-
-add-body-at : tie.Need-add-body-at
-add-body-at c =
-    let b = c .before .before .args .bytes .now in
-    let t = c .before .before .args .t in
-    omega (arith, body-inside b t (c .before .before .pre .0) 4 (c .before .before .args .k) (omega arith) (c .before .before .pre .1), c .transitions-at .ensures)
-
-body-at-requires : tie.Need-body-at-requires
-body-at-requires c κs =
-    let b = c .before .before .args .bytes .now in
-    let t = c .before .before .args .t in
-    omega (arith, body-inside b t (c .before .before .pre .0) 4 (c .before .before .args .k) (omega arith) (c .before .before .pre .1), c .transitions-at .ensures)
+item-body-requires : tie.Need-item-body-requires
+item-body-requires c κs =
+    let x = c .before .before .args in
+    item-inside (x .bytes .now) (x .t) (c .before .before .pre .0) 4 (x .k) _ (omega arith) (c .before .before .pre .1) (c .transitions-at .ensures ∙ places (x .t) .1)
 
 returns : tie.Need-returns
 returns c =
-    let b = c .before .before .before .args .bytes .now in
-    let t = c .before .before .before .args .t in
-    let o : c .before .transitions-at .result + 10 * c .before .before .before .args .k ≡ placeOf (counts t 1) 4 (c .before .before .before .args .k) = omega (arith, c .before .transitions-at .ensures) in
-    c .body-at .ensures ∙ ap (bodyAt b 9) o
+    let at-entry = c .before .before .before in
+    let x = at-entry .args in
+    let b = x .bytes .now in
+    let h = at-entry .pre .0 in
+    rw (item-read b (x .t) h 4 (x .k) _ _ (c .before .transitions-at .ensures ∙ places (x .t) .1) (c .item-body .ensures .0), transition-in b (x .t) h (x .k) (at-entry .pre .1))
+    (refl, refl, refl, body-size b (x .t) h 4 (x .k) (omega arith) (at-entry .pre .1))
 
 pub transition-body-spec : {M : Type 1} → statement M
-transition-body-spec =
-    tie.close (tie.spec transitions-at-requires mul-body-at add-body-at body-at-requires returns)
+transition-body-spec = tie.close (tie.spec (λ c κs. table-modest (c .before .args .bytes .now) (c .before .args .t) (c .before .pre .0)) item-body-requires
+    returns)

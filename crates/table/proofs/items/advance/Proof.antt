@@ -17,5 +17,6 @@ unfolding advanced
 returns c = rw (c .before .before .before .before .before .before .before .before .before .before .before .before .before .one-if .ensures .0, c .before .before .before .before .before .before .before .before .before .before .before .one-if2 .ensures .0, c .before .before .before .before .before .before .before .before .before .one-if3 .ensures .0, c .before .before .before .before .before .before .before .one-if4 .ensures .0, c .before .before .before .before .before .one-if5 .ensures .0, c .before .before .before .one-if6 .ensures .0, c .before .one-if7 .ensures .0) refl
 
 pub advance-spec : {M : Type 1} → statement M
-advance-spec = tie.close (tie.spec (λ c κs. search needs) (λ c. search needs) (λ c κs. search needs) (λ c. search needs) (λ c κs. search needs) (λ c. search needs)
-    (λ c κs. search needs) (λ c. search needs) (λ c κs. search needs) (λ c. search needs) (λ c κs. search needs) add-t16 (λ c κs. search needs) add-t18 returns)
+advance-spec = tie.close (tie.spec (λ c κs. search needs) (λ c. search needs) (λ c κs. search needs) (λ c. search needs) (λ c κs. search needs)
+    (λ c. search needs) (λ c κs. search needs) (λ c. search needs) (λ c κs. search needs) (λ c. search needs) (λ c κs. search needs) add-t16
+    (λ c κs. search needs) add-t18 returns)

@@ -43,5 +43,5 @@ returns-2 c =
     sym (rw e at (at-loop .loop .inv .1))
 
 pub same-from-spec : {M : Type 1} → statement M
-same-from-spec = tie.close (tie.spec Inv-loop μ-loop (λ c. (c .pre .2, c .pre .3)) (λ c. omega arith) (λ c. omega arith) (λ c. omega arith) (λ c. omega arith) returns
-    (λ c. omega arith) (λ c. omega arith) loop-again returns-2)
+same-from-spec = tie.close (tie.spec Inv-loop μ-loop (λ c. (c .pre .2, c .pre .3)) (λ c. omega arith) (λ c. omega arith) (λ c. omega arith) (λ c. omega arith)
+    returns (λ c. omega arith) (λ c. omega arith) loop-again returns-2)
