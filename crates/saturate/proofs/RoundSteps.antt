@@ -227,9 +227,9 @@ module _ {table : List ℕ} {t : Table} {round : Round} {log₀ s₀ : List ℕ}
   abbrev S : InRound table t round log s
   S = h .standing
 
-  -- no position is left
-  pub heads-end : going ≡ false → RoundAdded table t (round .base) (round .n) (round .number) log₀ s₀ count log s
-  heads-end stops = record {
+  -- no position is left; the round began with a scratch of the same length
+  pub heads-end : {s₁ : List ℕ} → length s₀ ≡ length s₁ → going ≡ false → RoundAdded table t (round .base) (round .n) (round .number) log₀ s₁ count log s
+  heads-end e stops = record {
     within = λ l. subst (λ (rs : List Record). Logged rs count log) (whole l) (h .logged l);
     over = h .over;
     small = h .small;
@@ -237,7 +237,7 @@ module _ {table : List ℕ} {t : Table} {round : Round} {log₀ s₀ : List ℕ}
     ringed = S .ringed;
     prepared = S .prepared;
     log-length = h .log-length;
-    scratch-length = h .scratch-length;
+    scratch-length = h .scratch-length ∙ e;
   }
     where
       whole : count ≤ round .n → logUpTo table (round .number) (h .last) ≡ logAt (systemIn table) (round .number)
@@ -317,17 +317,3 @@ module _ {table : List ℕ} {t : Table} {round : Round} {log₀ s₀ : List ℕ}
 
       pub rules-fewer : t .rules - r .position < t .rules - position
       rules-fewer = omega (arith, d .next .later, below)
-
--- what a round leaves that goes on from other buffers of the same length
-pub added-before : {table : List ℕ} {t : Table} {base n number : ℕ} {log s s′ : List ℕ} {count : ℕ} {log″ s″ : List ℕ} → length s′ ≡ length s
-    → RoundAdded table t base n number log s′ count log″ s″ → RoundAdded table t base n number log s count log″ s″
-added-before e d = record {
-  within = d .within;
-  over = d .over;
-  small = d .small;
-  earlier = d .earlier;
-  ringed = d .ringed;
-  prepared = d .prepared;
-  log-length = d .log-length;
-  scratch-length = d .scratch-length ∙ e;
-}
