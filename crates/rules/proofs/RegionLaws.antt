@@ -103,14 +103,10 @@ pub bit-or : (a b j : ℕ) → eqb (bitOr a b / 2 ^ j % 2) 1 ≡ eqb (a / 2 ^ j 
 bit-or a b j =
     let x = a / 2 ^ j in
     let y = b / 2 ^ j in
-    let e : bitOr a b / 2 ^ j % 2 ≡ bitOr x y % 2 = ap (λ (n : ℕ). n % 2) (or-shr a b j) in
+    let e : bitOr a b / 2 ^ j % 2 ≡ max (x % 2) (y % 2) = ap (λ (n : ℕ). n % 2) (or-shr a b j) ∙ omega (arith, or-step x y) in
     by-digit x
-    (λ p. by-digit y
-    (λ q. let z : bitOr x y % 2 ≡ 0 = omega (arith, or-step x y, ap₂ max p q) in rw (e ∙ z, p, q))
-    (λ q. let z : bitOr x y % 2 ≡ 1 = omega (arith, or-step x y, ap₂ max p q) in rw (e ∙ z, p, q)))
-    (λ p. by-digit y
-    (λ q. let z : bitOr x y % 2 ≡ 1 = omega (arith, or-step x y, ap₂ max p q) in rw (e ∙ z, p))
-    (λ q. let z : bitOr x y % 2 ≡ 1 = omega (arith, or-step x y, ap₂ max p q) in rw (e ∙ z, p)))
+    (λ p. by-digit y (λ q. rw (e, p, q)) (λ q. rw (e, p, q)))
+    (λ p. by-digit y (λ q. rw (e, p, q)) (λ q. rw (e, p, q)))
 
 -- byte j of both sets together
 abbrev pub sumByte : List ℕ → ℕ → ℕ → ℕ → ℕ

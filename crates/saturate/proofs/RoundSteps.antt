@@ -279,8 +279,14 @@ module _ {table : List ℕ} {t : Table} {round : Round} {log₀ s₀ : List ℕ}
         ]))
 
     grown : length (logUpTo table (round .number) (headAt table s position)) ≡ count + length news
-    grown = omega (arith, with-length table (round .number) (filter (upTo (headAt table s position)) (all table (round .number))), ap length head-news,
-        length-append olds news, with-length table (round .number) olds, h .logged fits .size)
+    grown = omega (
+      arith,
+      with-length table (round .number) (filter (upTo (headAt table s position)) (all table (round .number))),
+      ap length head-news,
+      length-append olds news,
+      with-length table (round .number) olds,
+      h .logged fits .size,
+    )
 
     module _ {r : Reached} {log′ s′ : List ℕ} (d : HeadAdded table t round position count log s r log′ s′) where
       -- there is room for the head's records
@@ -296,9 +302,15 @@ module _ {table : List ℕ} {t : Table} {round : Round} {log₀ s₀ : List ℕ}
 
       -- or there is none, and none for the round
       over-next : round .n < r .count → round .n < length (logAt (systemIn table) (round .number))
-      over-next l = omega (arith, d .counted, grown, with-length table (round .number) (filter (upTo (headAt table s position)) (all table (round .number))),
-          filter-short (upTo (headAt table s position)) (all table (round .number)), with-length table (round .number) (all table (round .number)),
-          ap length (log-of-round table (round .number) (S .begun)))
+      over-next l = omega (
+        arith,
+        d .counted,
+        grown,
+        with-length table (round .number) (filter (upTo (headAt table s position)) (all table (round .number))),
+        filter-short (upTo (headAt table s position)) (all table (round .number)),
+        with-length table (round .number) (all table (round .number)),
+        ap length (log-of-round table (round .number) (S .begun)),
+      )
 
       pub heads-turn : HeadsAdded table t round log₀ s₀ (r .position) (r .count) log′ s′
       heads-turn = record {

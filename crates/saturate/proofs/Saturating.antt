@@ -142,12 +142,15 @@ module _ {table : List ℕ} {t : Table} {n : ℕ} {log₀ s₀ log s : List ℕ}
       logged = subst (λ (rs : List Record). Logged rs count log) limit-is (h .added .within low);
       last-round = let last : round ≡ k - 1 = omega arith in last ∙ sym last-is ∙ sym (rounds-limit sys);
       fits = low;
-      linked = subst (λ (i : ℕ). RingRoom log i n ringsAt s × Ringed log i n ringsAt s) (let all : base ≡ count = omega (arith, grown low, not-more) in all) (record {
-        fits = h .begins .fits;
-        short = h .begins .short;
-        records = omega (arith, h .begins .fits, h .begins .room, h .added .log-length);
-        room = omega (arith, h .begins .scratch, h .added .scratch-length);
-      }, h .added .ringed);
+      linked = subst (λ (i : ℕ). RingRoom log i n ringsAt s × Ringed log i n ringsAt s) (let all : base ≡ count = omega (arith, grown low, not-more) in all) (
+        record {
+          fits = h .begins .fits;
+          short = h .begins .short;
+          records = omega (arith, h .begins .fits, h .begins .room, h .added .log-length);
+          room = omega (arith, h .begins .scratch, h .added .scratch-length);
+        },
+        h .added .ringed,
+      );
       log-length = h .log-length ∙ e;
       scratch-length = h .scratch-length ∙ f;
     }
