@@ -30,37 +30,49 @@ pub record Walks (log : List ℕ) (base n letter : ℕ) (g : ℕ) (from r : ℕ)
 pub walks-start : (log : List ℕ) (base n letter : ℕ) (g : ℕ) (r : ℕ) → r < base → recordBucket log n r ≡ bucketOf n letter g → Walks log base n letter g r r
 walks-start log base n letter g r l b = record { low = omega arith; below = l; skips = λ j p q. absurd (omega arith); bucket = b }
 
+-- no record of the bucket: the first is base
+pub none-first : (log : List ℕ) (base n letter : ℕ) (g : ℕ) (h from : ℕ) → from ≤ base → h ≡ bucketOf n letter g → NoneIn (inBucket log n h) from base → base ≡ firstFrom (recordReads log letter g) from (base - from)
+none-first log base n letter g h from l b f = first-is (recordReads log letter g) from (base - from) base (record { low = l; high = omega arith; passes = λ q. absurd (omega arith); fails = none-reads log n letter g h from base b f })
+
+-- the next link of a record of the bucket
+pub walks-next : {log : List ℕ} {base n at : ℕ} {s : List ℕ} {r w : ℕ} (letter : ℕ) (g : ℕ) → Ringed log base n at s → r < base → recordBucket log n r ≡ bucketOf n letter g → w ≡ linkAt s at (n + r) → r < w
+    → Walks log base n letter g (suc r) w
+walks-next {log} {base} {n} {at} {s} {r} {w} letter g rings lr b e l =
+    let k = linkAt s at (n + r) in
+    let a : Ahead (inBucket log n (recordBucket log n r)) base r k = ⊎-elim (λ y. y) (λ y. absurd (omega (arith, y .earlier))) (rings .next r lr) in
+    rw e (record { low = a .later; below = a .below; skips = none-reads log n letter g (recordBucket log n r) (suc r) k b (a .between); bucket = in-true log n (recordBucket log n r) k (a .passes) ∙ b })
+
+pub last-first : {log : List ℕ} {base n at : ℕ} {s : List ℕ} {r w : ℕ} (letter : ℕ) (g : ℕ) → Ringed log base n at s → r < base → recordBucket log n r ≡ bucketOf n letter g → w ≡ linkAt s at (n + r) → w ≤ r
+    → base ≡ firstFrom (recordReads log letter g) (suc r) (base - suc r)
+last-first {log} {base} {n} {at} {s} {r} {w} letter g rings lr b e l =
+    let k = linkAt s at (n + r) in
+    let a : Around (inBucket log n (recordBucket log n r)) base r k = ⊎-elim (λ y. absurd (omega (arith, y .later))) (λ y. y) (rings .next r lr) in
+    none-first log base n letter g (recordBucket log n r) (suc r) lr b (a .behind)
+
+-- records before r, r itself and those behind it
+passed : (test : ℕ → Bool) (from r to : ℕ) → NoneIn test from r → test r ≡ false → NoneIn test (suc r) to → NoneIn test from to
+passed test from r to before f behind j p q = elim (decLt j r) [
+  | yes y ↦ before j p y
+  | no y ↦ elim (ℕ-discrete j r) [ yes z ↦ ap test z ∙ f | no z ↦ behind j (omega arith) q ]
+]
+
 pub walks-turn : {log : List ℕ} {base n at letter : ℕ} {g : ℕ} {s : List ℕ} {from r w : ℕ} → Ringed log base n at s → Walks log base n letter g from r → recordReads log letter g r ≡ false
     → w ≡ linkAt s at (n + r) → r < w → Walks log base n letter g from w
-walks-turn {log} {base} {n} {at} {letter} {g} {s} {from} {r} {w} rings x f e l =
-    let k = linkAt s at (n + r) in
-    let a : Ahead (inBucket log n (recordBucket log n r)) base r k = ⊎-elim (λ y. y) (λ y. absurd (omega (arith, y .earlier))) (rings .next r (x .below)) in
-    let none = none-reads log n letter g (recordBucket log n r) (suc r) k (x .bucket) (a .between) in
-    rw e (record {
-      low = omega (arith, x .low);
-      below = a .below;
-      skips = λ j p q. elim (decLt j r) [
-        | yes y ↦ x .skips j p y
-        | no y ↦ elim (ℕ-discrete j r) [ yes z ↦ ap (recordReads log letter g) z ∙ f | no z ↦ none j (omega arith) q ]
-      ];
-      bucket = in-true log n (recordBucket log n r) k (a .passes) ∙ x .bucket;
-    })
+walks-turn {log} {letter = letter} {g = g} {from = from} {r = r} {w = w} rings x f e l =
+    let y = walks-next letter g rings (x .below) (x .bucket) e l in
+    record { low = omega (arith, x .low); below = y .below; skips = passed (recordReads log letter g) from r w (x .skips) f (y .skips); bucket = y .bucket }
 
 -- a link that is not above its record: there is none
 pub walks-none : {log : List ℕ} {base n at letter : ℕ} {g : ℕ} {s : List ℕ} {from r w : ℕ} → Ringed log base n at s → Walks log base n letter g from r → recordReads log letter g r ≡ false
     → w ≡ linkAt s at (n + r) → w ≤ r → base ≡ firstFrom (recordReads log letter g) from (base - from)
-walks-none {log} {base} {n} {at} {letter} {g} {s} {from} {r} {w} rings x f e l =
-    let k = linkAt s at (n + r) in
-    let a : Around (inBucket log n (recordBucket log n r)) base r k = ⊎-elim (λ y. absurd (omega (arith, y .later))) (λ y. y) (rings .next r (x .below)) in
-    let none = none-reads log n letter g (recordBucket log n r) (suc r) base (x .bucket) (a .behind) in
-    first-is (recordReads log letter g) from (base - from) base (record {
+walks-none {log} {base} {letter = letter} {g = g} {from = from} {r = r} rings x f e l =
+    let test = recordReads log letter g in
+    let y = first-at test (suc r) (base - suc r) base (last-first letter g rings (x .below) (x .bucket) e l) in
+    first-is test from (base - from) base (record {
       low = omega (arith, x .low, x .below);
       high = omega arith;
       passes = λ h. absurd (omega (arith, x .low, x .below));
-      fails = λ j p q. elim (decLt j r) [
-        | yes y ↦ x .skips j p y
-        | no y ↦ elim (ℕ-discrete j r) [ yes z ↦ ap (recordReads log letter g) z ∙ f | no z ↦ none j (omega arith) q ]
-      ];
+      fails = passed test from r base (x .skips) f (y .fails);
     })
 
 pub walks-end : {log : List ℕ} {base n letter : ℕ} {g : ℕ} {from r : ℕ} → Walks log base n letter g from r → recordReads log letter g r ≡ true → r ≡ firstFrom (recordReads log letter g) from (base - from)
@@ -79,10 +91,6 @@ walks-first {log} {base} {n} {letter} {g} {from} {start} {k} x e =
       passes = λ h. f .passes (omega (arith, x .low, x .below));
       fails = λ j p q. elim (decLt j start) [ yes y ↦ x .skips j p y | no y ↦ f .fails j (omega arith) q ];
     })
-
--- no record of the bucket: the first is base
-pub none-first : (log : List ℕ) (base n letter : ℕ) (g : ℕ) (h from : ℕ) → from ≤ base → h ≡ bucketOf n letter g → NoneIn (inBucket log n h) from base → base ≡ firstFrom (recordReads log letter g) from (base - from)
-none-first log base n letter g h from l b f = first-is (recordReads log letter g) from (base - from) base (record { low = l; high = omega arith; passes = λ q. absurd (omega arith); fails = none-reads log n letter g h from base b f })
 
 pub empty-first : {log : List ℕ} {base n at : ℕ} {s : List ℕ} {h t : ℕ} (letter : ℕ) (g : ℕ) (from : ℕ) → from ≤ base → base ≤ n → n ≤ noLink → Ringed log base n at s → h < n → h ≡ bucketOf n letter g → t ≡ linkAt s at h → t ≡ noLink
     → base ≡ firstFrom (recordReads log letter g) from (base - from)
@@ -106,21 +114,6 @@ walks-head {log} {base} {n} {at} {s} {h} {t} {w} letter g rings lh b e ne q = �
         (λ (z : Around (inBucket log n h) base t k). z)
         (subst (λ (j : ℕ). Ahead (inBucket log n j) base t k ⊎ Around (inBucket log n j) base t k) own (rings .next t (x .below))) in
         rw q (record { low = omega arith; below = omega (arith, a .earlier, x .below); skips = none-reads log n letter g h 0 k b (a .before); bucket = in-true log n h k (a .passes) ∙ b })
-
--- the next link of a record of the bucket
-pub walks-next : {log : List ℕ} {base n at : ℕ} {s : List ℕ} {r w : ℕ} (letter : ℕ) (g : ℕ) → Ringed log base n at s → r < base → recordBucket log n r ≡ bucketOf n letter g → w ≡ linkAt s at (n + r) → r < w
-    → Walks log base n letter g (suc r) w
-walks-next {log} {base} {n} {at} {s} {r} {w} letter g rings lr b e l =
-    let k = linkAt s at (n + r) in
-    let a : Ahead (inBucket log n (recordBucket log n r)) base r k = ⊎-elim (λ y. y) (λ y. absurd (omega (arith, y .earlier))) (rings .next r lr) in
-    rw e (record { low = a .later; below = a .below; skips = none-reads log n letter g (recordBucket log n r) (suc r) k b (a .between); bucket = in-true log n (recordBucket log n r) k (a .passes) ∙ b })
-
-pub last-first : {log : List ℕ} {base n at : ℕ} {s : List ℕ} {r w : ℕ} (letter : ℕ) (g : ℕ) → Ringed log base n at s → r < base → recordBucket log n r ≡ bucketOf n letter g → w ≡ linkAt s at (n + r) → w ≤ r
-    → base ≡ firstFrom (recordReads log letter g) (suc r) (base - suc r)
-last-first {log} {base} {n} {at} {s} {r} {w} letter g rings lr b e l =
-    let k = linkAt s at (n + r) in
-    let a : Around (inBucket log n (recordBucket log n r)) base r k = ⊎-elim (λ y. absurd (omega (arith, y .later))) (λ y. y) (rings .next r lr) in
-    none-first log base n letter g (recordBucket log n r) (suc r) lr b (a .behind)
 
 -- the first from lo on that the bucket knows; its tail is below lo
 pub walks-fresh : {log : List ℕ} {lo base n at : ℕ} {s : List ℕ} {h t w : ℕ} (letter : ℕ) (g : ℕ) → Ringed log base n at s → Freshened log lo base n at s → h < n → h ≡ bucketOf n letter g → t ≡ linkAt s at h → (t ≡ noLink → ⊥)
