@@ -15,14 +15,6 @@ Inv-loop table t log₀ scratch₀ lo base n number fresh round at₀ log scratc
 abbrev μ-loop : tie.MeasureT-loop
 μ-loop table t log₀ scratch₀ lo base n number fresh round at₀ log scratch at = t .rules - at .position
 
-loop-holds : tie.Need-loop-holds Inv-loop μ-loop
-loop-holds c =
-    let at-active = c .before .before .before .before in
-    let at-letters = at-active .before .before in
-    let at-append = at-letters .before .before .before .before in
-    let rings = at-append .append .ensures in
-    heads-start (round-stands (at-append .before .before .before .before .before .before .pre) (rings .0) (at-letters .fresh-letters .ensures) (at-active .set-active .ensures) (rings .1) (rings .2)) (c .next-active .ensures)
-
 pub add-round-spec : {M : Type 1} → statement M
 add-round-spec = tie.close (tie.spec Inv-loop μ-loop (λ c κs. search needs) (λ c κs. search needs)
     (λ c κs.
@@ -34,7 +26,13 @@ add-round-spec = tie.close (tie.spec Inv-loop μ-loop (λ c κs. search needs) (
     let at-active = c .before .before .before in
     let at-append = at-active .before .before .before .before .before .before in
     omega (arith, at-append .before .before .before .before .before .before .pre .scratch, at-append .append .ensures .0 .size, at-active .set-active .ensures .kept .size))
-    loop-holds (λ c κs. search needs)
+    (λ c.
+    let at-active = c .before .before .before .before in
+    let at-letters = at-active .before .before in
+    let at-append = at-letters .before .before .before .before in
+    let rings = at-append .append .ensures in
+    heads-start (round-stands (at-append .before .before .before .before .before .before .pre) (rings .0) (at-letters .fresh-letters .ensures) (at-active .set-active .ensures) (rings .1) (rings .2)) (c .next-active .ensures))
+    (λ c κs. search needs)
     (λ c κs.
     let at-test = c .before .before in
     let is = at-test .before .goes-on .ensures in
