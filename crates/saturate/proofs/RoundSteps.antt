@@ -181,6 +181,9 @@ module _ (table : List ℕ) (number : ℕ) where
   log-of-round l = let e : number ≡ suc (number - 1) = omega arith in
       ap (logAt (systemIn table)) e ∙ logAt-suc (systemIn table) (number - 1) ∙ ap (λ (k : ℕ). R ++ map (addedRecord k R) all) (sym e)
 
+  upTo-short : 1 ≤ number → (last : List ℕ) → length (logUpTo last) ≤ length (logAt (systemIn table) number)
+  upTo-short l last = omega (arith, with-length (filter (upTo last) all), filter-short (upTo last) all, with-length all, ap length (log-of-round l))
+
 -- the round has come to a position, or the log has no room for it
 pub record HeadsAdded (table : List ℕ) (t : Table) (round : Round) (log₀ s₀ : List ℕ) (position count : ℕ) (log s : List ℕ) : Type 0 where
   pub last : List ℕ
@@ -279,14 +282,8 @@ module _ {table : List ℕ} {t : Table} {round : Round} {log₀ s₀ : List ℕ}
         ]))
 
     grown : length (logUpTo table (round .number) (headAt table s position)) ≡ count + length news
-    grown = omega (
-      arith,
-      with-length table (round .number) (filter (upTo (headAt table s position)) (all table (round .number))),
-      ap length head-news,
-      length-append olds news,
-      with-length table (round .number) olds,
-      h .logged fits .size,
-    )
+    grown = ap (λ (ds : List Candidate). length (logWith table (round .number) ds)) head-news
+        ∙ omega (arith, with-length table (round .number) (olds ++ news), length-append olds news, with-length table (round .number) olds, h .logged fits .size)
 
     module _ {r : Reached} {log′ s′ : List ℕ} (d : HeadAdded table t round position count log s r log′ s′) where
       -- there is room for the head's records
@@ -302,15 +299,7 @@ module _ {table : List ℕ} {t : Table} {round : Round} {log₀ s₀ : List ℕ}
 
       -- or there is none, and none for the round
       over-next : round .n < r .count → round .n < length (logAt (systemIn table) (round .number))
-      over-next l = omega (
-        arith,
-        d .counted,
-        grown,
-        with-length table (round .number) (filter (upTo (headAt table s position)) (all table (round .number))),
-        filter-short (upTo (headAt table s position)) (all table (round .number)),
-        with-length table (round .number) (all table (round .number)),
-        ap length (log-of-round table (round .number) (S .begun)),
-      )
+      over-next l = omega (arith, d .counted, grown, upTo-short table (round .number) (S .begun) (headAt table s position))
 
       pub heads-turn : HeadsAdded table t round log₀ s₀ (r .position) (r .count) log′ s′
       heads-turn = record {
