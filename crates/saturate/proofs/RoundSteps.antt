@@ -1,5 +1,5 @@
 -- A round, one head after the other.
-use mathlib.Core.Path.{_≡_, refl, ap, ap₂, subst, sym, _∙_}
+use mathlib.Core.Path.{_≡_, refl, ap, subst, sym, _∙_}
 use mathlib.Core.Bool.{Bool, true, false, true≢false, _&&_}
 use mathlib.Core.Logic.{⊎-elim}
 use mathlib.Core.List.{List, List·Memᴰ, [], _∷_, _++_, append-assoc, append-nil, map}
@@ -49,10 +49,7 @@ filter-short f (x ∷ xs) = by-test (f x) (λ y. rw y (omega (arith, filter-shor
 -- the place of an element that passes a test
 any-place : {A : Type 0} (f : A → Bool) (xs : List A) (d : A) → anyOf f xs ≡ true → (i : ℕ) × (i < length xs) × (f (getD xs i d) ≡ true)
 any-place f [] d e = absurd (true≢false (sym e))
-any-place {A} f (x ∷ xs) d e = by-test (f x) (λ y. (0, omega arith, y)) (λ n. further (any-place f xs d (rw n at e)))
-  where
-    further : (i : ℕ) × (i < length xs) × (f (getD xs i d) ≡ true) → (i : ℕ) × (i < length (x ∷ xs)) × (f (getD (x ∷ xs) i d) ≡ true)
-    further p = (suc (p .0), omega (arith, p .1), p .2)
+any-place f (x ∷ xs) d e = by-test (f x) (λ y. (0, omega arith, y)) (λ n. let p = any-place f xs d (rw n at e) in (suc (p .0), omega (arith, p .1), p .2))
 
 -- ---- the rules that a round passes over add nothing
 abbrev Passed : System → ℕ → (Rule → Bool) → Rule → Type 0

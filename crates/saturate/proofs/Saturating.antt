@@ -23,8 +23,7 @@ use Rattle.saturate.specs.declared.Saturated.{Saturated}
 use Rattle.saturate.specs.declared.Saturated.the-variants.{Limit, Full}
 use Rattle.table.specs.declared.Table.{Table}
 use Rattle.scratch.specs.Regions.{ringsAt, transitionCodesAt}
-use Rattle.rings.specs.Rings.{RingRoom, Ringed}
-use Rattle.heads.specs.Rounds.{Prepared}
+use Rattle.rings.specs.Rings.{Ringed}
 use Rattle.saturate.specs.Limits.{SaturatedDone, SaturatedFull, SaturatedLimit}
 use Rattle.saturate.specs.Rounds.{Logged, RoundAdded, RoundBegins, ScratchReady}
 use Rattle.sorting.specs.Sorting.{keyPlace}
@@ -142,14 +141,9 @@ module _ {table : List ℕ} {t : Table} {n : ℕ} {log₀ s₀ log s : List ℕ}
       logged = subst (λ (rs : List Record). Logged rs count log) limit-is (h .added .within low);
       last-round = let last : round ≡ k - 1 = omega arith in last ∙ sym last-is ∙ sym (rounds-limit sys);
       fits = low;
-      linked = subst (λ (i : ℕ). RingRoom log i n ringsAt s × Ringed log i n ringsAt s) (let all : base ≡ count = omega (arith, grown low, not-more) in all) (
-        record {
-          fits = h .begins .fits;
-          short = h .begins .short;
-          records = omega (arith, h .begins .fits, h .begins .room, h .added .log-length);
-          room = omega (arith, h .begins .scratch, h .added .scratch-length);
-        },
-        h .added .ringed,
+      linked = (
+        record { fits = low; short = h .begins .short; records = omega (arith, low, h .begins .room, h .added .log-length); room = omega (arith, h .begins .scratch, h .added .scratch-length) },
+        subst (λ (i : ℕ). Ringed log i n ringsAt s) (let all : base ≡ count = omega (arith, grown low, not-more) in all) (h .added .ringed),
       );
       log-length = h .log-length ∙ e;
       scratch-length = h .scratch-length ∙ f;
