@@ -29,7 +29,7 @@ first-match-spec = tie.close (tie.spec returns (λ c κs. search needs) (λ c κ
     let w = walks-head (a .letter) (a .g) (p .1) (c .before .before .before .bucket .ensures) (c .before .before .link-at .ensures .0) (c .before .if2 .left) (c .link-at2 .ensures .0) in
     (p .0, p .1, w .below, w .bucket))
     (λ c.
-    let a = c .before .before .before .before .before .before .before .before .args in
-    let p = c .before .before .before .before .before .before .before .before .pre in
-    let w = walks-head (a .letter) (a .g) (p .1) (c .before .before .before .before .bucket .ensures) (c .before .before .before .link-at .ensures .0) (c .before .before .if2 .left) (c .before .link-at2 .ensures .0) in
+    let at-link = c .before .before .before in
+    let a = at-link .before .before .before .before .before .args in
+    let w = walks-head (a .letter) (a .g) (at-link .before .before .before .before .before .pre .1) (at-link .before .bucket .ensures) (at-link .link-at .ensures .0) (c .before .before .if2 .left) (c .before .link-at2 .ensures .0) in
     walks-first w (c .follow .ensures) ∙ ap (λ (k : ℕ). firstFrom (recordReads (a .log .now) (a .letter) (a .g)) 0 k) (omega arith)))
