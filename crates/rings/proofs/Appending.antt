@@ -10,7 +10,7 @@ use borrow.Author.Tests.{eq-eqb, ne-eqb, lt-ltb, le-ltb}
 use Rattle.numbers.proofs.NumberBytes.{length-number}
 use Rattle.rings.specs.Rings.{recordBucket, inBucket, noLink, linkPlace, linkAt, RingRoom, NoTail, Greatest, Ringed, Freshened, OutsideSame, withLink, started, lengthened, appended}
 use Rattle.rings.proofs.Links.{link-other, link-same, next-below, outside-join, outside-link, outside-none, own-below}
-use Rattle.rings.proofs.NewRecord.{alone, behind, fresh-begun, fresh-lengthened, fresh-started, lengthened-outside, ring-lengthened, ring-started, started-outside}
+use Rattle.rings.proofs.NewRecord.{alone, behind, fresh-begun, fresh-lengthened, fresh-started, ring-lengthened, ring-started}
 use Rattle.rings.proofs.Keeping.{ringed-kept}
 
 -- the records below r are in the rings, and the first from lo on are known
@@ -39,7 +39,7 @@ module _ (log : List ℕ) (n at lo r : ℕ) (s t : List ℕ) (short : n ≤ noLi
       let a = alone n at t short room h lh r lr in
       record {
         low = omega (arith, w .low);
-        same = outside-join (w .same) (started-outside n at t short room h lh r lr);
+        same = outside-join (w .same) (a .outside);
         ringed = ring-started log n at t (started n at t h r) r h lr lh short refl (w .ringed) (x .none) a;
         fresh = fresh-started log n at t (started n at t h r) r h lr lh short refl (w .ringed) (x .none) a lo (w .low) (w .fresh);
       }
@@ -51,7 +51,7 @@ module _ (log : List ℕ) (n at lo r : ℕ) (s t : List ℕ) (short : n ≤ noLi
       let u = lengthened n at t h tl r in
       record {
         low = omega (arith, w .low);
-        same = outside-join (w .same) (lengthened-outside n at t short room h lh r lr tl (g .below) small);
+        same = outside-join (w .same) (a .outside);
         ringed = ring-lengthened log n at t u r h lr lh short refl (w .ringed) tl g a;
         fresh = fresh-lengthened log n at t u r h lr lh short refl (w .ringed) tl g a lo refl l (w .fresh);
       }
@@ -80,7 +80,7 @@ module _ (log : List ℕ) (n at lo r : ℕ) (s t : List ℕ) (short : n ≤ noLi
       ] in
       record {
         low = omega (arith, w .low);
-        same = outside-join (w .same) (outside-join (outside-link n at t (2 * n + h) r (omega (arith, lh))) (lengthened-outside n at begun short space h lh r lr tl (g .below) small));
+        same = outside-join (w .same) (outside-join (outside-link n at t (2 * n + h) r (omega (arith, lh))) (a .outside));
         ringed = ring-lengthened log n at begun u r h lr lh short refl begun-ringed tl g a;
         fresh = fresh-begun log n at begun u r h lr lh short refl begun-ringed tl g a lo l (w .low) put known;
       }

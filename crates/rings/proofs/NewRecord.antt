@@ -44,6 +44,7 @@ pub record Alone (n at h r : ℕ) (s u : List ℕ) : Type 0 where
   pub own : linkAt u at (n + r) ≡ r
   pub first : linkAt u at (2 * n + h) ≡ r
   pub kept : (k : ℕ) → (k ≡ h → ⊥) → (k ≡ n + r → ⊥) → (k ≡ 2 * n + h → ⊥) → linkAt u at k ≡ linkAt s at k
+  pub outside : OutsideSame n at s u
 
 -- its tail was t
 pub record Behind (n at h t r : ℕ) (s u : List ℕ) : Type 0 where
@@ -51,6 +52,7 @@ pub record Behind (n at h t r : ℕ) (s u : List ℕ) : Type 0 where
   pub own : linkAt u at (n + r) ≡ linkAt s at (n + t)
   pub last : linkAt u at (n + t) ≡ r
   pub kept : (k : ℕ) → (k ≡ h → ⊥) → (k ≡ n + r → ⊥) → (k ≡ n + t → ⊥) → linkAt u at k ≡ linkAt s at k
+  pub outside : OutsideSame n at s u
 
 module _ (n at : ℕ) (s : List ℕ) (short : n ≤ noLink) (room : at + 6 * n ≤ length s) (h : ℕ) (lh : h < n) (r : ℕ) (lr : r < n) where
   pub alone : Alone n at h r s (started n at s h r)
@@ -65,14 +67,8 @@ module _ (n at : ℕ) (s : List ℕ) (short : n ≤ noLink) (room : at + 6 * n �
         own = link-other s2 at h r (n + r) (λ e. omega arith) ∙ link-other s1 at (2 * n + h) r (n + r) (λ e. omega arith) ∙ link-same s at (n + r) r (omega arith) (omega arith);
         first = link-other s2 at h r (2 * n + h) (λ e. omega arith) ∙ link-same s1 at (2 * n + h) r (omega arith) (omega arith);
         kept = λ k a b c. link-other s2 at h r k a ∙ link-other s1 at (2 * n + h) r k c ∙ link-other s at (n + r) r k b;
+        outside = outside-join (outside-link n at s (n + r) r (omega arith)) (outside-join (outside-link n at s1 (2 * n + h) r (omega arith)) (outside-link n at s2 h r (omega arith)));
       }
-
-  pub started-outside : OutsideSame n at s (started n at s h r)
-  unfolding started
-  started-outside =
-      let s1 = withLink s at (n + r) r in
-      let s2 = withLink s1 at (2 * n + h) r in
-      outside-join (outside-link n at s (n + r) r (omega arith)) (outside-join (outside-link n at s1 (2 * n + h) r (omega arith)) (outside-link n at s2 h r (omega arith)))
 
   module _ (t : ℕ) (lt : t < r) (small : linkAt s at (n + t) ≤ noLink) where
     pub behind : Behind n at h t r s (lengthened n at s h t r)
@@ -88,15 +84,8 @@ module _ (n at : ℕ) (s : List ℕ) (short : n ≤ noLink) (room : at + 6 * n �
           own = link-other s2 at h r (n + r) (λ e. omega arith) ∙ link-other s1 at (n + t) r (n + r) (λ e. omega arith) ∙ link-same s at (n + r) x (omega arith) small;
           last = link-other s2 at h r (n + t) (λ e. omega arith) ∙ link-same s1 at (n + t) r (omega arith) (omega arith);
           kept = λ k a b c. link-other s2 at h r k a ∙ link-other s1 at (n + t) r k c ∙ link-other s at (n + r) x k b;
+          outside = outside-join (outside-link n at s (n + r) x (omega arith)) (outside-join (outside-link n at s1 (n + t) r (omega arith)) (outside-link n at s2 h r (omega arith)));
         }
-
-    pub lengthened-outside : OutsideSame n at s (lengthened n at s h t r)
-    unfolding lengthened
-    lengthened-outside =
-        let x = linkAt s at (n + t) in
-        let s1 = withLink s at (n + r) x in
-        let s2 = withLink s1 at (n + t) r in
-        outside-join (outside-link n at s (n + r) x (omega arith)) (outside-join (outside-link n at s1 (n + t) r (omega arith)) (outside-link n at s2 h r (omega arith)))
 
 -- the rings with record r, which falls into bucket h
 module _ (log : List ℕ) (n at : ℕ) (s u : List ℕ) (r h : ℕ) (lr : r < n) (lh : h < n) (short : n ≤ noLink) (own : recordBucket log n r ≡ h) (w : Ringed log r n at s) where
@@ -115,6 +104,17 @@ module _ (log : List ℕ) (n at : ℕ) (s u : List ℕ) (r h : ℕ) (lr : r < n)
   -- a bucket's tail is a record below r, or none
   tail-low : (k : ℕ) → k < n → linkAt s at k < suc r → (linkAt s at k < r) × (inBucket log n k (linkAt s at k) ≡ true)
   tail-low k l q = ⊎-elim (λ a. absurd (omega (arith, a .is))) (λ a. (a .below, a .passes)) (w .tail k l)
+
+  -- only bucket h has another first record from lo on
+  fresh-with : (lo : ℕ) → ((k : ℕ) → k < n → (k ≡ h → ⊥) → (linkAt u at k ≡ linkAt s at k) × (linkAt u at (2 * n + k) ≡ linkAt s at (2 * n + k)))
+      → linkAt u at (2 * n + h) ≡ firstFrom test lo (suc r - lo) → Freshened log lo r n at s → Freshened log lo (suc r) n at u
+  fresh-with lo kept is f k l p q = elim (ℕ-discrete k h) [
+    | yes e ↦ subst (λ (j : ℕ). linkAt u at (2 * n + j) ≡ firstFrom (inBucket log n j) lo (suc r - lo)) (sym e) is
+    | no ne ↦
+        let same = kept k l ne in
+        let b = tail-low k l (omega (arith, same .0)) in
+        same .1 ∙ f k l (omega (arith, same .0)) (b .0) ∙ first-more (inBucket log n k) lo r (linkAt s at k) (omega (arith, same .0)) (b .0) (b .1)
+  ]
 
   -- ---- the bucket was empty
   module _ (none : NoneIn test 0 r) (a : Alone n at h r s u) where
@@ -138,13 +138,9 @@ module _ (log : List ℕ) (n at : ℕ) (s u : List ℕ) (r h : ℕ) (lr : r < n)
         own-next = rw (own, a .own) (record { earlier = omega arith; passes = own-passes; behind = λ j p q. absurd (omega arith); before = none })
 
     pub fresh-started : (lo : ℕ) → lo ≤ r → Freshened log lo r n at s → Freshened log lo (suc r) n at u
-    fresh-started lo low f k l p q = elim (ℕ-discrete k h) [
-      | yes e ↦ subst (λ (j : ℕ). linkAt u at (2 * n + j) ≡ firstFrom (inBucket log n j) lo (suc r - lo)) (sym e) (a .first ∙ first-new test lo r low own-passes (λ j x y. none j (omega arith) y))
-      | no ne ↦
-          let same : linkAt u at k ≡ linkAt s at k = a .kept k ne (λ e. omega arith) (λ e. omega arith) in
-          let t = tail-low k l (omega arith) in
-          a .kept (2 * n + k) (λ e. omega arith) (λ e. omega arith) (λ e. ne (omega arith)) ∙ f k l (omega arith) (t .0) ∙ first-more (inBucket log n k) lo r (linkAt s at k) (omega arith) (t .0) (t .1)
-    ]
+    fresh-started lo low = fresh-with lo
+        (λ k l ne. (a .kept k ne (λ e. omega arith) (λ e. omega arith), a .kept (2 * n + k) (λ e. omega arith) (λ e. omega arith) (λ e. ne (omega arith))))
+        (a .first ∙ first-new test lo r low own-passes (λ j x y. none j (omega arith) y))
 
   -- ---- the bucket's tail was t
   module _ (t : ℕ) (g : Greatest test r t) (a : Behind n at h t r s u) where
@@ -187,24 +183,16 @@ module _ (log : List ℕ) (n at : ℕ) (s u : List ℕ) (r h : ℕ) (lr : r < n)
           | no x ↦ true≢false (sym (subst (λ (k : ℕ). inBucket log n k q ≡ true) e (in-own log n q)) ∙ g .behind q (omega arith) l)
         ]
 
-    fresh-other : (lo : ℕ) → Freshened log lo r n at s → (k : ℕ) → k < n → (k ≡ h → ⊥) → lo ≤ linkAt u at k → linkAt u at k < suc r → linkAt u at (2 * n + k) ≡ firstFrom (inBucket log n k) lo (suc r - lo)
-    fresh-other lo f k l ne p q =
-        let same : linkAt u at k ≡ linkAt s at k = a .kept k ne (λ e. omega arith) (λ e. omega (arith, g .below)) in
-        let b = tail-low k l (omega arith) in
-        a .kept (2 * n + k) (λ e. omega arith) (λ e. omega arith) (λ e. omega (arith, g .below)) ∙ f k l (omega arith) (b .0) ∙ first-more (inBucket log n k) lo r (linkAt s at k) (omega arith) (b .0) (b .1)
+    fresh-tail : (lo : ℕ) → linkAt s at (2 * n + h) ≡ firstFrom test lo (suc r - lo) → Freshened log lo r n at s → Freshened log lo (suc r) n at u
+    fresh-tail lo is = fresh-with lo (λ k l ne. (a .kept k ne (λ e. omega arith) (λ e. omega (arith, g .below)), first-kept k l)) (first-kept h lh ∙ is)
+      where
+        first-kept : (k : ℕ) → k < n → linkAt u at (2 * n + k) ≡ linkAt s at (2 * n + k)
+        first-kept k l = a .kept (2 * n + k) (λ e. omega arith) (λ e. omega arith) (λ e. omega (arith, g .below))
 
     -- the tail is one from lo on
     pub fresh-lengthened : (lo : ℕ) → linkAt s at h ≡ t → lo ≤ t → Freshened log lo r n at s → Freshened log lo (suc r) n at u
-    fresh-lengthened lo is low f k l p q = elim (ℕ-discrete k h) [
-      | yes e ↦ subst (λ (j : ℕ). linkAt u at (2 * n + j) ≡ firstFrom (inBucket log n j) lo (suc r - lo)) (sym e)
-          (a .kept (2 * n + h) (λ e. omega arith) (λ e. omega arith) (λ e. omega (arith, g .below)) ∙ f h lh (omega arith) (omega (arith, g .below)) ∙ first-more test lo r t low (g .below) (g .passes))
-      | no ne ↦ fresh-other lo f k l ne p q
-    ]
+    fresh-lengthened lo is low f = fresh-tail lo (f h lh (omega arith) (omega (arith, g .below)) ∙ first-more test lo r t low (g .below) (g .passes)) f
 
     -- the tail is below lo: record r is the first, which was put down before
     pub fresh-begun : (lo : ℕ) → t < lo → lo ≤ r → linkAt s at (2 * n + h) ≡ r → Freshened log lo r n at s → Freshened log lo (suc r) n at u
-    fresh-begun lo low fits put f k l p q = elim (ℕ-discrete k h) [
-      | yes e ↦ subst (λ (j : ℕ). linkAt u at (2 * n + j) ≡ firstFrom (inBucket log n j) lo (suc r - lo)) (sym e)
-          (a .kept (2 * n + h) (λ e. omega arith) (λ e. omega arith) (λ e. omega (arith, g .below)) ∙ put ∙ first-new test lo r fits own-passes (λ j x y. g .behind j (omega arith) y))
-      | no ne ↦ fresh-other lo f k l ne p q
-    ]
+    fresh-begun lo low fits put = fresh-tail lo (put ∙ first-new test lo r fits own-passes (λ j x y. g .behind j (omega arith) y))

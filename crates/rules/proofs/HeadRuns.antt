@@ -17,7 +17,7 @@ use Rattle.table.specs.declared.Table.{Table}
 use Rattle.table.specs.Reading.{Holds, ruleIn, systemIn}
 use Rattle.table.proofs.Layouts.{rules-count}
 use Rattle.rules.specs.Rules.{Ordered, orderedRule}
-use Rattle.rules.proofs.RuleOrder.{headAt, numbers-rise, same-between}
+use Rattle.rules.proofs.RuleOrder.{headAt, numbers-rise}
 
 -- ---- rules by their numbers
 module _ (loc : ℕ → Processes) (log : List Record) (ok : Rule → Bool) (rs : List Rule) (d : Rule) where

@@ -4,38 +4,38 @@ use mathlib.Core.Bool.{false, _||_}
 use mathlib.Core.Logic.{_⊎_, inl, inr, ⊎-elim}
 use mathlib.Core.List.{List}
 use Prim.Native.Nat.{ℕ, _+_, _/_, _%_, _^_, _<_, _≤_, max}
-use native.Mathlib.Decide.{decLt}
+use native.Mathlib.Decide.{ℕ-discrete, decLt}
 use native.Mathlib.Omega.{arith}
 use lib.Bits.{bitOr, or-shr, or-step}
-use lib.Dec.{eqb}
+use lib.Dec.{eqb, ltb}
 use lib.ListN.{drop, getD, length, length-drop, length-set, set}
 use lib.Seq.{drop-set-add, getD-drop, getD-set-other, getD-set-same}
-use borrow.Author.Tests.{eqb-false, eqb-true}
+use borrow.Author.Tests.{eq-eqb, eqb-false, eqb-true, le-ltb, lt-ltb, ne-eqb}
 use Rattle.model.proofs.Tests.{by-test}
 use Rattle.automaton.specs.StateSets.{Cleared, inserted, member}
 use Rattle.automaton.proofs.StateSets.{member-byte, member-inserted}
 use Rattle.rules.specs.Regions.{BytesWritten, KeptOutside, SetAdded, inSet, positionCeiling, positionBytes, withPosition}
 
 -- ---- regions
-pub kept-none : (at n : ℕ) (s : List ℕ) → KeptOutside at n s s
-kept-none at n s = record { size = refl; outside = λ i d. refl }
+pub kept-none : {at n : ℕ} {s : List ℕ} → KeptOutside at n s s
+kept-none = record { size = refl; outside = λ i d. refl }
 
-pub kept-trans : (at n : ℕ) (s t u : List ℕ) → KeptOutside at n s t → KeptOutside at n t u → KeptOutside at n s u
-kept-trans at n s t u k l = record { size = l .size ∙ k .size; outside = λ i d. l .outside i d ∙ k .outside i d }
+pub kept-trans : {at n : ℕ} {s t u : List ℕ} → KeptOutside at n s t → KeptOutside at n t u → KeptOutside at n s u
+kept-trans k l = record { size = l .size ∙ k .size; outside = λ i d. l .outside i d ∙ k .outside i d }
 
-pub kept-wider : (at n to m : ℕ) (s t : List ℕ) → to ≤ at → at + n ≤ to + m → KeptOutside at n s t → KeptOutside to m s t
-kept-wider at n to m s t a b k = record { size = k .size; outside = λ i d. k .outside i (⊎-elim (λ h. inl (omega arith)) (λ h. inr (omega arith)) d) }
+pub kept-wider : {at n to m : ℕ} {s t : List ℕ} → to ≤ at → at + n ≤ to + m → KeptOutside at n s t → KeptOutside to m s t
+kept-wider a b k = record { size = k .size; outside = λ i d. k .outside i (⊎-elim (λ h. inl (omega arith)) (λ h. inr (omega arith)) d) }
 
 kept-set : (at n i v : ℕ) (s : List ℕ) → at ≤ i → i < at + n → KeptOutside at n s (set s i v)
 kept-set at n i v s a b = record { size = length-set s i v; outside = λ j d. getD-set-other s i j v 0 (λ e. ⊎-elim (λ h. omega arith) (λ h. omega arith) d) }
 
 -- ---- bytes one after the other
-pub bytes-none : (at : ℕ) (byte : ℕ → ℕ) (s : List ℕ) → BytesWritten at byte 0 s s
-bytes-none at byte s = record { kept = kept-none at 0 s; bytes = λ j l. absurd (omega arith) }
+pub bytes-none : {at : ℕ} {byte : ℕ → ℕ} {s : List ℕ} → BytesWritten at byte 0 s s
+bytes-none = record { kept = kept-none; bytes = λ j l. absurd (omega arith) }
 
-pub bytes-more : (at : ℕ) (byte : ℕ → ℕ) (n : ℕ) (s t : List ℕ) → BytesWritten at byte n s t → at + n < length t → (v : ℕ) → v ≡ byte n → BytesWritten at byte (n + 1) s (set t (at + n) v)
-bytes-more at byte n s t w room v is = record {
-  kept = kept-trans at (n + 1) s t (set t (at + n) v) (kept-wider at n at (n + 1) s t (omega arith) (omega arith) (w .kept)) (kept-set at (n + 1) (at + n) v t (omega arith) (omega arith));
+pub bytes-more : {at : ℕ} {byte : ℕ → ℕ} {n : ℕ} {s t : List ℕ} → BytesWritten at byte n s t → at + n < length t → {v : ℕ} → v ≡ byte n → BytesWritten at byte (n + 1) s (set t (at + n) v)
+bytes-more {at} {byte} {n} {s} {t} w room {v} is = record {
+  kept = kept-trans (kept-wider (omega arith) (omega arith) (w .kept)) (kept-set at (n + 1) (at + n) v t (omega arith) (omega arith));
   bytes = λ j l. elim (decLt j n) [
     | yes h ↦ getD-set-other t (at + n) (at + j) v 0 (λ e. omega arith) ∙ w .bytes j h
     | no h ↦
@@ -45,23 +45,20 @@ bytes-more at byte n s t w room v is = record {
 }
 
 -- bytes that are cleared are written with zeros
-pub bytes-cleared : (at n : ℕ) (s t : List ℕ) → Cleared at (at + n) s t → BytesWritten at (λ _. 0) n s t
-bytes-cleared at n s t w = record {
+pub bytes-cleared : {at n : ℕ} {s t : List ℕ} → Cleared at (at + n) s t → BytesWritten at (λ _. 0) n s t
+bytes-cleared {at} w = record {
   kept = record { size = w .size; outside = λ i d. ⊎-elim (λ h. w .before i h) (λ h. w .behind i h) d };
   bytes = λ j l. w .zero (at + j) (omega arith) (omega arith);
 }
 
 -- the last one
-pub bytes-all : (at : ℕ) (byte : ℕ → ℕ) (i n : ℕ) (s t : List ℕ) → i ≤ n → n ≤ i → BytesWritten at byte i s t → BytesWritten at byte n s t
-bytes-all at byte i n s t a b w = let e : i ≡ n = omega arith in subst (λ (m : ℕ). BytesWritten at byte m s t) e w
+pub bytes-all : {at : ℕ} {byte : ℕ → ℕ} {i n : ℕ} {s t : List ℕ} → i ≤ n → n ≤ i → BytesWritten at byte i s t → BytesWritten at byte n s t
+bytes-all {at} {byte} {i} {n} {s} {t} a b w = let e : i ≡ n = omega arith in subst (λ (m : ℕ). BytesWritten at byte m s t) e w
 
 -- ---- sets
-in-byte : (s : List ℕ) (at p : ℕ) → inSet s at p ≡ eqb (getD s (at + p / 8) 0 / 2 ^ (p % 8) % 2) 1
+pub in-byte : (s : List ℕ) (at p : ℕ) → inSet s at p ≡ eqb (getD s (at + p / 8) 0 / 2 ^ (p % 8) % 2) 1
 unfolding inSet member
 in-byte s at p = ap (λ (x : ℕ). eqb (x / 2 ^ (p % 8) % 2) 1) (getD-drop at s (p / 8) 0)
-
-pub contains-is : (s : List ℕ) (at p : ℕ) → eqb (getD s (at + p / 8) 0 / 2 ^ (p % 8) % 2) 1 ≡ inSet s at p
-contains-is s at p = sym (in-byte s at p)
 
 -- a set whose bytes are the same has the same positions
 pub in-same : (s t : List ℕ) (at p : ℕ) → getD t (at + p / 8) 0 ≡ getD s (at + p / 8) 0 → inSet t at p ≡ inSet s at p
@@ -77,6 +74,15 @@ unfolding inSet
 in-cleared s at p e = member-byte (drop at s) p (getD-drop at s (p / 8) 0 ∙ e)
 
 -- ---- a position more
+pub below-more : (p q : ℕ) → (eqb q p || ltb q p) ≡ ltb q (p + 1)
+below-more p q = elim (ℕ-discrete q p) [
+  | yes e ↦ rw (eq-eqb q p e) (sym (lt-ltb q (p + 1) (omega arith)))
+  | no ne ↦ elim (decLt q p) [
+    | yes h ↦ rw (ne-eqb q p ne, lt-ltb q p h) (sym (lt-ltb q (p + 1) (omega arith)))
+    | no h ↦ rw (ne-eqb q p ne, le-ltb q p (omega arith)) (sym (le-ltb q (p + 1) (omega arith)))
+  ]
+]
+
 pub kept-put : (s : List ℕ) (at p : ℕ) → p < positionCeiling → KeptOutside at positionBytes s (withPosition s at p)
 unfolding withPosition
 kept-put s at p l = kept-set at positionBytes (at + p / 8) (bitOr (getD s (at + p / 8) 0) (2 ^ (p % 8))) s (omega arith) (omega arith)
@@ -97,14 +103,10 @@ pub bit-or : (a b j : ℕ) → eqb (bitOr a b / 2 ^ j % 2) 1 ≡ eqb (a / 2 ^ j 
 bit-or a b j =
     let x = a / 2 ^ j in
     let y = b / 2 ^ j in
-    let e : bitOr a b / 2 ^ j % 2 ≡ bitOr x y % 2 = ap (λ (n : ℕ). n % 2) (or-shr a b j) in
+    let e : bitOr a b / 2 ^ j % 2 ≡ max (x % 2) (y % 2) = ap (λ (n : ℕ). n % 2) (or-shr a b j) ∙ omega (arith, or-step x y) in
     by-digit x
-    (λ p. by-digit y
-    (λ q. let z : bitOr x y % 2 ≡ 0 = omega (arith, or-step x y, ap₂ max p q) in rw (e ∙ z, p, q))
-    (λ q. let z : bitOr x y % 2 ≡ 1 = omega (arith, or-step x y, ap₂ max p q) in rw (e ∙ z, p, q)))
-    (λ p. by-digit y
-    (λ q. let z : bitOr x y % 2 ≡ 1 = omega (arith, or-step x y, ap₂ max p q) in rw (e ∙ z, p))
-    (λ q. let z : bitOr x y % 2 ≡ 1 = omega (arith, or-step x y, ap₂ max p q) in rw (e ∙ z, p)))
+    (λ p. by-digit y (λ q. rw (e, p, q)) (λ q. rw (e, p, q)))
+    (λ p. by-digit y (λ q. rw (e, p, q)) (λ q. rw (e, p, q)))
 
 -- byte j of both sets together
 abbrev pub sumByte : List ℕ → ℕ → ℕ → ℕ → ℕ
@@ -114,8 +116,8 @@ sumByte s from to j = bitOr (getD s (to + j) 0) (getD s (from + j) 0)
 pub sum-kept : (from to i : ℕ) (s t : List ℕ) → to + positionBytes ≤ from → BytesWritten to (sumByte s from to) i s t → i < positionBytes → sumByte t from to i ≡ sumByte s from to i
 sum-kept from to i s t apart w l = ap₂ bitOr (w .kept .outside (to + i) (inr (omega arith))) (w .kept .outside (from + i) (inr (omega arith)))
 
-pub set-added : (from to : ℕ) (s t : List ℕ) → BytesWritten to (sumByte s from to) positionBytes s t → SetAdded from to s t
-set-added from to s t w = record {
+pub set-added : {from to : ℕ} {s t : List ℕ} → BytesWritten to (sumByte s from to) positionBytes s t → SetAdded from to s t
+set-added {from} {to} {s} {t} w = record {
   kept = w .kept;
   positions = λ p l. in-byte t to p ∙ ap (λ (x : ℕ). eqb (x / 2 ^ (p % 8) % 2) 1) (w .bytes (p / 8) (omega arith))
       ∙ bit-or (getD s (to + p / 8) 0) (getD s (from + p / 8) 0) (p % 8) ∙ ap₂ _||_ (sym (in-byte s to p)) (sym (in-byte s from p));

@@ -1,5 +1,5 @@
 -- A round, one head after the other.
-use mathlib.Core.Path.{_≡_, refl, ap, ap₂, subst, sym, _∙_}
+use mathlib.Core.Path.{_≡_, refl, ap, subst, sym, _∙_}
 use mathlib.Core.Bool.{Bool, true, false, true≢false, _&&_}
 use mathlib.Core.Logic.{⊎-elim}
 use mathlib.Core.List.{List, List·Memᴰ, [], _∷_, _++_, append-assoc, append-nil, map}
@@ -49,10 +49,7 @@ filter-short f (x ∷ xs) = by-test (f x) (λ y. rw y (omega (arith, filter-shor
 -- the place of an element that passes a test
 any-place : {A : Type 0} (f : A → Bool) (xs : List A) (d : A) → anyOf f xs ≡ true → (i : ℕ) × (i < length xs) × (f (getD xs i d) ≡ true)
 any-place f [] d e = absurd (true≢false (sym e))
-any-place {A} f (x ∷ xs) d e = by-test (f x) (λ y. (0, omega arith, y)) (λ n. further (any-place f xs d (rw n at e)))
-  where
-    further : (i : ℕ) × (i < length xs) × (f (getD xs i d) ≡ true) → (i : ℕ) × (i < length (x ∷ xs)) × (f (getD (x ∷ xs) i d) ≡ true)
-    further p = (suc (p .0), omega (arith, p .1), p .2)
+any-place f (x ∷ xs) d e = by-test (f x) (λ y. (0, omega arith, y)) (λ n. let p = any-place f xs d (rw n at e) in (suc (p .0), omega (arith, p .1), p .2))
 
 -- ---- the rules that a round passes over add nothing
 abbrev Passed : System → ℕ → (Rule → Bool) → Rule → Type 0
@@ -76,16 +73,14 @@ module _ {table : List ℕ} {t : Table} {round : Round} {log s : List ℕ} (stan
     letter-fresh a f =
         let x = any-place (λ (r : Record). eqb (r .round) (suc m) && eqb (r .key .letter) a) (logAt sys (suc m)) noRecord f in
         let y = recordAt (logAt sys (suc m)) (x .0) in
-        let last = and-left (eqb (y .round) (suc m)) (eqb (y .key .letter) a) (x .2) in
-        let reads = and-right (eqb (y .round) (suc m)) (eqb (y .key .letter) a) (x .2) in
         let same : logAt sys (suc m) ≡ earlierLog table (round .number) = ap (logAt sys) (sym is) in
-        let young : length (logAt sys m) ≤ x .0 = leb-true (length (logAt sys m)) (x .0) (last-round sys m (x .0) (x .1) ∙ last) in
+        let young : length (logAt sys m) ≤ x .0 = leb-true (length (logAt sys m)) (x .0) (last-round sys m (x .0) (x .1) ∙ and-left (eqb (y .round) (suc m)) (eqb (y .key .letter) a) (x .2)) in
         let two : round .number - 2 ≡ m = omega arith in
         let lo-is : round .lo ≡ length (logAt sys m) = stands .last (omega arith) ∙ ap (λ (k : ℕ). length (logAt sys k)) two in
         let inside : x .0 < round .base = omega (arith, x .1, stands .size, ap length same) in
         let logged : Logged (earlierLog table (round .number)) (round .base) log = record { size = stands .size; bytes = stands .bytes } in
         let letter : letterAt log (x .0) ≡ a = letter-is table t (stands .holds) (round .base) (round .number) log logged (x .0) inside
-        ∙ ap (λ (l : List Record). recordAt l (x .0) .key .letter) (sym same) ∙ eqb-true (y .key .letter) a reads in
+        ∙ ap (λ (l : List Record). recordAt l (x .0) .key .letter) (sym same) ∙ eqb-true (y .key .letter) a (and-right (eqb (y .round) (suc m)) (eqb (y .key .letter) a) (x .2)) in
         subst (λ (b : ℕ). hasLetter (round .fresh) b ≡ true) letter (stands .fresh (x .0) (omega arith) inside)
 
     idle-stale : (r : Rule) → isActive round r ≡ false → anyOf (freshIn (logAt sys (suc m)) (suc m)) (r .written) ≡ false
@@ -158,10 +153,33 @@ passed-next table t s o p q l h = record {
     head m = headAt table s m
 
 -- ---- the log of the round
--- the log of the rounds before, and what the round adds for the heads up to the last one
-abbrev pub logUpTo : List ℕ → ℕ → List ℕ → List Record
-logUpTo table number last =
-    earlierLog table number ++ map (addedRecord number (earlierLog table number)) (filter (upTo last) (additions (systemIn table) (earlierLog table number)))
+module _ (table : List ℕ) (number : ℕ) where
+  abbrev R : List Record
+  R = earlierLog table number
+
+  abbrev all : List Candidate
+  all = additions (systemIn table) R
+
+  abbrev toRecord : Candidate → Record
+  toRecord = addedRecord number R
+
+  -- the log of the rounds before, and some of what the round adds
+  abbrev logWith : List Candidate → List Record
+  logWith cs = R ++ map toRecord cs
+
+  -- what it adds for the heads up to the last one
+  abbrev pub logUpTo : List ℕ → List Record
+  logUpTo last = logWith (filter (upTo last) all)
+
+  with-length : (cs : List Candidate) → length (logWith cs) ≡ length R + length cs
+  with-length cs = length-append R (map toRecord cs) ∙ ap (λ (n : ℕ). length R + n) (length-map cs toRecord)
+
+  log-of-round : 1 ≤ number → logAt (systemIn table) number ≡ logWith all
+  log-of-round l = let e : number ≡ suc (number - 1) = omega arith in
+      ap (logAt (systemIn table)) e ∙ logAt-suc (systemIn table) (number - 1) ∙ ap (λ (k : ℕ). R ++ map (addedRecord k R) all) (sym e)
+
+  upTo-short : 1 ≤ number → (last : List ℕ) → length (logUpTo last) ≤ length (logAt (systemIn table) number)
+  upTo-short l last = omega (arith, with-length (filter (upTo last) all), filter-short (upTo last) all, with-length all, ap length (log-of-round l))
 
 -- the round has come to a position, or the log has no room for it
 pub record HeadsAdded (table : List ℕ) (t : Table) (round : Round) (log₀ s₀ : List ℕ) (position count : ℕ) (log s : List ℕ) : Type 0 where
@@ -177,12 +195,6 @@ pub record HeadsAdded (table : List ℕ) (t : Table) (round : Round) (log₀ s�
   pub scratch-length : length s ≡ length s₀
 
 module _ {table : List ℕ} {t : Table} {round : Round} {log s : List ℕ} (stands : InRound table t round log s) where
-  abbrev R : List Record
-  R = earlierLog table (round .number)
-
-  abbrev all : List Candidate
-  all = additions (systemIn table) R
-
   -- a rule that the round looks at stands at an active position
   rules-at : (P : Rule → Type 0) → ((p : ℕ) → p < t .rules → inSet s activeAt p ≡ true → P (ruleIn table (orderedRule s p)))
       → Each (λ (r : Rule). isActive round r ≡ true → P r) (systemIn table .rules)
@@ -193,19 +205,15 @@ module _ {table : List ℕ} {t : Table} {round : Round} {log s : List ℕ} (stan
       λ y. subst P rule (f (x .0) (x .1) (stands .active (x .0) (omega (arith, x .1, table-modest table t (stands .holds) .rules))
       ∙ and-both (ltb (x .0) (t .rules)) (isActive round (ruleIn table (orderedRule s (x .0)))) (lt-ltb (x .0) (t .rules) (x .1)) (ap (isActive round) rule ∙ y))))
 
-  log-of-round : logAt (systemIn table) (round .number) ≡ R ++ map (addedRecord (round .number) R) all
-  log-of-round = let e : round .number ≡ suc (round .number - 1) = omega (arith, stands .begun) in
-      ap (logAt (systemIn table)) e ∙ logAt-suc (systemIn table) (round .number - 1) ∙ ap (λ (k : ℕ). R ++ map (addedRecord k R) all) (sym e)
-
   pub heads-start : {position : ℕ} → position ≡ firstFrom (inSet s activeAt) 0 (positionCeiling - 0) → HeadsAdded table t round log s position (round .base) log s
   heads-start {position} e =
-      let none : logUpTo table (round .number) [] ≡ R =
-      ap (λ (cs : List Candidate). R ++ map (addedRecord (round .number) R) cs) (no-head (systemIn table) R (isActive round) (passed-over stands)) ∙ append-nil R in
+      let log-is = R table (round .number) in
+      let none = ap (logWith table (round .number)) (no-head (systemIn table) log-is (isActive round) (passed-over stands)) ∙ append-nil log-is in
       record {
         last = [];
         standing = stands;
         passed = passed-none table t (stands .holds) s position e;
-        logged = λ l. record { size = stands .size ∙ ap length (sym none); bytes = stands .bytes ∙ ap logBytes (sym none) };
+        logged = λ l. subst (λ (rs : List Record). Logged rs (round .base) log) (sym none) (record { size = stands .size; bytes = stands .bytes });
         over = λ l. absurd (omega (arith, stands .room .fits));
         large = omega arith;
         small = omega (arith, stands .room .fits);
@@ -219,37 +227,26 @@ module _ {table : List ℕ} {t : Table} {round : Round} {log₀ s₀ : List ℕ}
   abbrev S : InRound table t round log s
   S = h .standing
 
-  abbrev A : List Record
-  A = earlierLog table (round .number)
-
-  abbrev cs : List Candidate
-  cs = additions (systemIn table) A
-
-  abbrev toRecord : Candidate → Record
-  toRecord = addedRecord (round .number) A
-
-  -- no position is left
-  pub heads-end : going ≡ false → RoundAdded table t (round .base) (round .n) (round .number) log₀ s₀ count log s
-  heads-end stops = record {
-    within = λ l. record { size = h .logged l .size ∙ ap length (whole l); bytes = h .logged l .bytes ∙ ap logBytes (whole l) };
+  -- no position is left; the round began with a scratch of the same length
+  pub heads-end : {s₁ : List ℕ} → length s₀ ≡ length s₁ → going ≡ false → RoundAdded table t (round .base) (round .n) (round .number) log₀ s₁ count log s
+  heads-end e stops = record {
+    within = λ l. subst (λ (rs : List Record). Logged rs count log) (whole l) (h .logged l);
     over = h .over;
     small = h .small;
     earlier = h .earlier;
     ringed = S .ringed;
     prepared = S .prepared;
     log-length = h .log-length;
-    scratch-length = h .scratch-length;
+    scratch-length = h .scratch-length ∙ e;
   }
     where
-      rest : count ≤ round .n → ltb position (t .rules) ≡ false
-      rest l = let e = sym is ∙ stops in rw (le-leb count (round .n) l) at e
-
       whole : count ≤ round .n → logUpTo table (round .number) (h .last) ≡ logAt (systemIn table) (round .number)
       whole l =
-          let end : t .rules ≤ position = ltb-false position (t .rules) (rest l) in
-          ap (λ (ds : List Candidate). A ++ map toRecord ds) (last-head (systemIn table) A (isActive round) (passed-over S) (h .last)
+          let e = sym is ∙ stops in
+          let end : t .rules ≤ position = ltb-false position (t .rules) (rw (le-leb count (round .n) l) at e) in
+          ap (logWith table (round .number)) (last-head (systemIn table) (R table (round .number)) (isActive round) (passed-over S) (h .last)
           (rules-at S (λ (r : Rule). lexLess (h .last) (ruleHead r) ≡ false) (λ p b y. h .passed .before p (omega arith) b y)))
-          ∙ sym (log-of-round S)
+          ∙ sym (log-of-round table (round .number) (S .begun))
 
   -- the next head
   module _ (goes : going ≡ true) where
@@ -269,46 +266,37 @@ module _ {table : List ℕ} {t : Table} {round : Round} {log₀ s₀ : List ℕ}
     abbrev news : List Candidate
     news = headAdditions table round (letterOf table s position) (beforeOf table s position)
 
-    head-news : filter (upTo (headAt table s position)) cs ≡ filter (upTo (h .last)) cs ++ news
+    abbrev olds : List Candidate
+    olds = filter (upTo (h .last)) (all table (round .number))
+
+    head-news : filter (upTo (headAt table s position)) (all table (round .number)) ≡ olds ++ news
     unfolding headAdditions
-    head-news = next-head (systemIn table) A (isActive round) (passed-over S) (h .last) (letterOf table s position) (beforeOf table s position)
+    head-news = next-head (systemIn table) (R table (round .number)) (isActive round) (passed-over S) (h .last) (letterOf table s position) (beforeOf table s position)
         (h .passed .behind position (omega arith) below head-active)
         (rules-at S (λ (r : Rule). lexLess (h .last) (ruleHead r) ≡ true → lexLess (ruleHead r) (headAt table s position) ≡ false) (λ p b y z. elim (decLt p position) [
           | yes e ↦ absurd (true≢false (sym z ∙ h .passed .before p e b y))
           | no e ↦ heads-rise table (t .rules) s (S .prepared .ordered) position p (omega arith) b
         ]))
 
-    records-are : logUpTo table (round .number) (headAt table s position) ≡ logUpTo table (round .number) (h .last) ++ map toRecord news
-    records-are = ap (λ (ds : List Candidate). A ++ map toRecord ds) head-news ∙ ap (λ (rs : List Record). A ++ rs) (map-append toRecord (filter (upTo (h .last)) cs) news)
-        ∙ sym (append-assoc A (map toRecord (filter (upTo (h .last)) cs)) (map toRecord news))
+    grown : length (logUpTo table (round .number) (headAt table s position)) ≡ count + length news
+    grown = ap (λ (ds : List Candidate). length (logWith table (round .number) ds)) head-news
+        ∙ omega (arith, with-length table (round .number) (olds ++ news), length-append olds news, with-length table (round .number) olds, h .logged fits .size)
 
     module _ {r : Reached} {log′ s′ : List ℕ} (d : HeadAdded table t round position count log s r log′ s′) where
       -- there is room for the head's records
       logged-next : r .count ≤ round .n → Logged (logUpTo table (round .number) (headAt table s position)) (r .count) log′
       logged-next l =
-          let counted : r .count ≡ count + length news = omega (arith, d .counted) in
+          let f = toRecord table (round .number) in
           record {
-            size = counted ∙ ap₂ _+_ (h .logged fits .size) (sym (length-map news toRecord))
-                ∙ sym (length-append (logUpTo table (round .number) (h .last)) (map toRecord news)) ∙ ap length (sym records-are);
-            bytes = d .bytes l ∙ ap (λ (bs : List ℕ). bs ++ logBytes (map toRecord news)) (h .logged fits .bytes)
-                ∙ sym (log-append (logUpTo table (round .number) (h .last)) (map toRecord news)) ∙ ap logBytes (sym records-are);
+            size = omega (arith, d .counted, grown);
+            bytes = d .bytes l ∙ ap (λ (bs : List ℕ). bs ++ logBytes (map f news)) (h .logged fits .bytes) ∙ sym (log-append (logWith table (round .number) olds) (map f news))
+                ∙ ap logBytes (append-assoc (R table (round .number)) (map f olds) (map f news) ∙ ap (λ (rs : List Record). R table (round .number) ++ rs) (sym (map-append f olds news))
+                ∙ ap (logWith table (round .number)) (sym head-news));
           }
 
       -- or there is none, and none for the round
       over-next : round .n < r .count → round .n < length (logAt (systemIn table) (round .number))
-      over-next l = omega (
-        arith,
-        d .counted,
-        h .logged fits .size,
-        ap length (log-of-round S),
-        length-append A (map toRecord cs),
-        length-map cs toRecord,
-        length-append A (map toRecord (filter (upTo (h .last)) cs)),
-        length-map (filter (upTo (h .last)) cs) toRecord,
-        ap length head-news,
-        length-append (filter (upTo (h .last)) cs) news,
-        filter-short (upTo (headAt table s position)) cs,
-      )
+      over-next l = omega (arith, d .counted, grown, upTo-short table (round .number) (S .begun) (headAt table s position))
 
       pub heads-turn : HeadsAdded table t round log₀ s₀ (r .position) (r .count) log′ s′
       heads-turn = record {
@@ -327,17 +315,3 @@ module _ {table : List ℕ} {t : Table} {round : Round} {log₀ s₀ : List ℕ}
 
       pub rules-fewer : t .rules - r .position < t .rules - position
       rules-fewer = omega (arith, d .next .later, below)
-
--- what a round leaves that goes on from other buffers of the same length
-pub added-before : {table : List ℕ} {t : Table} {base n number : ℕ} {log s s′ : List ℕ} {count : ℕ} {log″ s″ : List ℕ} → length s′ ≡ length s
-    → RoundAdded table t base n number log s′ count log″ s″ → RoundAdded table t base n number log s count log″ s″
-added-before e d = record {
-  within = d .within;
-  over = d .over;
-  small = d .small;
-  earlier = d .earlier;
-  ringed = d .ringed;
-  prepared = d .prepared;
-  log-length = d .log-length;
-  scratch-length = d .scratch-length ∙ e;
-}

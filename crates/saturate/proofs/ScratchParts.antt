@@ -96,17 +96,11 @@ letter-or letters a = record {
 pub letter-set : (letters a v : ℕ) → v ≡ a → LetterIn letters a (bitOr letters (1 * 2 ^ (v % 32) % 4294967296))
 letter-set letters a v e = subst (LetterIn letters a) (ap (bitOr letters) (sym (one-shifted (v % 32) (omega arith) ∙ ap (λ (x : ℕ). 2 ^ (x % 32)) e))) (letter-or letters a)
 
-pub letters-none : (log : List ℕ) (lo x : ℕ) → FreshLetters log lo lo x
-letters-none log lo x i a b = absurd (omega arith)
-
 pub letters-more : (log : List ℕ) (lo r x y : ℕ) → FreshLetters log lo r x → LetterIn x (letterAt log r) y → FreshLetters log lo (r + 1) y
 letters-more log lo r x y f d i a b = elim (decLt i r) [
   | yes l ↦ d .kept (letterAt log i % letterCeiling) (f i a l)
   | no l ↦ let e : i ≡ r = omega arith in subst (λ (j : ℕ). hasLetter y (letterAt log j % letterCeiling) ≡ true) (sym e) (d .has)
 ]
-
-pub letters-all : (log : List ℕ) (lo r base x : ℕ) → base ≤ r → FreshLetters log lo r x → FreshLetters log lo base x
-letters-all log lo r base x l f i a b = f i a (omega arith)
 
 -- ---- records and their letters
 module _ (table : List ℕ) (t : Table) (holds : Holds table t) (base number : ℕ) (log : List ℕ) (logged : Logged (earlierLog table number) base log) where

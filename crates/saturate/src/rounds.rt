@@ -24,7 +24,6 @@ ghost use Rattle.records.specs.Entries.{HasRecord};
 ghost use Rattle.table.specs.Reading.{Holds};
 ghost use Rattle.scratch.specs.Regions.{ringsAt};
 ghost use Rattle.rules.specs.Rules.{letterCeiling, ruleCeiling, rulesEnd};
-ghost use Rattle.heads.specs.Rounds.{InRound};
 ghost use Rattle.saturate.specs.Rounds.{Activated, FreshLetters, LetterIn, RoundAdded, RoundBegins, ScratchReady};
 
 // Makes the scratch ready for the rounds: the rules in order, no state passed, and no record in a ring.
@@ -82,21 +81,6 @@ fn goes_on(t: Table, at: Reached, n: usize) -> bool
     at.position < t.rules
 }
 
-// Adds the records of the active heads, one after the other.
-fn add_heads(table: &[u8], t: Table, log: &mut [u8], scratch: &mut [u8], round: Round) -> usize
-    requires { ⌜ InRound (now table) t round (now log) (now scratch) ⌝ }
-    ensures { λ r. ⌜ RoundAdded (now (table .entry)) t (round .base) (round .n) (round .number) (now (log .entry)) (now (scratch .entry)) r (now (log .exit)) (now (scratch .exit)) ⌝ }
-{
-    let mut at = Reached {
-        position: next_active(scratch, 0),
-        count: round.base,
-    };
-    while goes_on(t, at, round.n) {
-        at = add_head(table, t, log, scratch, round, at.position, at.count);
-    }
-    at.count
-}
-
 // Adds the records of a round behind those of the rounds before it. The rings have the records below lo, and get those of the last round, which are from
 // lo on. Gives the number of records then, more than n where the log has no room for them. What it leaves in the rest of the scratch, and in the log
 // behind the records, is not decided.
@@ -123,5 +107,12 @@ pub fn add_round(
         fresh,
         n,
     };
-    add_heads(table, t, log, scratch, round)
+    let mut at = Reached {
+        position: next_active(scratch, 0),
+        count: base,
+    };
+    while goes_on(t, at, round.n) {
+        at = add_head(table, t, log, scratch, round, at.position, at.count);
+    }
+    at.count
 }

@@ -19,20 +19,17 @@ first-match-spec = tie.close (tie.spec returns (λ c κs. search needs) (λ c κ
     (λ c.
     let a = c .before .before .before .before .before .before .args in
     let p = c .before .before .before .before .before .before .pre in
-    let b = c .before .before .bucket .ensures in
-    empty-first (a .letter) (a .g) 0 (omega arith) (p .0 .fits) (p .0 .short) (p .1) (b .1) (b .0) (c .before .link-at .ensures .0) (c .if2 .taken)
+    empty-first (a .letter) (a .g) (p .1) (c .before .before .bucket .ensures) (c .before .link-at .ensures .0) 0 (omega arith) (p .0 .fits) (p .0 .short) (c .if2 .taken)
     ∙ ap (λ (k : ℕ). firstFrom (recordReads (a .log .now) (a .letter) (a .g)) 0 k) (omega arith))
     (λ c. omega (arith, c .before .before .before .before .before .before .pre .0 .fits, c .before .before .before .before .before .before .pre .0 .short, tail-below (c .before .before .before .before .before .before .pre .1) (c .before .before .bucket .ensures .1) (c .before .link-at .ensures .0) (c .if2 .left)))
     (λ c κs. omega (arith, c .before .before .before .before .before .before .pre .0 .fits, c .before .before .before .before .before .before .pre .0 .room, tail-below (c .before .before .before .before .before .before .pre .1) (c .before .before .bucket .ensures .1) (c .before .link-at .ensures .0) (c .if2 .left)))
     (λ c κs.
     let a = c .before .before .before .before .before .before .before .args in
     let p = c .before .before .before .before .before .before .before .pre in
-    let b = c .before .before .before .bucket .ensures in
-    let w = walks-head (a .letter) (a .g) (p .1) (b .1) (b .0) (c .before .before .link-at .ensures .0) (c .before .if2 .left) (c .link-at2 .ensures .0) in
+    let w = walks-head (a .letter) (a .g) (p .1) (c .before .before .before .bucket .ensures) (c .before .before .link-at .ensures .0) (c .before .if2 .left) (c .link-at2 .ensures .0) in
     (p .0, p .1, w .below, w .bucket))
     (λ c.
-    let a = c .before .before .before .before .before .before .before .before .args in
-    let p = c .before .before .before .before .before .before .before .before .pre in
-    let b = c .before .before .before .before .bucket .ensures in
-    let w = walks-head (a .letter) (a .g) (p .1) (b .1) (b .0) (c .before .before .before .link-at .ensures .0) (c .before .before .if2 .left) (c .before .link-at2 .ensures .0) in
+    let at-link = c .before .before .before in
+    let a = at-link .before .before .before .before .before .args in
+    let w = walks-head (a .letter) (a .g) (at-link .before .before .before .before .before .pre .1) (at-link .before .bucket .ensures) (at-link .link-at .ensures .0) (c .before .before .if2 .left) (c .before .link-at2 .ensures .0) in
     walks-first w (c .follow .ensures) ∙ ap (λ (k : ℕ). firstFrom (recordReads (a .log .now) (a .letter) (a .g)) 0 k) (omega arith)))

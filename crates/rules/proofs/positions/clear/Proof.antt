@@ -6,7 +6,4 @@ use Rattle.rules.proofs.positions.clear.Tie as tie
 
 pub clear-spec : {M : Type 1} → statement M
 clear-spec = tie.close (tie.spec (λ c. omega arith) (λ c κs. (omega arith, omega arith)) (λ c. c .before .before .clear-part .ensures .size)
-    (λ c.
-    let at-clear = c .before .before in
-    let a = at-clear .before .before .before .args in
-    bytes-cleared (a .at) (a .n) (a .s .now) _ (at-clear .clear-part .ensures)))
+    (λ c. bytes-cleared (c .before .before .clear-part .ensures)))

@@ -1,32 +1,56 @@
--- The last round's records are put into rings, the positions that write their letters made active, and the heads added.
+-- The last round's records are put into rings, the positions that write their letters made active, and their heads added one after the other (RoundSteps).
 use mathlib.Core.Path.{_∙_}
+use Prim.Native.Nat.{_-_}
 use native.Mathlib.Omega.{arith}
 use borrow.Author.Needs.{needs}
 use Rattle.table.proofs.Layouts.{table-modest}
-use Rattle.saturate.proofs.RoundSteps.{added-before}
+use Rattle.saturate.proofs.RoundSteps.{HeadsAdded, below, fits, head-active, head-leading, heads-end, heads-start, heads-turn, rules-fewer}
 use Rattle.saturate.proofs.ScratchParts.{round-stands}
 use Rattle.saturate.proofs.rounds.add_round.Statement.{statement}
 use Rattle.saturate.proofs.rounds.add_round.Tie as tie
 
-add-heads-requires : tie.Need-add-heads-requires
-add-heads-requires c κs =
-    let at-active = c .before .before .before .before in
-    let at-letters = at-active .before .before in
-    let at-append = at-letters .before .before .before .before in
-    let entry = at-append .before .before .before .before .before .before in
-    let rings = at-append .append .ensures in
-    round-stands (entry .pre) (rings .0) (at-letters .fresh-letters .ensures) (at-active .set-active .ensures) (rings .1) (rings .2)
+abbrev Inv-loop : tie.InvT-loop
+Inv-loop table t log₀ scratch₀ lo base n number fresh round at₀ log scratch at = HeadsAdded table t round log₀ scratch₀ (at .position) (at .count) log scratch
+
+abbrev μ-loop : tie.MeasureT-loop
+μ-loop table t log₀ scratch₀ lo base n number fresh round at₀ log scratch at = t .rules - at .position
 
 pub add-round-spec : {M : Type 1} → statement M
-add-round-spec = tie.close (tie.spec (λ c κs. search needs) (λ c κs. search needs)
+add-round-spec = tie.close (tie.spec Inv-loop μ-loop (λ c κs. search needs) (λ c κs. search needs)
     (λ c κs.
     let at-append = c .before .before .before .before .before in
     let entry = at-append .before .before .before .before .before .before in
     let modest = table-modest (entry .args .table .now) (entry .args .t) (entry .pre .holds) in
     (modest .rules, modest .letters, omega (arith, entry .pre .scratch, at-append .append .ensures .0 .size)))
-    add-heads-requires (λ c. search needs) (λ c. search needs)
-    (λ c.
-    let at-heads = c .before .before .before .before in
-    let at-active = at-heads .before .before .before .before .before in
+    (λ c κs.
+    let at-active = c .before .before .before in
     let at-append = at-active .before .before .before .before .before .before in
-    added-before (at-active .set-active .ensures .kept .size ∙ at-append .append .ensures .0 .size) (at-heads .add-heads .ensures)))
+    omega (arith, at-append .before .before .before .before .before .before .pre .scratch, at-append .append .ensures .0 .size, at-active .set-active .ensures .kept .size))
+    (λ c.
+    let at-active = c .before .before .before .before in
+    let at-letters = at-active .before .before in
+    let at-append = at-letters .before .before .before .before in
+    let rings = at-append .append .ensures in
+    heads-start (round-stands (at-append .before .before .before .before .before .before .pre) (rings .0) (at-letters .fresh-letters .ensures) (at-active .set-active .ensures) (rings .1) (rings .2)) (c .next-active .ensures))
+    (λ c κs. search needs)
+    (λ c κs.
+    let at-test = c .before .before in
+    let is = at-test .before .goes-on .ensures in
+    let goes = at-test .if1 .taken in
+    let inv = at-test .before .before .loop .inv in
+    (inv .standing, below inv is goes, head-active inv is goes, head-leading inv is goes, inv .large, fits inv is goes))
+    (λ c.
+    let at-head = c .before .before .before .before in
+    let at-test = at-head .before .before .before in
+    rules-fewer (at-test .before .before .loop .inv) (at-test .before .goes-on .ensures) (at-test .if1 .taken) (at-head .add-head .ensures))
+    (λ c.
+    let at-head = c .before .before .before .before in
+    let at-test = at-head .before .before .before in
+    heads-turn (at-test .before .before .loop .inv) (at-test .before .goes-on .ensures) (at-test .if1 .taken) (at-head .add-head .ensures))
+    (λ c. c .before .before .loop .inv .log-length)
+    (λ c.
+    let at-active = c .before .before .before .before .before .before .before in
+    c .before .before .loop .inv .scratch-length ∙ at-active .set-active .ensures .kept .size ∙ at-active .before .before .before .before .before .before .append .ensures .0 .size)
+    (λ c.
+    let at-active = c .before .before .before .before .before .before .before in
+    heads-end (c .before .before .loop .inv) (c .before .goes-on .ensures) (at-active .set-active .ensures .kept .size ∙ at-active .before .before .before .before .before .before .append .ensures .0 .size) (c .if1 .left)))
