@@ -17,9 +17,9 @@ use Rattle.model.proofs.Lists.{each-append, each-map}
 use Rattle.model.proofs.Reachability.{accepting-path-found, answer-yes, answer-steps}
 use Rattle.model.proofs.Reasons.{path-length}
 use Rattle.model.specs.Records.{roundAt, ruleAt}
-use Rattle.records.specs.Entries.{Reads}
+use Rattle.records.specs.Entries.{HasRecord, Reads}
 use Rattle.table.specs.declared.Table.{Table}
-use Rattle.table.specs.Reading.{systemIn, ruleIn}
+use Rattle.table.specs.Reading.{Holds, systemIn, ruleIn}
 use Rattle.table.proofs.Layouts.{table-modest, rules-count, pile-count, written-few}
 use Rattle.scratch.specs.Regions.{stackAt}
 use Rattle.stack.specs.StackNumbers.{numbersDown, stackOf}
@@ -29,7 +29,7 @@ use Rattle.stack.proofs.RoundLogs.{holds-well-formed, holds-control, round-fits
 use Rattle.unfold.specs.declared.Work.{Work}
 use Rattle.unfold.specs.Runs.{Unfoldable, Unfolded}
 use Rattle.unfold.specs.Turns.{places, StackRoom, topRecord, Replaceable, Replaced, Workable, Worked}
-use Rattle.unfold.proofs.Pushing.{places-path}
+use Rattle.unfold.proofs.Pushing.{places-from}
 use Rattle.unfold.proofs.Running.{Going, going-count, going-start, rule-inside, letter-read, page-room, going-fire, going-end}
 
 -- ---- the loop's invariant: what the records on the stack emit is left of the run
@@ -115,8 +115,8 @@ module _ {table : List ℕ} {t : Table} {log : List ℕ} {count room : ℕ} {ns 
 
       -- its places are its path
       path-is : places log x ≡ first .path
-      path-is = places-path log x (first .path) few
-          (each-map (λ (m : ℕ). m < x) (λ (m : ℕ). m < noNumber) (λ m l. omega (arith, inside, pre .0 .short)) (first .path) earlier) (reads .place)
+      path-is = places-from log x (first .path) few
+          (each-map (λ (m : ℕ). m < x) (λ (m : ℕ). m < noNumber) (λ m l. omega (arith, inside, pre .0 .short)) (first .path) earlier) (reads .place) 4 0 refl
 
       fires : Going sys all page₀ (first .rule ∷ emitted records (first .path ++ xs)) page (w .rules) (w .length) (w .highest)
       fires = subst (λ (l : List ℕ). Going sys all page₀ l page (w .rules) (w .length) (w .highest))
@@ -178,6 +178,17 @@ module _ {table : List ℕ} {t : Table} {log : List ℕ} {count room : ℕ} {ns 
             let tall : length (places log x ++ xs) ≡ length (places log x) + length xs = length-append (places log x) xs in
             omega (arith, q .rules, v .going .size, few n, ap length (path-is n), replaceable n .page-room, ap length (q .pushed .stack), length-down s′ stackAt (w′ .top), length-down s stackAt (w .top - 1))
       ]
+
+-- ---- one turn: x is the record on top, and this is its round
+module _ {table log s page : List ℕ} {w : Work} {x round : ℕ} (top : x ≡ topRecord s w) (is : round ≡ roundAt log x) where
+  pub worked-skipped : round ≡ 0 → Worked table log s page w s page (record { top = w .top - 1; rules = w .rules; length = w .length; highest = w .highest })
+  worked-skipped z = record { skipped = λ _. (refl, refl, refl); replaced = λ n. absurd (n (ap (roundAt log) (sym top) ∙ sym is ∙ z)) }
+
+  pub worked-replaced : {s′ page′ : List ℕ} {w′ : Work} → (round ≡ 0 → ⊥) → Replaced table log s page w x s′ page′ w′ → Worked table log s page w s′ page′ w′
+  worked-replaced n r = record { skipped = λ z. absurd (n (is ∙ ap (roundAt log) top ∙ z)); replaced = λ _. rw (← top) r }
+
+  pub turn-replaceable : {t : Table} → (round ≡ 0 → ⊥) → Workable table t log s page w → Holds table t × HasRecord log x × (0 < w .top) × Replaceable table t log s page w x
+  turn-replaceable n h = (h .holds, rw top (h .has), h .some, rw top (h .replaceable (λ z. n (is ∙ ap (roundAt log) top ∙ z))))
 
 -- ---- for the callers: the start's path is unfoldable where its steps fit the page
 pub path-unfoldable : {table : List ℕ} {t : Table} {log : List ℕ} {count : ℕ} → LimitLog table t log count → (p : Path) → startPath (systemIn table) ≡ some p → (ns page : List ℕ) → ns ≡ p .numbers
