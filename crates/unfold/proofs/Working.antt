@@ -1,7 +1,7 @@
 -- The turns of the unfolding's loop: the log's bytes are those of the limit's records.
 use mathlib.Core.Path.{_≡_, refl, ap, sym, subst, _∙_}
 use mathlib.Core.Option.{some}
-use mathlib.Core.List.{List, [], _∷_, _++_}
+use mathlib.Core.List.{List, _∷_, _++_}
 use Prim.Native.Nat.{ℕ, _+_, _-_, _*_, _<_, _≤_, min}
 use native.Mathlib.Decide.{ℕ-discrete}
 use native.Mathlib.Omega.{arith}
@@ -16,7 +16,7 @@ use Rattle.model.proofs.EmissionStack.{InLog, emitted-skip, emitted-replace, Lo
 use Rattle.model.proofs.Lists.{each-append, each-map}
 use Rattle.model.proofs.Reachability.{accepting-path-found, answer-yes, answer-steps}
 use Rattle.model.proofs.Reasons.{path-length}
-use Rattle.model.specs.Records.{roundAt, ruleAt}
+use Rattle.model.specs.Records.{roundAt}
 use Rattle.records.specs.Entries.{HasRecord, Reads}
 use Rattle.table.specs.declared.Table.{Table}
 use Rattle.table.specs.Reading.{Holds, systemIn, ruleIn}
