@@ -15,6 +15,7 @@ use Rattle.model.specs.Calls.{zeros, filled, verdict, startPath, isLong, pageAf
 use Rattle.model.specs.Log.{Record, Path, limit, rounds, saturatedAt}
 use Rattle.model.specs.Unfolding.{emitted, pathSteps}
 use Rattle.model.proofs.Reachability.{answer-steps}
+use Rattle.model.proofs.Tests.{or-left, or-right}
 use Rattle.table.specs.declared.Table.{Table}
 use Rattle.table.specs.Reading.{systemIn}
 use Rattle.stack.specs.StackNumbers.{stackOf}
@@ -36,14 +37,9 @@ pub verdict-stated : {table : List ℕ} {t : Table} {log : List ℕ} {n count mo
 verdict-stated {table} w f = rw (f .given, sym (w .log-of .size), w .highest) (stated-found (limit (systemIn table)) (startPath (systemIn table)))
 
 -- ---- whether a run is long
-or-neither : (a b : Bool) → (a || b) ≡ false → (a ≡ false) × (b ≡ false)
-or-neither false b e = (refl, e)
-or-neither true b e = let z : _≡_ {A = ℕ} 0 1 = cc in absurd (omega arith)
-
 pub short-fits : (steps room : ℕ) → isLong steps room ≡ false → (steps ≤ room) × (steps ≤ 1000000)
 short-fits steps room e =
-    let n = or-neither (ltb room steps) (ltb 1000000 steps) e in
-    (ltb-false room steps (n .0), ltb-false 1000000 steps (n .1))
+    (ltb-false room steps (or-left (ltb room steps) (ltb 1000000 steps) e), ltb-false 1000000 steps (or-right (ltb room steps) (ltb 1000000 steps) e))
 
 -- ---- the run of a path on the stack
 -- the page with the run, and zeros behind it
