@@ -3,13 +3,13 @@ use mathlib.Core.Path.{_≡_, refl, ap, ap₂, sym, _∙_}
 use mathlib.Core.List.{List, [], _∷_, _++_, append-assoc}
 use Prim.Native.Nat.{ℕ, zero, suc, _+_, _-_, _*_, _/_, _%_, _<_}
 use native.Mathlib.Omega.{arith}
-use lib.ListN.{length, take, drop, getD, set, length-append, length-take, length-drop}
-use lib.Seq.{drop-at, take-at, set-split, split-at, length-take-le, ext-getD}
+use lib.ListN.{length, take, drop, getD, length-append, length-take, length-drop}
+use lib.Seq.{drop-at, take-at, ext-getD}
 use Rattle.model.specs.Lists.{Each}
 use Rattle.model.specs.Tables.{writtenPlaces}
-use Rattle.model.specs.Log.{Record, recordAt, noNumber, noRecord}
+use Rattle.model.specs.Log.{Record, recordAt, noNumber}
 use Rattle.model.specs.Records.{recordLength, littleEndian, pathBytes, recordBytes, logBytes, numberAt, ruleAt, placeAt, stepsAt}
-use Rattle.model.proofs.RecordBytes.{length-path, length-record, length-log, log-around, number-drop, number-behind, number-cons, number-back, from-number, from-letter, from-before, from-after, from-round, record-from}
+use Rattle.model.proofs.RecordBytes.{length-path, length-log, log-around, number-drop, number-behind, number-cons, number-back, from-number, from-letter, from-before, from-after, from-round, record-from}
 use Rattle.records.specs.declared.Entry.{Entry}
 use Rattle.records.specs.Entries.{padded, pathPlace, recordEntry, entryBytes, HasRecord, withEntry, Fits, Reads}
 use Rattle.numbers.specs.NumberBytes.{withNumber}

@@ -27,4 +27,5 @@ answer-table-spec = tie.close (tie.spec (λ c κs. search needs) (λ c. search n
     let at-count = at-limit .before .before .before .before .before in
     let at-fill = at-count .before .before .before .before .before .before in
     let at-records = at-fill .before .before .before .before in
-    answers-limit (at-records .before .before .before .before .pre) (at-records .records-in .ensures .0) (at-fill .before .before .before .if1 .left) (rw (at-count .count .given .1) at (at-fill .fill-log .ensures)) (at-limit .answer-limit .ensures .0) (at-limit .answer-limit .ensures .1)))
+    answers-limit (at-records .before .before .before .before .pre) (at-records .records-in .ensures .0) (at-fill .before .before .before .if1 .left)
+    (rw (at-count .count .given .1) at (at-fill .fill-log .ensures)) (at-limit .answer-limit .ensures .0) (at-limit .answer-limit .ensures .1)))

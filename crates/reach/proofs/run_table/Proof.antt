@@ -27,4 +27,5 @@ run-table-spec = tie.close (tie.spec (λ c κs. search needs) (λ c. search need
     let at-count = at-limit .before .before .before .before .before .before in
     let at-fill = at-count .before .before .before .before .before .before in
     let at-records = at-fill .before .before .before .before in
-    runs-limit (at-records .before .before .before .before .before .pre) (at-records .records-in .ensures .0) (at-fill .before .before .before .if1 .left) (rw (at-count .count .given .1) at (at-fill .fill-log .ensures)) (at-limit .run-limit .ensures)))
+    runs-limit (at-records .before .before .before .before .before .pre) (at-records .records-in .ensures .0) (at-fill .before .before .before .if1 .left)
+    (rw (at-count .count .given .1) at (at-fill .fill-log .ensures)) (at-limit .run-limit .ensures)))

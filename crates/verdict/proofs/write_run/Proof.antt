@@ -27,5 +27,5 @@ write-run-spec = tie.close (tie.spec (λ c κs. search needs) (λ c κs. search 
     let at-unused = c .before .before .before .before .before .before .before in
     let at-unfold = at-unused .before .before .before .before .before .before .before in
     let at-if1 = at-unfold .before .before .before in
-    run-written (at-if1 .before .before .before .before .before .before .pre) (sym (at-if1 .before .is-long .ensures) ∙ at-if1 .if1 .left) (at-unfold .«unfold» .last .1 .1 .1 .0) (at-unfold .«unfold» .ensures) (at-unused .before .wide-four .ensures .0) (c .figure .ensures)
-    (at-unused .clear-unused .ensures) (c .before .before .before .clear2 .ensures) (at-unfold .«unfold» .kept .1 .1 .1 .0)))
+    run-written (at-if1 .before .before .before .before .before .before .pre) (sym (at-if1 .before .is-long .ensures) ∙ at-if1 .if1 .left) (at-unfold .«unfold» .last .1 .1 .1 .0) (at-unfold .«unfold» .ensures)
+    (at-unused .before .wide-four .ensures .0) (c .figure .ensures) (at-unused .clear-unused .ensures) (c .before .before .before .clear2 .ensures) (at-unfold .«unfold» .kept .1 .1 .1 .0)))
