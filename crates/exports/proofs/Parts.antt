@@ -1,11 +1,12 @@
 -- A list of eight numbers by its places, and the part of the list that a walk hands back.
-use mathlib.Core.Path.{_≡_, refl}
+use mathlib.Core.Path.{_≡_, refl, ap, sym, _∙_}
 use mathlib.Core.Option.{Option, none, some}
 use mathlib.Core.List.{List, [], _∷_}
-use Prim.Native.Nat.{ℕ, _+_, _≤_}
+use Prim.Native.Nat.{ℕ, suc, _+_, _<_, _≤_}
 use native.Mathlib.Omega.{arith}
 use lib.Dec.{ltb}
-use lib.ListN.{length, getD, getElem?}
+use lib.ListN.{length, getD, getElem?, drop, drop-of-length-le}
+use lib.Seq.{drop-cons}
 use Rattle.model.specs.declared.Walked.{Walked}
 use Rattle.model.specs.Calls.{Halt, stepBy, stepTo, walkCall, walkFigures, walkFrom, walkGiven, walkScratch}
 use Rattle.model.specs.Groups.{Processes}
@@ -14,16 +15,11 @@ use Rattle.model.specs.Tables.{Reading, accepted, refused, read, systemOf}
 use Rattle.model.proofs.Tests.{by-test}
 
 pub eight : (l : List ℕ) → length l ≡ 8 → (getD l 0 0 ∷ getD l 1 0 ∷ getD l 2 0 ∷ getD l 3 0 ∷ getD l 4 0 ∷ getD l 5 0 ∷ getD l 6 0 ∷ getD l 7 0 ∷ []) ≡ l
-eight (a ∷ b ∷ c ∷ d ∷ e ∷ f ∷ g ∷ h ∷ []) n = refl
-eight [] n = absurd (omega arith)
-eight (a ∷ []) n = absurd (omega arith)
-eight (a ∷ b ∷ []) n = absurd (omega arith)
-eight (a ∷ b ∷ c ∷ []) n = absurd (omega arith)
-eight (a ∷ b ∷ c ∷ d ∷ []) n = absurd (omega arith)
-eight (a ∷ b ∷ c ∷ d ∷ e ∷ []) n = absurd (omega arith)
-eight (a ∷ b ∷ c ∷ d ∷ e ∷ f ∷ []) n = absurd (omega arith)
-eight (a ∷ b ∷ c ∷ d ∷ e ∷ f ∷ g ∷ []) n = absurd (omega arith)
-eight (a ∷ b ∷ c ∷ d ∷ e ∷ f ∷ g ∷ h ∷ i ∷ l) n = absurd (omega arith)
+eight l n = next 0 (omega arith) (next 1 (omega arith) (next 2 (omega arith) (next 3 (omega arith)
+    (next 4 (omega arith) (next 5 (omega arith) (next 6 (omega arith) (next 7 (omega arith) (sym (drop-of-length-le l {i = 8} (omega arith))))))))))
+  where
+    next : (k : ℕ) → k < length l → {xs : List ℕ} → xs ≡ drop (suc k) l → (getD l k 0 ∷ xs) ≡ drop k l
+    next k h e = ap (λ (xs : List ℕ). getD l k 0 ∷ xs) e ∙ sym (drop-cons l k 0 h)
 
 -- a walk has eight figures
 pub figures-length : (w : Walked) → length (walkFigures w) ≡ 8

@@ -107,27 +107,22 @@ module _ (table log scratch : List ℕ) where
         refused n h = run-refused ran (run-placed table log scratch page) n h
 
 -- ---- demand 2 of a walk: its sixteen figures begin with its eight
+first-eight : {table list pile : List ℕ} {a b c d e f g h : ℕ} (from : ℕ) → Demand2Walk table list (a ∷ b ∷ c ∷ d ∷ e ∷ f ∷ g ∷ h ∷ []) pile
+    → Demand2Walk table list (sixteen (a ∷ b ∷ c ∷ d ∷ e ∷ f ∷ g ∷ h ∷ from ∷ [])) pile
+first-eight from w = record {
+  reached = λ z. let r = w .reached z in (
+    r .0,
+    r .1,
+    record { end = r .2 .end; steps = r .2 .steps; states = r .2 .states; word = r .2 .word; watched = r .2 .watched },
+  );
+  no-rule = w .no-rule;
+  idle = w .idle;
+  full = w .full;
+}
+
 walk-sixteen : (table list pile : List ℕ) (x : Walked) (from : ℕ) → Demand2Walk table list (walkFigures x) pile → Demand2Walk table list (sixteen (walkFigures x ++ (from ∷ []))) pile
-walk-sixteen table list pile (Walked.Ended g n w) from d = record {
-  reached = λ z. let r = d .reached z in (
-    r .0,
-    r .1,
-    record { end = r .2 .end; steps = r .2 .steps; states = r .2 .states; word = r .2 .word; watched = r .2 .watched },
-  );
-  no-rule = d .no-rule;
-  idle = d .idle;
-  full = d .full;
-}
-walk-sixteen table list pile (Walked.Refused number place) from d = record {
-  reached = λ z. let r = d .reached z in (
-    r .0,
-    r .1,
-    record { end = r .2 .end; steps = r .2 .steps; states = r .2 .states; word = r .2 .word; watched = r .2 .watched },
-  );
-  no-rule = d .no-rule;
-  idle = d .idle;
-  full = d .full;
-}
+walk-sixteen table list pile (Walked.Ended g n w) from d = first-eight from d
+walk-sixteen table list pile (Walked.Refused number place) from d = first-eight from d
 
 pub walk-figures : (table list pile f g : List ℕ) (x : Walked) (from : ℕ) → f ≡ walkFigures x → g ≡ sixteen (walkFigures x ++ (from ∷ [])) → Demand2Walk table list f pile → Demand2Walk table list g pile
 walk-figures table list pile f g x from e q d = rw q (walk-sixteen table list pile x from (subst (λ (l : List ℕ). Demand2Walk table list l pile) e d))

@@ -12,7 +12,7 @@ use Rattle.model.proofs.Groups.{at-merge, at-restrict}
 use Rattle.model.proofs.Tests.{cond-less, same-test}
 use Rattle.automaton.specs.StateNumbers.{stateNumber}
 use Rattle.packs.specs.Packs.{Bytes, maskByte, maskOf, mergedBits, packNumber, packed, processesIn, restrictedBits, unpacked}
-use Rattle.packs.proofs.Packs.{merge-bits, pack-number, packed-same, restrict-bits, same-bits}
+use Rattle.packs.proofs.Packs.{bytes-of, mask-small, merge-bits, pack-number, packed-same, restrict-bits, same-bits}
 
 pub bytes-unpacked : (x : ℕ) → Bytes (unpacked x)
 unfolding unpacked
@@ -87,32 +87,14 @@ mask-byte : (b : Bool) → eqb (maskByte b) 255 ≡ b
 mask-byte true = refl
 mask-byte false = refl
 
-mask-small : (b : Bool) → maskByte b < 256
-mask-small true = omega arith
-mask-small false = omega arith
-
 pub processes-mask : (L : Processes) → processesIn (maskOf L) ≡ L
-unfolding processesIn maskOf
+unfolding processesIn maskOf packed unpacked
 processes-mask L =
-    let b0 = maskByte (L .b0) in
-    let b1 = maskByte (L .b1) in
-    let b2 = maskByte (L .b2) in
-    let b3 = maskByte (L .b3) in
-    let x = b0 + 256 * (b1 + 256 * (b2 + 256 * b3)) in
-    let h0 : b0 < 256 = mask-small (L .b0) in
-    let h1 : b1 < 256 = mask-small (L .b1) in
-    let h2 : b2 < 256 = mask-small (L .b2) in
-    let h3 : b3 < 256 = mask-small (L .b3) in
-    let e0 : x % 256 ≡ b0 = omega arith in
-    let q1 : x / 256 ≡ b1 + 256 * (b2 + 256 * b3) = omega arith in
-    let q2 : x / 65536 ≡ b2 + 256 * b3 = quotient-2 x ∙ ap (λ (y : ℕ). y / 256) q1 ∙ omega arith in
-    let q3 : x / 16777216 ≡ b3 = quotient-3 x ∙ ap (λ (y : ℕ). y / 256) (sym (quotient-2 x) ∙ q2) ∙ omega arith in
-    let e1 : x / 256 % 256 ≡ b1 = ap (λ (y : ℕ). y % 256) q1 ∙ omega arith in
-    let e2 : x / 65536 % 256 ≡ b2 = ap (λ (y : ℕ). y % 256) q2 ∙ omega arith in
-    let e3 : x / 16777216 % 256 ≡ b3 = ap (λ (y : ℕ). y % 256) q3 ∙ omega arith in
+    let m : Group = record { s0 = maskByte (L .b0); s1 = maskByte (L .b1); s2 = maskByte (L .b2); s3 = maskByte (L .b3) } in
+    let e = unpacked-packed m (bytes-of m (mask-small (L .b0)) (mask-small (L .b1)) (mask-small (L .b2)) (mask-small (L .b3))) in
     λ i. record {
-      b0 = (ap (λ (y : ℕ). eqb y 255) e0 ∙ mask-byte (L .b0)) i;
-      b1 = (ap (λ (y : ℕ). eqb y 255) e1 ∙ mask-byte (L .b1)) i;
-      b2 = (ap (λ (y : ℕ). eqb y 255) e2 ∙ mask-byte (L .b2)) i;
-      b3 = (ap (λ (y : ℕ). eqb y 255) e3 ∙ mask-byte (L .b3)) i;
+      b0 = (ap (λ (g : Group). eqb (g .s0) 255) e ∙ mask-byte (L .b0)) i;
+      b1 = (ap (λ (g : Group). eqb (g .s1) 255) e ∙ mask-byte (L .b1)) i;
+      b2 = (ap (λ (g : Group). eqb (g .s2) 255) e ∙ mask-byte (L .b2)) i;
+      b3 = (ap (λ (g : Group). eqb (g .s3) 255) e ∙ mask-byte (L .b3)) i;
     }

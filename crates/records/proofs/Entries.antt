@@ -3,13 +3,13 @@ use mathlib.Core.Path.{_≡_, refl, ap, ap₂, sym, _∙_}
 use mathlib.Core.List.{List, [], _∷_, _++_, append-assoc}
 use Prim.Native.Nat.{ℕ, zero, suc, _+_, _-_, _*_, _/_, _%_, _<_}
 use native.Mathlib.Omega.{arith}
-use lib.ListN.{length, take, drop, getD, set, length-append, length-take, length-drop}
-use lib.Seq.{drop-at, take-at, set-split, split-at, length-take-le, ext-getD}
+use lib.ListN.{length, take, drop, getD, length-append, length-take, length-drop}
+use lib.Seq.{drop-at, take-at, ext-getD}
 use Rattle.model.specs.Lists.{Each}
 use Rattle.model.specs.Tables.{writtenPlaces}
-use Rattle.model.specs.Log.{Record, recordAt, noNumber, noRecord}
+use Rattle.model.specs.Log.{Record, recordAt, noNumber}
 use Rattle.model.specs.Records.{recordLength, littleEndian, pathBytes, recordBytes, logBytes, numberAt, ruleAt, placeAt, stepsAt}
-use Rattle.model.proofs.RecordBytes.{length-path, length-record, length-log, log-around, number-drop, number-behind, number-cons, number-back, from-number, from-letter, from-before, from-after, from-round, record-from}
+use Rattle.model.proofs.RecordBytes.{length-path, length-log, log-around, number-drop, number-behind, number-cons, number-back, from-number, from-letter, from-before, from-after, from-round, record-from}
 use Rattle.records.specs.declared.Entry.{Entry}
 use Rattle.records.specs.Entries.{padded, pathPlace, recordEntry, entryBytes, HasRecord, withEntry, Fits, Reads}
 use Rattle.numbers.specs.NumberBytes.{withNumber}
@@ -117,36 +117,23 @@ module _ (r : Record) (rest : List ℕ) (f : Fits r) where
       ∙ number-behind 3 path tail (2 * writtenPlaces) (length-path writtenPlaces (r .path))
       ∙ number-back 3 (r .steps) rest (f .steps)
 
--- at the record's place in a list
-module _ (log : List ℕ) (n : ℕ) (r : Record) (rest : List ℕ) (e : drop (n * recordLength) log ≡ recordBytes r ++ rest) (f : Fits r) where
-  from-rule : ruleAt log n ≡ r .rule
-  unfolding ruleAt
-  from-rule = from-number log n r rest e 2 11 ∙ front-rule r rest f
-
-  from-place : (j : ℕ) → j < writtenPlaces → placeAt log n j ≡ pathPlace (r .path) j
-  unfolding placeAt
-  from-place j h = from-number log n r rest e 2 (13 + 2 * j) ∙ front-place r rest f j h
-
-  from-steps : stepsAt log n ≡ r .steps
-  unfolding stepsAt
-  from-steps = from-number log n r rest e 3 (13 + 2 * writtenPlaces) ∙ front-steps r rest f
-
-  from-all : Reads log n r
-  from-all = record {
-    letter = from-letter log n r rest e;
-    before = from-before log n r rest e;
-    after = from-after log n r rest e;
-    round = from-round log n r rest e (f .round);
-    rule = from-rule;
-    place = from-place;
-    steps = from-steps;
-  }
-
 -- a log that begins with the bytes of records whose numbers fit is read record by record
 pub log-reads : (records : List Record) (rest log : List ℕ) (n : ℕ) → log ≡ logBytes records ++ rest → n < length records → Fits (recordAt records n)
     → Reads log n (recordAt records n)
+unfolding ruleAt placeAt stepsAt
 log-reads records rest log n e h f =
-    from-all log n (recordAt records n) (logBytes (drop (suc n) records) ++ rest) (record-from records rest log n e h) f
+    let r = recordAt records n in
+    let tail = logBytes (drop (suc n) records) ++ rest in
+    let here = record-from records rest log n e h in
+    record {
+      letter = from-letter log n r tail here;
+      before = from-before log n r tail here;
+      after = from-after log n r tail here;
+      round = from-round log n r tail here (f .round);
+      rule = from-number log n r tail here 2 11 ∙ front-rule r tail f;
+      place = λ j l. from-number log n r tail here 2 (13 + 2 * j) ∙ front-place r tail f j l;
+      steps = from-number log n r tail here 3 (13 + 2 * writtenPlaces) ∙ front-steps r tail f;
+    }
 
 pub log-has : (records : List Record) (rest log : List ℕ) (n : ℕ) → log ≡ logBytes records ++ rest → n < length records → HasRecord log n
 log-has records rest log n e h = omega (arith, ap length e, length-append (logBytes records) rest, length-log records)
@@ -162,15 +149,10 @@ pub length-with : (log : List ℕ) (n : ℕ) (e : Entry) → HasRecord log n →
 unfolding withEntry entryBytes
 length-with log n e h = simp (length-append, length-take, length-drop) (omega (arith, length-path writtenPlaces (e .path)))
 
--- the record comes behind those of pre, and the bytes behind it stay
-with-behind : (pre : List Record) (r : Record) (rest log : List ℕ) (n : ℕ) → log ≡ logBytes pre ++ rest → n ≡ length pre
-    → withEntry log n (recordEntry r) ≡ logBytes pre ++ (recordBytes r ++ drop recordLength rest)
-unfolding withEntry
-with-behind pre r rest log n e p =
-    let size : length (logBytes pre) ≡ n * recordLength = omega (arith, length-log pre) in
-    rw (e, entry-bytes r, take-at (logBytes pre) rest (n * recordLength) size, drop-at (logBytes pre) rest (n * recordLength) size)
-
--- one record more
+-- one record more, and the bytes behind it stay
 pub log-appended : (records : List Record) (r : Record) (rest log : List ℕ) (n : ℕ) → log ≡ logBytes records ++ rest → n ≡ length records
     → withEntry log n (recordEntry r) ≡ logBytes (records ++ (r ∷ [])) ++ drop recordLength rest
-log-appended records r rest log n e p = with-behind records r rest log n e p ∙ sym (log-around records r [] (drop recordLength rest))
+unfolding withEntry
+log-appended records r rest log n e p =
+    let size : length (logBytes records) ≡ n * recordLength = omega (arith, length-log records) in
+    rw (e, entry-bytes r, take-at (logBytes records) rest (n * recordLength) size, drop-at (logBytes records) rest (n * recordLength) size) (sym (log-around records r [] (drop recordLength rest)))

@@ -3,6 +3,7 @@ use mathlib.Core.Path.{_≡_, refl, ap, sym, subst, _∙_}
 use mathlib.Core.List.{List, [], _∷_, _++_, append-assoc}
 use Prim.Native.Nat.{ℕ, zero, suc, _+_, _-_, _<_, _≤_}
 use native.Mathlib.Decide.{ℕ-discrete, decLt}
+use native.Mathlib.Nat.{le-refl}
 use native.Mathlib.Omega.{arith}
 use lib.ListN.{length, getD, drop, length-append, drop-of-length-le, List·getD-eq-default}
 use lib.Seq.{drop-cons}
@@ -20,11 +21,11 @@ use Rattle.stack.proofs.Numbers.{length-down, stack-push}
 use Rattle.unfold.specs.Turns.{placed, placesFrom, places, StackRoom, Pushed}
 
 -- ---- one place
-pub placed-none : (place : ℕ) (ns : List ℕ) → place ≡ noNumber → placed place ns ≡ ns
+placed-none : (place : ℕ) (ns : List ℕ) → place ≡ noNumber → placed place ns ≡ ns
 unfolding placed
 placed-none place ns e = rw (eq-eqb place noNumber e)
 
-pub placed-some : (place : ℕ) (ns : List ℕ) → (place ≡ noNumber → ⊥) → placed place ns ≡ place ∷ ns
+placed-some : (place : ℕ) (ns : List ℕ) → (place ≡ noNumber → ⊥) → placed place ns ≡ place ∷ ns
 unfolding placed
 placed-some place ns n = rw (ne-eqb place noNumber n)
 
@@ -40,11 +41,14 @@ placed-length place ns = ap length (placed-append place ns) ∙ length-append (p
 pub pushed-none : (s : List ℕ) (top place : ℕ) → place ≡ noNumber → Pushed s top (placed place []) s top
 pushed-none s top place e = record { size = refl; stack = sym (ap (λ (l : List ℕ). l ++ stackOf s top) (placed-none place [] e)) }
 
-pub pushed-some : (s : List ℕ) (top place : ℕ) → (place ≡ noNumber → ⊥) → place < 65536 → stackPlace top + 2 ≤ length s
+pub placed-one : (place : ℕ) → (place ≡ noNumber → ⊥) → length (placed place []) ≡ 1
+placed-one place n = ap length (placed-some place [] n)
+
+pub pushed-some : (s : List ℕ) (top place : ℕ) → (place ≡ noNumber → ⊥) → place < 65536 → StackRoom s (top + length (placed place []))
     → Pushed s top (placed place []) (withNumber 2 s (stackPlace top) place) (top + 1)
 pushed-some s top place n f h = record {
   size = length-number 2 s (stackPlace top) place;
-  stack = stack-push s top place h f ∙ sym (ap (λ (l : List ℕ). l ++ stackOf s top) (placed-some place [] n));
+  stack = stack-push s top place (omega (arith, placed-one place n)) f ∙ sym (ap (λ (l : List ℕ). l ++ stackOf s top) (placed-some place [] n));
 }
 
 -- ---- the loop: the places from j on are pushed
@@ -64,18 +68,13 @@ places-less log x j h l =
     let q : suc (j - 1) ≡ j = omega arith in
     ap (λ (k : ℕ). placesFrom log x (j - 1) k) e ∙ ap (λ (i : ℕ). placed (placeAt log x (j - 1)) (placesFrom log x i (4 - j))) q
 
--- the places from j on are no more than all
-places-fewer : (log : List ℕ) (x i j k : ℕ) → length (placesFrom log x (i + j) k) ≤ length (placesFrom log x j (i + k))
+-- the places from i on are no more than all
+places-fewer : (log : List ℕ) (x i k n : ℕ) → n ≡ i + k → length (placesFrom log x i k) ≤ length (placesFrom log x 0 n)
 unfolding placesFrom
-places-fewer log x zero j k = ap-le (omega arith) (omega arith)
-  where
-    ap-le : zero + j ≡ j → zero + k ≡ k → length (placesFrom log x (zero + j) k) ≤ length (placesFrom log x j (zero + k))
-    ap-le p q = rw (p, q) (omega arith)
-places-fewer log x (suc i) j k = step (places-fewer log x i (suc j) k) (omega arith) (omega arith)
-  where
-    step : length (placesFrom log x (i + suc j) k) ≤ length (placesFrom log x (suc j) (i + k)) → i + suc j ≡ suc i + j → suc i + k ≡ suc (i + k)
-        → length (placesFrom log x (suc i + j) k) ≤ length (placesFrom log x j (suc i + k))
-    step h p q = rw (← p, q) (omega (arith, placed-length (placeAt log x j) (placesFrom log x (suc j) (i + k))))
+places-fewer log x zero k n e = let same : n ≡ k = omega arith in rw same (le-refl (length (placesFrom log x 0 k)))
+places-fewer log x (suc i) k n e =
+    let more : length (placesFrom log x i (suc k)) ≤ length (placesFrom log x 0 n) = places-fewer log x i (suc k) n (omega arith) in
+    omega (arith, placed-length (placeAt log x i) (placesFrom log x (suc i) k))
 
 pub pushing-room : {log s : List ℕ} {top x j : ℕ} {s′ : List ℕ} {height : ℕ} → 0 < j → StackRoom s (top + length (places log x)) → Pushing log s top x j s′ height
     → StackRoom s′ (height + length (placed (placeAt log x (j - 1)) []))
@@ -83,9 +82,7 @@ pushing-room {log} {s} {top} {x} {j} {s′} {height} h room p =
     let tall : height ≡ length (placesFrom log x j (4 - j)) + top =
     sym (length-down s′ stackAt height) ∙ ap length (p .pushed .stack) ∙ length-append (placesFrom log x j (4 - j)) (stackOf s top)
     ∙ ap (λ (k : ℕ). length (placesFrom log x j (4 - j)) + k) (length-down s stackAt top) in
-    let all : length (placesFrom log x (j - 1 + 0) (4 - (j - 1))) ≤ length (placesFrom log x 0 (j - 1 + (4 - (j - 1)))) = places-fewer log x (j - 1) 0 (4 - (j - 1)) in
-    let whole : length (placesFrom log x 0 (j - 1 + (4 - (j - 1)))) ≡ length (places log x) = ap (λ (k : ℕ). length (placesFrom log x 0 k)) (omega (arith, p .left)) in
-    let same : length (placesFrom log x (j - 1 + 0) (4 - (j - 1))) ≡ length (placesFrom log x (j - 1) (4 - (j - 1))) = ap (λ (k : ℕ). length (placesFrom log x k (4 - (j - 1)))) (omega arith) in
+    let all : length (placesFrom log x (j - 1) (4 - (j - 1))) ≤ length (places log x) = places-fewer log x (j - 1) (4 - (j - 1)) 4 (omega (arith, p .left)) in
     let one : length (placesFrom log x (j - 1) (4 - (j - 1))) ≡ length (placed (placeAt log x (j - 1)) []) + length (placesFrom log x j (4 - j)) =
     ap length (places-less log x j h (p .left)) ∙ placed-length (placeAt log x (j - 1)) (placesFrom log x j (4 - j)) in
     omega (arith, p .pushed .size)
@@ -110,7 +107,7 @@ pushing-end {log} {s} {top} {x} {j} {s′} {height} h p =
     subst (λ (k : ℕ). Pushed s top (placesFrom log x k (4 - k)) s′ height) e (p .pushed)
 
 -- ---- the places of a record whose path is known
-places-from : (log : List ℕ) (x : ℕ) (path : List ℕ) → length path ≤ 4 → Each (λ (m : ℕ). m < noNumber) path → ((i : ℕ) → i < 4 → placeAt log x i ≡ pathPlace path i)
+pub places-from : (log : List ℕ) (x : ℕ) (path : List ℕ) → length path ≤ 4 → Each (λ (m : ℕ). m < noNumber) path → ((i : ℕ) → i < 4 → placeAt log x i ≡ pathPlace path i)
     → (k j : ℕ) → j + k ≡ 4 → placesFrom log x j k ≡ drop j path
 unfolding placesFrom
 places-from log x path short small is zero j e = sym (drop-of-length-le path {i = j} (omega arith))
@@ -125,6 +122,3 @@ places-from log x path short small is (suc k) j e =
           placed-none (getD path j noNumber) (drop (suc j) path) (List·getD-eq-default path noNumber {n = j} (omega arith))
           ∙ drop-of-length-le path {i = suc j} (omega arith) ∙ sym (drop-of-length-le path {i = j} (omega arith))
     ]
-
-pub places-path : (log : List ℕ) (x : ℕ) (path : List ℕ) → length path ≤ 4 → Each (λ (m : ℕ). m < noNumber) path → ((i : ℕ) → i < 4 → placeAt log x i ≡ pathPlace path i) → places log x ≡ path
-places-path log x path short small is = places-from log x path short small is 4 0 refl

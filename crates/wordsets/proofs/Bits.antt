@@ -1,6 +1,6 @@
 -- Bits of numbers and of lists of bytes.
-use mathlib.Core.Path.{_≡_, ap, ap₂, sym, subst, _∙_}
-use mathlib.Core.Bool.{Bool, false, _&&_, _||_}
+use mathlib.Core.Path.{_≡_, refl, ap, ap₂, sym, subst, _∙_}
+use mathlib.Core.Bool.{Bool, true, false, _&&_, _||_}
 use mathlib.Core.Logic.{inl}
 use mathlib.Core.List.{List}
 use Prim.Native.Nat.{ℕ, zero, suc, _+_, _-_, _*_, _/_, _%_, _^_, _<_, _≤_, min, max}
@@ -29,36 +29,23 @@ unfolding hasBit
 bit-zero x j e = ap (λ (n : ℕ). eqb n 1) e
 
 -- a digit is 0 or 1
-by-digit {ℓ} : {C : Type ℓ} (n : ℕ) → (n % 2 ≡ 0 → C) → (n % 2 ≡ 1 → C) → C
-by-digit n f g = by-test (eqb (n % 2) 1) (λ t. g (eqb-true (n % 2) 1 t)) (λ e. f (let ne : n % 2 ≡ 1 → ⊥ = eqb-false (n % 2) 1 e in omega arith))
+by-digit {ℓ} : (P : ℕ → Type ℓ) (n : ℕ) → P 0 → P 1 → P (n % 2)
+by-digit P n a b = by-test (eqb (n % 2) 1) (λ t. rw (eqb-true (n % 2) 1 t) b)
+    (λ e. let z : n % 2 ≡ 0 = (let ne : n % 2 ≡ 1 → ⊥ = eqb-false (n % 2) 1 e in omega arith) in rw z a)
 
 bit-or : (a b j : ℕ) → hasBit (bitOr a b) j ≡ hasBit a j || hasBit b j
 unfolding hasBit
 bit-or a b j =
-    let x = a / 2 ^ j in
-    let y = b / 2 ^ j in
-    let e : bitOr a b / 2 ^ j % 2 ≡ bitOr x y % 2 = ap (λ (n : ℕ). n % 2) (or-shr a b j) in
-    by-digit x
-    (λ p. by-digit y
-    (λ q. let z : bitOr x y % 2 ≡ 0 = omega (arith, or-step x y, ap₂ max p q) in rw (e ∙ z, p, q))
-    (λ q. let z : bitOr x y % 2 ≡ 1 = omega (arith, or-step x y, ap₂ max p q) in rw (e ∙ z, p, q)))
-    (λ p. by-digit y
-    (λ q. let z : bitOr x y % 2 ≡ 1 = omega (arith, or-step x y, ap₂ max p q) in rw (e ∙ z, p))
-    (λ q. let z : bitOr x y % 2 ≡ 1 = omega (arith, or-step x y, ap₂ max p q) in rw (e ∙ z, p)))
+    let e : bitOr a b / 2 ^ j % 2 ≡ max (a / 2 ^ j % 2) (b / 2 ^ j % 2) = ap (λ (n : ℕ). n % 2) (or-shr a b j) ∙ omega (arith, or-step (a / 2 ^ j) (b / 2 ^ j)) in
+    rw e (by-digit (λ (p : ℕ). eqb (max p (b / 2 ^ j % 2)) 1 ≡ (eqb p 1 || eqb (b / 2 ^ j % 2) 1)) (a / 2 ^ j)
+    (by-digit (λ (q : ℕ). eqb (max 0 q) 1 ≡ eqb q 1) (b / 2 ^ j) refl refl) (by-digit (λ (q : ℕ). eqb (max 1 q) 1 ≡ true) (b / 2 ^ j) refl refl))
 
 pub bit-and : (a b j : ℕ) → hasBit (bitAnd a b) j ≡ hasBit a j && hasBit b j
 unfolding hasBit
 bit-and a b j =
-    let x = a / 2 ^ j in
-    let y = b / 2 ^ j in
-    let e : bitAnd a b / 2 ^ j % 2 ≡ bitAnd x y % 2 = ap (λ (n : ℕ). n % 2) (and-shr a b j) in
-    by-digit x
-    (λ p. by-digit y
-    (λ q. let z : bitAnd x y % 2 ≡ 0 = omega (arith, and-step x y, ap₂ min p q) in rw (e ∙ z, p))
-    (λ q. let z : bitAnd x y % 2 ≡ 0 = omega (arith, and-step x y, ap₂ min p q) in rw (e ∙ z, p)))
-    (λ p. by-digit y
-    (λ q. let z : bitAnd x y % 2 ≡ 0 = omega (arith, and-step x y, ap₂ min p q) in rw (e ∙ z, p, q))
-    (λ q. let z : bitAnd x y % 2 ≡ 1 = omega (arith, and-step x y, ap₂ min p q) in rw (e ∙ z, p, q)))
+    let e : bitAnd a b / 2 ^ j % 2 ≡ min (a / 2 ^ j % 2) (b / 2 ^ j % 2) = ap (λ (n : ℕ). n % 2) (and-shr a b j) ∙ omega (arith, and-step (a / 2 ^ j) (b / 2 ^ j)) in
+    rw e (by-digit (λ (p : ℕ). eqb (min p (b / 2 ^ j % 2)) 1 ≡ (eqb p 1 && eqb (b / 2 ^ j % 2) 1)) (a / 2 ^ j)
+    (by-digit (λ (q : ℕ). eqb (min 0 q) 1 ≡ false) (b / 2 ^ j) refl refl) (by-digit (λ (q : ℕ). eqb (min 1 q) 1 ≡ eqb q 1) (b / 2 ^ j) refl refl))
 
 pub bit-shr : (x k j : ℕ) → hasBit (x / 2 ^ k) j ≡ hasBit x (k + j)
 bit-shr x k j = bit-is (x / 2 ^ k) j x (k + j) (ap (λ (n : ℕ). n % 2) (shr-shr x k j))
@@ -106,12 +93,12 @@ bit-high a b j h =
     sym (bit-shr (a + 256 * b) 8 j) ∙ ap (λ (n : ℕ). hasBit n j) e
 
 -- ---- numbers in bytes
-in-next : (s : List ℕ) (i j : ℕ) → inSet s (suc i) j ≡ inSet s i (8 + j)
+in-is : (s : List ℕ) (i j k l : ℕ) → i + j / 8 ≡ k + l / 8 → j % 8 ≡ l % 8 → inSet s i j ≡ inSet s k l
 unfolding inSet
-in-next s i j =
-    let a : i + (8 + j) / 8 ≡ suc i + j / 8 = omega arith in
-    let b : (8 + j) % 8 ≡ j % 8 = omega arith in
-    rw (a, b)
+in-is s i j k l a b = ap₂ (λ (n m : ℕ). hasBit (getD s n 0) m) a b
+
+in-next : (s : List ℕ) (i j : ℕ) → inSet s (suc i) j ≡ inSet s i (8 + j)
+in-next s i j = in-is s (suc i) j i (8 + j) (omega arith) (omega arith)
 
 in-first : (s : List ℕ) (i j : ℕ) → j < 8 → inSet s i j ≡ hasBit (getD s i 0) j
 unfolding inSet
@@ -171,8 +158,4 @@ unfolding inSet
 in-same s t at n e = ap (λ (b : ℕ). hasBit b (n % 8)) e
 
 pub in-word : (s : List ℕ) (at v j : ℕ) → inSet s at (64 * v + j) ≡ inSet s (at + 8 * v) j
-unfolding inSet
-in-word s at v j =
-    let a : at + (64 * v + j) / 8 ≡ at + 8 * v + j / 8 = omega arith in
-    let b : (64 * v + j) % 8 ≡ j % 8 = omega arith in
-    rw (a, b)
+in-word s at v j = in-is s at (64 * v + j) (at + 8 * v) j (omega arith) (omega arith)

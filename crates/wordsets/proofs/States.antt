@@ -18,11 +18,11 @@ stated D = D p0 * 512 + D p1 * 64 + D p2 * 8 + D p3
 abbrev pub plus : (Process → ℕ) → (Process → ℕ) → Process → ℕ
 plus X A i = X i + A i
 
-high-part : (a b c d : ℕ) → c < 8 → d < 8 → (a * 512 + b * 64 + c * 8 + d) / 64 ≡ 8 * a + b
-high-part a b c d h k = omega arith
+high-part : (D : Process → ℕ) → ((i : Process) → D i < 8) → stated D / 64 ≡ 8 * D p0 + D p1
+high-part D h = omega (arith, h p2, h p3)
 
-low-part : (a b c d : ℕ) → c < 8 → d < 8 → (a * 512 + b * 64 + c * 8 + d) % 64 ≡ 8 * c + d
-low-part a b c d h k = omega arith
+low-part : (D : Process → ℕ) → ((i : Process) → D i < 8) → stated D % 64 ≡ 8 * D p2 + D p3
+low-part D h = omega (arith, h p2, h p3)
 
 minus-two : (x y a b : ℕ) → 8 * (x + a) + (y + b) - (8 * x + y) ≡ 8 * a + b
 minus-two x y a b = omega arith
@@ -81,43 +81,23 @@ module _ (s : List ℕ) (from rest : ℕ) (X Y hi : Process → ℕ) (o : Offset
   abbrev y : ℕ
   y = stated Y
 
+  small : (i : Process) → X i < 8
+  small i = omega (arith, o .before i, o .some i)
+
   -- a number with such offsets is added exactly if its like is in the set
   pub adds-like : (A : Process → ℕ) → ((i : Process) → A i < hi i)
       → (inBlock (stated X) (hi p0) (hi p1) (stated (plus X A)) && gains s from (stated Y) (stated X) rest (stated (plus X A))) ≡ inSet s from (stated (plus Y A))
   unfolding inBlock gains
   adds-like A inside =
-      let n = stated (plus X A) in
       let a : (i : Process) → A i < 8 = λ i. omega (arith, o .before i, inside i) in
-      let bx : (i : Process) → X i < 8 = λ i. omega (arith, o .before i, o .some i) in
       let bn : (i : Process) → X i + A i < 8 = λ i. omega (arith, o .before i, inside i) in
-      let by : (i : Process) → Y i < 8 = λ i. omega (arith, o .after i, o .some i) in
       let bl : (i : Process) → Y i + A i < 8 = λ i. omega (arith, o .after i, inside i) in
-      let xh : x / 64 ≡ 8 * X p0 + X p1 = high-part (X p0) (X p1) (X p2) (X p3) (bx p2) (bx p3) in
-      let xl : x % 64 ≡ 8 * X p2 + X p3 = low-part (X p0) (X p1) (X p2) (X p3) (bx p2) (bx p3) in
-      let yh : y / 64 ≡ 8 * Y p0 + Y p1 = high-part (Y p0) (Y p1) (Y p2) (Y p3) (by p2) (by p3) in
-      let yl : y % 64 ≡ 8 * Y p2 + Y p3 = low-part (Y p0) (Y p1) (Y p2) (Y p3) (by p2) (by p3) in
-      let nh : n / 64 ≡ 8 * (X p0 + A p0) + (X p1 + A p1) = high-part (X p0 + A p0) (X p1 + A p1) (X p2 + A p2) (X p3 + A p3) (bn p2) (bn p3) in
-      let nl : n % 64 ≡ 8 * (X p2 + A p2) + (X p3 + A p3) = low-part (X p0 + A p0) (X p1 + A p1) (X p2 + A p2) (X p3 + A p3) (bn p2) (bn p3) in
-      let bit : hasBit rest (8 * A p2 + A p3) ≡ true = rest-has rest (hi p2) (hi p3) (A p2) (A p3) (a p2) (a p3) (o .bits) (inside p2) (inside p3) in
-      rw (
-        xh,
-        xl,
-        yh,
-        yl,
-        nh,
-        nl,
-        minus-two (X p0) (X p1) (A p0) (A p1),
-        minus-two (X p2) (X p3) (A p2) (A p3),
-        high-digit (A p0) (A p1) (a p1),
-        low-digit (A p0) (A p1) (a p1),
-        below-two (X p0) (X p1) (A p0) (A p1),
-        lt-ltb (A p0) (hi p0) (inside p0),
-        lt-ltb (A p1) (hi p1) (inside p1),
-        below-two (X p2) (X p3) (A p2) (A p3),
-        bit,
-        small-two (Y p2) (Y p3) (A p2) (A p3) (bl p2) (bl p3),
-        like-place (A p0) (A p1) (A p2) (A p3) (Y p0) (Y p1) (Y p2) (Y p3),
-      )
+      let by : (i : Process) → Y i < 8 = λ i. omega (arith, bl i) in
+      rw (high-part X small, low-part X small, high-part Y by, low-part Y by, high-part (plus X A) bn, low-part (plus X A) bn)
+      (rw (minus-two (X p0) (X p1) (A p0) (A p1), minus-two (X p2) (X p3) (A p2) (A p3), high-digit (A p0) (A p1) (a p1), low-digit (A p0) (A p1) (a p1))
+      (rw (below-two (X p0) (X p1) (A p0) (A p1), lt-ltb (A p0) (hi p0) (inside p0), lt-ltb (A p1) (hi p1) (inside p1), below-two (X p2) (X p3) (A p2) (A p3))
+      (rw (rest-has rest (hi p2) (hi p3) (A p2) (A p3) (a p2) (a p3) (o .bits) (inside p2) (inside p3), small-two (Y p2) (Y p3) (A p2) (A p3) (bl p2) (bl p3))
+      (rw (like-place (A p0) (A p1) (A p2) (A p3) (Y p0) (Y p1) (Y p2) (Y p3))))))
 
   -- and what is added has such offsets
   pub record Offsets (n : ℕ) : Type 0 where
@@ -139,9 +119,8 @@ module _ (s : List ℕ) (from rest : ℕ) (X Y hi : Process → ℕ) (o : Offset
       let both : (first && second) ≡ true = and-right (leb (x / 64) (n / 64)) (first && second) block in
       let bit : hasBit rest m ≡ true = and-left (hasBit rest m) found (and-right (leb (x % 64) (n % 64)) (hasBit rest m && found) gain) in
       let own : (ltb (m / 8) (hi p2) && ltb (m % 8) (hi p3)) ≡ true = sym (o .bits m (omega arith)) ∙ bit in
-      let bx : (i : Process) → X i < 8 = λ i. omega (arith, o .before i, o .some i) in
-      let nw : n / 64 ≡ 8 * X p0 + X p1 + w = past-is (n / 64) (x / 64) (8 * X p0 + X p1) (leb-true (x / 64) (n / 64) (and-left (leb (x / 64) (n / 64)) (first && second) block)) (high-part (X p0) (X p1) (X p2) (X p3) (bx p2) (bx p3)) in
-      let nm : n % 64 ≡ 8 * X p2 + X p3 + m = past-is (n % 64) (x % 64) (8 * X p2 + X p3) (leb-true (x % 64) (n % 64) (and-left (leb (x % 64) (n % 64)) (hasBit rest m && found) gain)) (low-part (X p0) (X p1) (X p2) (X p3) (bx p2) (bx p3)) in
+      let nw : n / 64 ≡ 8 * X p0 + X p1 + w = past-is (n / 64) (x / 64) (8 * X p0 + X p1) (leb-true (x / 64) (n / 64) (and-left (leb (x / 64) (n / 64)) (first && second) block)) (high-part X small) in
+      let nm : n % 64 ≡ 8 * X p2 + X p3 + m = past-is (n % 64) (x % 64) (8 * X p2 + X p3) (leb-true (x % 64) (n % 64) (and-left (leb (x % 64) (n % 64)) (hasBit rest m && found) gain)) (low-part X small) in
       record {
         offset = by-process (w / 8) (w % 8) (m / 8) (m % 8);
         inside = each-process (λ (i : Process). by-process (w / 8) (w % 8) (m / 8) (m % 8) i < hi i)

@@ -1,6 +1,6 @@
 -- Laws of sets by words: what one record adds.
 use mathlib.Core.Path.{_≡_, refl, ap, ap₂, sym, subst, _∙_}
-use mathlib.Core.Bool.{Bool, true, false, _&&_, _||_, false≢true}
+use mathlib.Core.Bool.{Bool, true, false, _&&_, _||_, false≢true, and-false, and-comm, or-false, or-assoc, and-or-distrib-right}
 use mathlib.Core.Logic.{⊎-elim, inl, inr}
 use mathlib.Core.List.{List}
 use Prim.Native.Nat.{ℕ, _+_, _-_, _*_, _/_, _%_, _^_, _<_, _≤_}
@@ -17,18 +17,6 @@ use Rattle.numbers.proofs.NumberBytes.{AllBytes, byte-kept, length-number, numb
 use Rattle.wordsets.specs.WordSets.{hasBit, inSet, wordSum, gains, inWords, OutsideSet, SetsApart, RowAdded, inBlock, BlockFits, RecordAdded}
 use Rattle.wordsets.proofs.Bits.{bit-and, bit-shr, number-bit, number-none, written-bit, sum-bit, in-same, in-word}
 
-and-false : (a : Bool) → (a && false) ≡ false
-and-false true = refl
-and-false false = refl
-
-and-swap : (a b : Bool) → (a && b) ≡ (b && a)
-and-swap true b = by-test b (λ t. rw t) (λ f. rw f)
-and-swap false b = sym (and-false b)
-
-or-false : (a : Bool) → (a || false) ≡ a
-or-false true = refl
-or-false false = refl
-
 or-left : (a b : Bool) → a ≡ true → (a || b) ≡ true
 or-left a b e = rw e
 
@@ -36,6 +24,13 @@ or-more : (a b c g : Bool) → (b ≡ true → c ≡ true) → (a || (b && g)) �
 or-more true b c g m e = refl
 or-more false true c g m e = rw (m refl) e
 or-more false false c g m e = absurd (false≢true e)
+
+-- the set `from` is as it was where only the set at `to` has changed
+from-same : {from to : ℕ} {s t : List ℕ} → SetsApart s from to → OutsideSet to s t → (q : ℕ) → q < 4096 → inSet t from q ≡ inSet s from q
+from-same {from} {to} {s} {t} sep out q h = in-same s t from q (⊎-elim
+    (λ (l : from + 512 ≤ to). out .before (from + q / 8) (omega arith))
+    (λ (l : to + 512 ≤ from). out .behind (from + q / 8) (omega arith))
+    (sep .apart))
 
 -- the words below w are added
 pub record Adding (from to y x rest low w : ℕ) (s t : List ℕ) (common : ℕ) : Type 0 where
@@ -61,7 +56,7 @@ adding-start from to y x rest low s b = record {
   bytes = b;
 }
 
-module _ (from to y x rest low high w : ℕ) (s t : List ℕ) (common : ℕ) (sep : SetsApart s from to) (less : w < high) (fy : y / 64 + high ≤ 64) (fx : x / 64 + high ≤ 64) (a : Adding from to y x rest low w s t common) where
+module _ {from to y x rest low high w : ℕ} {s t : List ℕ} {common : ℕ} (sep : SetsApart s from to) (less : w < high) (fy : y / 64 + high ≤ 64) (fx : x / 64 + high ≤ 64) (a : Adding from to y x rest low w s t common) where
   abbrev source : ℕ
   source = from + 8 * (y / 64 + w)
 
@@ -77,17 +72,10 @@ module _ (from to y x rest low high w : ℕ) (s t : List ℕ) (common : ℕ) (se
   room : target + 8 ≤ length t
   room = omega (arith, sep .to-room, a .row .outside .size)
 
-  -- the set `from` is as it was
-  from-same : (q : ℕ) → q < 4096 → inSet t from q ≡ inSet s from q
-  from-same q h = in-same s t from q (⊎-elim
-      (λ (l : from + 512 ≤ to). a .row .outside .before (from + q / 8) (omega arith))
-      (λ (l : to + 512 ≤ from). a .row .outside .behind (from + q / 8) (omega arith))
-      (sep .apart))
-
   -- bit q of the word that is read
   read-bit : (q : ℕ) → hasBit (numberAt 8 t source) q ≡ ltb q 64 && inSet s from (64 * (y / 64 + w) + q)
   read-bit q = elim (decLt q 64) [
-    | yes l ↦ number-bit 8 t source q (a .bytes) l ∙ sym (in-word t from (y / 64 + w) q) ∙ from-same (64 * (y / 64 + w) + q) (omega arith)
+    | yes l ↦ number-bit 8 t source q (a .bytes) l ∙ sym (in-word t from (y / 64 + w) q) ∙ from-same sep (a .row .outside) (64 * (y / 64 + w) + q) (omega arith)
         ∙ sym (ap (λ (b : Bool). b && inSet s from (64 * (y / 64 + w) + q)) (lt-ltb q 64 l))
     | no l ↦ number-none 8 t source q (a .bytes) (omega arith) ∙ sym (ap (λ (b : Bool). b && inSet s from (64 * (y / 64 + w) + q)) (le-ltb q 64 (omega arith)))
   ]
@@ -99,7 +87,7 @@ module _ (from to y x rest low high w : ℕ) (s t : List ℕ) (common : ℕ) (se
       let q = y % 64 + (j - x % 64) in
       in-word next to (x / 64 + w) j ∙ written-bit 8 t target value j room h ∙ sum-bit (numberAt 8 t source) (numberAt 8 t target) (y % 64) (x % 64) rest j h
       ∙ ap₂ (λ (b c : Bool). b || (leb (x % 64) j && c)) (number-bit 8 t target j (a .bytes) h ∙ sym (in-word t to (x / 64 + w) j))
-      (and-swap (hasBit (numberAt 8 t source) q) (hasBit rest (j - x % 64)) ∙ ap (λ (b : Bool). hasBit rest (j - x % 64) && b) (read-bit q))
+      (and-comm (hasBit (numberAt 8 t source) q) (hasBit rest (j - x % 64)) ∙ ap (λ (b : Bool). hasBit rest (j - x % 64) && b) (read-bit q))
 
   words-here : (n : ℕ) → n / 64 ≡ x / 64 + w → (inWords x low w n ≡ false) × (inWords x low (w + 1) n ≡ true)
   unfolding inWords
@@ -153,8 +141,8 @@ module _ (from to y x rest low high w : ℕ) (s t : List ℕ) (common : ℕ) (se
         | no e ↦ kept (64 * (x / 64 + v) + (x % 64 + j)) (omega arith) (a .row .shared j v (and-left (hasBit common j) (hasBit (value / 2 ^ (x % 64)) j) both) l p (omega arith))
       ]
 
-  turn : Adding from to y x rest low (w + 1) s next (bitAnd common (value / 2 ^ (x % 64)))
-  turn = record {
+  pub adding-turn : Adding from to y x rest low (w + 1) s next (bitAnd common (value / 2 ^ (x % 64)))
+  adding-turn = record {
     later = omega (arith, a .later);
     row = record {
       outside = record {
@@ -167,11 +155,6 @@ module _ (from to y x rest low high w : ℕ) (s t : List ℕ) (common : ℕ) (se
     };
     bytes = number-bytes 8 t target value (a .bytes);
   }
-
-pub adding-turn : {from to y x rest low high w : ℕ} {s t : List ℕ} {common : ℕ} → SetsApart s from to → w < high → y / 64 + high ≤ 64 → x / 64 + high ≤ 64 → Adding from to y x rest low w s t common
-    → Adding from to y x rest low (w + 1) s (withNumber 8 t (to + 8 * (x / 64 + w)) (wordSum (numberAt 8 t (from + 8 * (y / 64 + w))) (numberAt 8 t (to + 8 * (x / 64 + w))) (y % 64) (x % 64) rest))
-    (bitAnd common (wordSum (numberAt 8 t (from + 8 * (y / 64 + w))) (numberAt 8 t (to + 8 * (x / 64 + w))) (y % 64) (x % 64) rest / 2 ^ (x % 64)))
-adding-turn {from} {to} {y} {x} {rest} {low} {high} {w} {s} {t} {common} sep less fy fx a = turn from to y x rest low high w s t common sep less fy fx a
 
 -- ---- row after row
 no-block : (x words n : ℕ) → inBlock x 0 words n ≡ false
@@ -228,19 +211,8 @@ gains-same from to y x rest low high n s t sep out f = by-test (leb (x / 64 + lo
 
     inner : x / 64 + low ≤ n / 64 → n / 64 < x / 64 + high → (ltb q 64 && inSet t from k) ≡ (ltb q 64 && inSet s from k)
     inner h l = by-test (ltb q 64)
-        (λ m. let small : q < 64 = ltb-true q 64 m in
-        let low-enough : k < 4096 = omega arith in
-        ap (λ (b : Bool). ltb q 64 && b) (in-same s t from k (⊎-elim
-        (λ (z : from + 512 ≤ to). out .before (from + k / 8) (omega arith))
-        (λ (z : to + 512 ≤ from). out .behind (from + k / 8) (omega arith))
-        (sep .apart))))
+        (λ m. let small : q < 64 = ltb-true q 64 m in ap (λ (b : Bool). ltb q 64 && b) (from-same sep out k (omega arith)))
         (λ m. rw m)
-
-join-rows : (a b c g : Bool) → ((a || (b && g)) || (c && g)) ≡ (a || ((b || c) && g))
-join-rows true b c g = refl
-join-rows false true c true = refl
-join-rows false true c false = and-false c
-join-rows false false c g = refl
 
 pub record-turn : {from to y x rest rows words h : ℕ} {s t u : List ℕ} (common row : ℕ) → SetsApart s from to → BlockFits y x rows words → h < rows → RecordAdded from to y x rest h words s t common
     → RowAdded from to y x rest (8 * h) (8 * h + words) t u row → RecordAdded from to y x rest (h + 1) words s u (bitAnd common row)
@@ -253,7 +225,8 @@ record-turn {from} {to} {y} {x} {rest} {rows} {words} {h} {s} {t} {u} common row
   members = λ n q.
       r .members n q
       ∙ ap₂ (λ (c d : Bool). c || d) (b .members n q) (gains-same from to y x rest (8 * h) (8 * h + words) n s t sep (b .outside) (omega (arith, fits .after, fits .short)))
-      ∙ join-rows (inSet s to n) (inBlock x h words n) (inWords x (8 * h) (8 * h + words) n) (gains s from y x rest n)
+      ∙ or-assoc (inSet s to n) (inBlock x h words n && gains s from y x rest n) (inWords x (8 * h) (8 * h + words) n && gains s from y x rest n)
+      ∙ ap (λ (c : Bool). inSet s to n || c) (sym (and-or-distrib-right (inBlock x h words n) (inWords x (8 * h) (8 * h + words) n) (gains s from y x rest n)))
       ∙ ap (λ (c : Bool). inSet s to n || (c && gains s from y x rest n)) (sym (block-turn x h words n (fits .short)));
   shared = λ j i w bit f p q.
       let both : (hasBit common j && hasBit row j) ≡ true = sym (bit-and common row j) ∙ bit in

@@ -1,56 +1,31 @@
 -- The run of a table that is accepted.
-use Rattle.reach.proofs.Filling.{left-none, left-limit, rounds-few, settled-as, needs-more, needs-no-more}
+use Rattle.reach.proofs.Filling.{rounds-few}
 use Rattle.reach.proofs.Answering.{runs-short, runs-full, runs-limit}
 use borrow.Author.Needs.{needs}
 use Rattle.reach.proofs.run_table.Statement.{statement}
 use Rattle.reach.proofs.run_table.Tie as tie
 
-figure-requires : tie.Need-figure-requires
-figure-requires c κs =
-    let at-count = c .before .before .before .before in
-    let at-fill-log = at-count .before .before .before .before .before .before in
-    let entry = at-fill-log .before .before .before .before .before .before .before .before .before in
-    let a = entry .args in
-    let p = entry .pre in
-    rounds-few (a .table .now) (a .t) _ (a .log .now) (a .scratch .now) _ _ _ (at-fill-log .fill-log .ensures) _ _ (at-count .count .given .1)
-
-run-limit-requires : tie.Need-run-limit-requires
-run-limit-requires c κs =
-    let at-count = c .before .before .before .before .before in
-    let at-fill-log = at-count .before .before .before .before .before .before in
-    let entry = at-fill-log .before .before .before .before .before .before .before .before .before in
-    let a = entry .args in
-    let p = entry .pre in
-    settled-as (a .table .now) (a .t) _ (a .log .now) (a .scratch .now) _ _ _ (at-fill-log .fill-log .ensures) _ _ (at-count .count .given .1) _ (c .figure .ensures)
-
-returns-2 : tie.Need-returns-2
-returns-2 c =
-    let at-fill-log = c .before .before .before .before .before .before in
-    let at-if1 = at-fill-log .before .before .before in
-    let at-records-in = at-if1 .before in
-    let entry = at-records-in .before .before .before .before .before in
-    let a = entry .args in
-    let p = entry .pre in
-    runs-full (a .table .now) (a .log .now) (a .scratch .now) (a .t) p (a .page .now) (needs-no-more _ _ _ (at-records-in .records-in .ensures .0) (at-if1 .if1 .left)) _ (at-records-in .records-in .ensures .0) _ _ (left-none (a .table .now) (a .t) _ (a .log .now) (a .scratch .now) _ _ _ (at-fill-log .fill-log .ensures) (c .enum-told .given .1))
-
-returns-3 : tie.Need-returns-3
-returns-3 c =
-    let at-run-limit = c .before .before .before .before in
-    let at-count = at-run-limit .before .before .before .before .before .before in
-    let at-fill-log = at-count .before .before .before .before .before .before in
-    let at-if1 = at-fill-log .before .before .before in
-    let at-records-in = at-if1 .before in
-    let entry = at-records-in .before .before .before .before .before in
-    let a = entry .args in
-    let p = entry .pre in
-    runs-limit (a .table .now) (a .log .now) (a .scratch .now) (a .t) p (a .page .now) (needs-no-more _ _ _ (at-records-in .records-in .ensures .0) (at-if1 .if1 .left)) _ _ _ (at-records-in .records-in .ensures .0) _ _ _ _ (left-limit (a .table .now) (a .t) _ (a .log .now) (a .scratch .now) _ _ _ (at-fill-log .fill-log .ensures) _ _ (at-count .count .given .1)) _ (at-run-limit .run-limit .ensures)
-
 pub run-table-spec : {M : Type 1} → statement M
 run-table-spec = tie.close (tie.spec (λ c κs. search needs) (λ c. search needs) (λ c. search needs)
+    (λ c. runs-short (c .before .before .before .before .before .before .pre) (c .before .records-in .ensures .0) (c .if1 .taken))
+    (λ c κs. search needs) (λ c. search needs) (λ c. search needs)
+    (λ c κs.
+    let at-count = c .before .before .before .before in
+    rounds-few (rw (at-count .count .given .1) at (at-count .before .before .before .before .before .before .fill-log .ensures)))
+    (λ c κs.
+    let at-count = c .before .before .before .before .before in
+    let left = rw (at-count .count .given .1) at (at-count .before .before .before .before .before .before .fill-log .ensures) in
+    rw (c .figure .ensures) (left .settled))
+    (λ c. search needs) (λ c. search needs)
     (λ c.
-    let entry = c .before .before .before .before .before .before in
-    let a = entry .args in
-    let p = entry .pre in
-    runs-short (a .table .now) (a .log .now) (a .scratch .now) (a .t) p (a .page .now) (needs-more _ _ _ (c .before .records-in .ensures .0) (c .if1 .taken)))
-    (λ c κs. search needs) (λ c. search needs) (λ c. search needs) figure-requires run-limit-requires (λ c. search needs) (λ c. search needs)
-    returns-2 (λ c. search needs) (λ c. search needs) (λ c. search needs) returns-3)
+    let at-fill = c .before .before .before .before .before .before in
+    let at-records = at-fill .before .before .before .before in
+    runs-full (at-records .before .before .before .before .before .pre) (at-records .records-in .ensures .0) (at-fill .before .before .before .if1 .left) (rw (c .enum-told .given .1) at (at-fill .fill-log .ensures)))
+    (λ c. search needs) (λ c. search needs) (λ c. search needs)
+    (λ c.
+    let at-limit = c .before .before .before .before in
+    let at-count = at-limit .before .before .before .before .before .before in
+    let at-fill = at-count .before .before .before .before .before .before in
+    let at-records = at-fill .before .before .before .before in
+    runs-limit (at-records .before .before .before .before .before .pre) (at-records .records-in .ensures .0) (at-fill .before .before .before .if1 .left)
+    (rw (at-count .count .given .1) at (at-fill .fill-log .ensures)) (at-limit .run-limit .ensures)))
