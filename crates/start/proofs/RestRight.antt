@@ -31,7 +31,7 @@ use Rattle.packs.proofs.Packs.{pack-group, packed-same}
 use Rattle.packs.proofs.Unpacked.{restrict-bytes}
 use Rattle.rings.specs.Rings.{recordReads}
 use Rattle.table.specs.declared.Table.{Table}
-use Rattle.table.specs.Reading.{systemIn, pileIn, statesIn}
+use Rattle.table.specs.Reading.{Holds, systemIn, pileIn, statesIn}
 use Rattle.table.proofs.Layouts.{pile-count}
 use Rattle.stack.specs.RoundLogs.{RoundLog}
 use Rattle.stack.proofs.RoundLogs.{round-fits, round-reads}
@@ -202,16 +202,16 @@ number-same L g h o q = same-test (eqb (ownNumber L g) (ownNumber L h)) (sameGro
     (λ t. sameGroup-of g h (own-injective L g h o q (eqb-true (ownNumber L g) (ownNumber L h) t)))
     (λ t. eq-eqb (ownNumber L g) (ownNumber L h) (ap (ownNumber L) (sameGroup-true g h t)))
 
-pub set-last : {table : List ℕ} {t : Table} (ground : Grounds table t) → length (systemIn table .start .word) ≡ t .pile → (round : ℕ) (s s′ : List ℕ)
+pub set-last : {table : List ℕ} {t : Table} → Holds table t → (round : ℕ) (s s′ : List ℕ)
     → Filled (isNumberOf (processesOfTable t) (systemIn table .accepting)) (t .pile) s s′ → SetRight table t round s′ (t .pile)
 unfolding isNumberOf
-set-last {table} {t} ground size round s s′ f g o =
+set-last {table} {t} holds round s s′ f g o =
     let L = processesOfTable t in
     f .members (ownNumber L g) (own-below L g)
     ∙ any-agree (λ (h : Group). eqb (ownNumber L g) (ownNumber L h)) (sameGroup g) (systemIn table .accepting)
-    (each-map (Over L) (λ (h : Group). eqb (ownNumber L g) (ownNumber L h) ≡ sameGroup g h) (λ h q. number-same L g h o q) (systemIn table .accepting) (ground .accepting))
+    (each-map (Over L) (λ (h : Group). eqb (ownNumber L g) (ownNumber L h) ≡ sameGroup g h) (λ h q. number-same L g h o q) (systemIn table .accepting) (grounds table t holds .accepting))
     ∙ sym (ap (λ (w : List ℕ). accepts (systemIn table .loc) (keys (logAt (systemIn table) round)) (systemIn table .accepting) w g)
-    (drop-of-length-le (systemIn table .start .word) {i = t .pile} (omega arith)))
+    (drop-of-length-le (systemIn table .start .word) {i = t .pile} (omega (arith, pile-count table t holds))))
 
 -- ---- the sets from the back
 right-same : (table : List ℕ) (t : Table) (round : ℕ) (s s′ : List ℕ) (k : ℕ) → setAt s′ k ≡ setAt s k → SetRight table t round s k → SetRight table t round s′ k
