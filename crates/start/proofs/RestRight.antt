@@ -1,7 +1,7 @@
 -- The sets are right: a state is in set k exactly if the records accept the rest of the start word from letter k on.
 use mathlib.Core.Path.{_≡_, refl, ap, ap₂, sym, subst, _∙_}
 use mathlib.Core.Bool.{Bool, true, false, _&&_, _||_, true≢false}
-use mathlib.Core.Logic.{inl, inr, ⊎-elim}
+use mathlib.Core.Logic.{_⊎_, inr, ⊎-elim}
 use mathlib.Core.List.{List, [], _∷_, map}
 use Prim.Native.Nat.{ℕ, zero, suc, _+_, _-_, _*_, _%_, _<_, _≤_}
 use native.Mathlib.Decide.{decLt}
@@ -22,7 +22,7 @@ use Rattle.model.proofs.Lists.{any-of, each-map, getD-mem}
 use Rattle.model.proofs.LogPaths.{reads-letter}
 use Rattle.model.proofs.Tests.{by-test, same-test}
 use Rattle.automaton.specs.StateNumbers.{stateCount, stateNumber, digit, Over}
-use Rattle.automaton.specs.StateSets.{member, firstFrom}
+use Rattle.automaton.specs.StateSets.{setLength, member, firstFrom}
 use Rattle.automaton.proofs.StateSets.{first-of}
 use Rattle.model.specs.Records.{recordLength, beforeAt, afterAt}
 use Rattle.records.specs.Entries.{Fits, Reads}
@@ -32,17 +32,16 @@ use Rattle.packs.proofs.Unpacked.{restrict-bytes}
 use Rattle.rings.specs.Rings.{recordReads}
 use Rattle.table.specs.declared.Table.{Table}
 use Rattle.table.specs.Reading.{Holds, systemIn, pileIn, statesIn}
-use Rattle.table.proofs.Layouts.{pile-count}
-use Rattle.stack.specs.RoundLogs.{RoundLog}
+use Rattle.table.proofs.Layouts.{table-modest, pile-count}
+use Rattle.stack.specs.RoundLogs.{RoundLog, SomeRound}
 use Rattle.stack.proofs.RoundLogs.{round-fits, round-reads}
 use Rattle.start.specs.declared.Letter.{Letter}
 use Rattle.scratch.specs.Regions.{ringsAt}
-use Rattle.start.specs.Regions.{setAt, setsEnd, Linked, SameBut, OnlySet}
-use Rattle.start.specs.RestSets.{processesOfTable, noStates, plainGroup, ownNumber}
-use Rattle.start.specs.RestSets.{LetterAt, leads, firstLead, someLead, EmptySet, Filled, isNumberOf, acceptsFrom, SetRight, RightForLog}
+use Rattle.start.specs.Regions.{setPlace, setAt, Linked, SameBut, OnlySet}
+use Rattle.start.specs.RestSets.{processesOfTable, noStates, plainGroup, ownNumber, LetterAt, leads, firstLead, someLead, EmptySet, Filled, isNumberOf, acceptsFrom, SetRight, RightForLog}
 use Rattle.start.specs.OwnGroups.{lastStates, Numbered, FrameTo, Added}
 use Rattle.start.specs.declared.Frame.{Frame}
-use Rattle.start.proofs.ScratchRegions.{linked-same, set-same}
+use Rattle.start.proofs.ScratchRegions.{same-join, linked-same, set-same}
 use Rattle.start.proofs.Leading.{lead-not, lead-reads}
 use Rattle.start.proofs.OwnGroups.{own-digit, own-below}
 use Rattle.start.proofs.Grounds.{over-merge, Grounds, grounds}
@@ -182,7 +181,7 @@ module _ {table : List ℕ} {t : Table} {round : ℕ} {log : List ℕ} {count : 
       (λ m. rw m (omega (arith, ground .accepted round i g y j, ground .states j m .0, ground .states j m .1)))
       (λ n. rw n (omega arith)))
 
-  pub set-before : (s s′ : List ℕ) (f : Frame) → SetRight table t round s (i + 1) → EmptySet s i → FrameTo (processesOf (a .bits)) (lastStates table t) f
+  set-before : (s s′ : List ℕ) (f : Frame) → SetRight table t round s (i + 1) → EmptySet s i → FrameTo (processesOf (a .bits)) (lastStates table t) f
       → Added log count (setAt s (i + 1)) a f (λ (z : ℕ). z < stateCount) i s s′ → SetRight table t round s′ i
   unfolding ownNumber
   set-before s s′ f next empty to d g o =
@@ -214,18 +213,20 @@ set-last {table} {t} holds round s s′ f g o =
     (drop-of-length-le (systemIn table .start .word) {i = t .pile} (omega (arith, pile-count table t holds))))
 
 -- ---- the sets from the back
-right-same : (table : List ℕ) (t : Table) (round : ℕ) (s s′ : List ℕ) (k : ℕ) → setAt s′ k ≡ setAt s k → SetRight table t round s k → SetRight table t round s′ k
-right-same table t round s s′ k e r g o = ap (λ (l : List ℕ). member l (ownNumber (processesOfTable t) g)) e ∙ r g o
+-- a set stays right where other bytes change
+pub right-kept : {table : List ℕ} {t : Table} {log : List ℕ} {count low high : ℕ} {s s′ : List ℕ} (k : ℕ) → k ≤ 64 → ringsAt ≤ length s
+    → (setPlace k + setLength ≤ low) ⊎ (high ≤ setPlace k) → SameBut low high s s′ → RightForLog table t log count s k → RightForLog table t log count s′ k
+right-kept {t = t} k l room d w r round lent g o = ap (λ (members : List ℕ). member members (ownNumber (processesOfTable t) g)) (set-same k (omega arith) d w) ∙ r round lent g o
 
--- a set behind one that has changed stays right
-pub right-behind : (table : List ℕ) (t : Table) (round : ℕ) {s s′ : List ℕ} (i k : ℕ) → i < k → k ≤ 64 → ringsAt ≤ length s → OnlySet i s s′ → SetRight table t round s k
-    → SetRight table t round s′ k
-right-behind table t round {s} {s′} i k h l room w r = right-same table t round s s′ k (set-same k (omega arith) (inr (omega arith)) w) r
-
--- every set stays right where only the bytes behind the sets change
-pub right-before : (table : List ℕ) (t : Table) (round : ℕ) {low high : ℕ} {s s′ : List ℕ} (k : ℕ) → k ≤ 64 → setsEnd ≤ low → ringsAt ≤ length s → SameBut low high s s′
-    → SetRight table t round s k → SetRight table t round s′ k
-right-before table t round {s = s} {s′ = s′} k l h room w r = right-same table t round s s′ k (set-same k (omega arith) (inl (omega arith)) w) r
+-- set i, which was cleared, from set i + 1
+pub set-filled : {table : List ℕ} {t : Table} {log : List ℕ} {count n : ℕ} {s s′ s″ : List ℕ} {i : ℕ} {a : Letter} {last : Group} {f : Frame}
+    → SomeRound table t log count × Linked log count n s × (i < t .pile) × RightForLog table t log count s (i + 1) → LetterAt table i a → OnlySet i s s′ × EmptySet s′ i
+    → last ≡ lastStates table t → FrameTo (processesOf (a .bits)) last f → Added log count (setAt s′ (i + 1)) a f (λ (z : ℕ). z < stateCount) i s′ s″
+    → OnlySet i s s″ × RightForLog table t log count s″ i
+set-filled {table} {t} {i = i} {a = a} {f = f} p letter cleared is to d =
+    let small : t .pile ≤ 64 = table-modest table t (p .0 .1 .holds) .pile in
+    let next = right-kept (i + 1) (omega (arith, p .2)) (omega (arith, p .1 .room .room)) (inr (omega arith)) (cleared .0) (p .3) in
+    (same-join (cleared .0) (d .same), λ round lent. set-before lent i (p .2) a letter _ _ f (next round lent) (cleared .1) (subst (λ (g : Group). FrameTo (processesOf (a .bits)) g f) is to) d)
 
 -- the loop: the sets from i on are right
 pub record Backwards (table : List ℕ) (t : Table) (log : List ℕ) (count n : ℕ) (s : List ℕ) (i : ℕ) (s′ : List ℕ) : Type 0 where
@@ -243,15 +244,16 @@ backwards-start {table} {t} {log} {count} s linked r = record {
   right = λ k a b. let e : t .pile ≡ k = omega arith in subst (λ (j : ℕ). RightForLog table t log count s j) e r;
 }
 
-pub backwards-turn : {table : List ℕ} {t : Table} {log : List ℕ} {count n : ℕ} {s s′ s″ : List ℕ} {i : ℕ} → 0 < i → t .pile ≤ 64 → Backwards table t log count n s i s′
-    → OnlySet (i - 1) s′ s″
-    → RightForLog table t log count s″ (i - 1) → Backwards table t log count n s (i - 1) s″
-backwards-turn {table} {t} {log} {count} {s″ = s″} {i = i} h small b w r = record {
-  few = omega (arith, b .few);
-  size = w .size ∙ b .size;
-  linked = linked-same (omega (arith, b .few)) w (b .linked);
-  right = λ k l m. elim (decLt (i - 1) k) [
-    | yes n ↦ λ round lent. right-behind table t round (i - 1) k n (omega arith) (omega (arith, b .linked .room .room)) w (b .right k (omega arith) m round lent)
-    | no n ↦ let e : i - 1 ≡ k = omega arith in subst (λ (j : ℕ). RightForLog table t log count s″ j) e r
-  ];
-}
+pub backwards-turn : {table : List ℕ} {t : Table} {log : List ℕ} {count n : ℕ} {s s′ s″ : List ℕ} {i : ℕ} → SomeRound table t log count → 0 < i → Backwards table t log count n s i s′
+    → OnlySet (i - 1) s′ s″ × RightForLog table t log count s″ (i - 1) → Backwards table t log count n s (i - 1) s″
+backwards-turn {table} {t} {log} {count} {s″ = s″} {i = i} lent h b w =
+    let small : t .pile ≤ 64 = table-modest table t (lent .1 .holds) .pile in
+    record {
+      few = omega (arith, b .few);
+      size = w .0 .size ∙ b .size;
+      linked = linked-same (omega (arith, b .few)) (w .0) (b .linked);
+      right = λ k l m. elim (decLt (i - 1) k) [
+        | yes n ↦ right-kept k (omega arith) (omega (arith, b .linked .room .room)) (inr (omega arith)) (w .0) (b .right k (omega arith) m)
+        | no n ↦ let e : i - 1 ≡ k = omega arith in subst (λ (j : ℕ). RightForLog table t log count s″ j) e (w .1)
+      ];
+    }
