@@ -44,7 +44,7 @@ use Rattle.start.specs.declared.Frame.{Frame}
 use Rattle.start.proofs.ScratchRegions.{same-join, linked-same, set-same}
 use Rattle.start.proofs.Leading.{lead-not, lead-reads}
 use Rattle.start.proofs.OwnGroups.{own-digit, own-below}
-use Rattle.start.proofs.Grounds.{over-merge, Grounds, grounds}
+use Rattle.start.proofs.Grounds.{Grounds, grounds}
 
 -- ---- some element passes a test
 first-agree : (test other : ℕ → Bool) (n k : ℕ) → ((j : ℕ) → n ≤ j → j < n + k → test j ≡ other j) → firstFrom test n k ≡ firstFrom other n k
@@ -137,13 +137,6 @@ module _ {table : List ℕ} {t : Table} {round : ℕ} {log : List ℕ} {count : 
       (letter .bits .same ∙ sym (ap (sys .loc) (reads-letter (sys .loc) (pileIn table i) g (recordAt records r) y)))
       (round-reads lent r h .after)
 
-  pub target-over : (g : Group) (r : ℕ) → r < count → Over (processesOfTable t) g
-      → readsAt (systemIn table .loc) (pileIn table i) g (recordAt (logAt (systemIn table) round) r) ≡ true
-      → Over (processesOfTable t) (move (systemIn table .loc) (recordAt (logAt (systemIn table) round) r .key) g)
-  target-over g r h o y = over-merge (processesOfTable t) (sys .loc (recordAt records r .key .letter)) (recordAt records r .key .after) g
-      (rw (reads-letter (sys .loc) (pileIn table i) g (recordAt records r) y) (ground .letters i inside))
-      (ground .below round r (omega (arith, lent .size))) o
-
   module _ (s : List ℕ) (next : SetRight table t round s (i + 1)) (g : Group) (o : Over (processesOfTable t) g) where
     lead-is : (r : ℕ) → r < count → leads log (setAt s (i + 1)) a (plainGroup (processesOfTable t) g) r
         ≡ goesOn (systemIn table) (logAt (systemIn table) round) (pileIn table i) (drop (i + 1) (systemIn table .start .word)) g r
@@ -152,7 +145,7 @@ module _ {table : List ℕ} {t : Table} {round : ℕ} {log : List ℕ} {count : 
         (λ y. rw y (lead-reads log (setAt s (i + 1)) a (plainGroup (processesOfTable t) g) r (reads-is g o r h ∙ y)
         ∙ ap (λ (x : Group). member (setAt s (i + 1)) (stateNumber x)) (sym (merge-within (processesOfTable t) (processesOf (a .bits)) (afterAt log r) g noStates own-within))
         ∙ ap (λ (x : Group). member (setAt s (i + 1)) (ownNumber (processesOfTable t) x)) (target-is g r h y)
-        ∙ next (move (sys .loc) (recordAt records r .key) g) (target-over g r h o y)))
+        ∙ next (move (sys .loc) (recordAt records r .key) g) (ground .moves round r (omega (arith, lent .size)) g o)))
         (λ n. rw n (lead-not log (setAt s (i + 1)) a (plainGroup (processesOfTable t) g) r (reads-is g o r h ∙ n)))
 
     pub first-is-lead : firstLead log count (setAt s (i + 1)) a (plainGroup (processesOfTable t) g)

@@ -2,24 +2,21 @@
 use mathlib.Core.Path.{_≡_, ap, sym, subst, _∙_}
 use mathlib.Core.Bool.{true}
 use mathlib.Core.Option.{some}
-use mathlib.Core.List.{List, List·Memᴰ, [], _∷_, map}
-use Prim.Native.Nat.{ℕ, zero, suc, _<_}
+use mathlib.Core.List.{List, List·Memᴰ, [], _∷_}
+use Prim.Native.Nat.{ℕ, _<_}
 use lib.ListN.{getElem?}
 use Rattle.model.specs.declared.Group.{Group}
 use Rattle.model.specs.Automata.{Along, Transition, move}
 use Rattle.model.specs.Groups.{Process, Processes, at, has}
 use Rattle.model.specs.Lists.{Each}
-use Rattle.model.specs.Log.{Candidate, additions, collect, initialCandidate, keys, logAt}
+use Rattle.model.specs.Log.{Record, keys, logAt}
 use Rattle.model.specs.Systems.{InAutomaton, Rule, System, accepts}
 use Rattle.model.proofs.Acceptance.{accepts-true}
-use Rattle.model.proofs.Collecting.{Reasoned, additions-reasoned, candidateKeys, keys-suc}
 use Rattle.model.proofs.Groups.{at-merge, at-restrict}
-use Rattle.model.proofs.Lists.{each-append, each-get, each-map}
-use Rattle.model.proofs.Order.{each-candidateKeys}
-use Rattle.model.proofs.Reachability.{keys-initial}
+use Rattle.model.proofs.Lists.{each-get, each-map, each-of-map}
 use Rattle.model.proofs.Soundness.{ControlOn}
 use Rattle.model.proofs.Tests.{by-test}
-use Rattle.model.proofs.Validity.{initial-each}
+use Rattle.logs.proofs.Logs.{each-round}
 
 -- the transition's states before are below q at its letter's processes
 abbrev pub From : (ℕ → Processes) → (Process → ℕ) → Transition → Type 0
@@ -30,20 +27,9 @@ pub record Rooted (sys : System) (q : Process → ℕ) : Type 0 where
   pub automaton : (t : Transition) → InAutomaton sys t → From (sys .loc) q t
 
 -- ---- every transition of the log
-module _ (sys : System) (q : Process → ℕ) (b : Rooted sys q) where
-  from-zero : Each (From (sys .loc) q) (keys (logAt sys 0))
-  unfolding logAt
-  from-zero = rw keys-initial (each-candidateKeys (From (sys .loc) q) (collect [] (map initialCandidate (sys .transitions)) [])
-      (each-map (λ (c : Candidate). List·Memᴰ (c .key) (sys .transitions)) (λ (c : Candidate). From (sys .loc) q (c .key)) (λ c m. b .automaton (c .key) m) (collect [] (map initialCandidate (sys .transitions)) []) (initial-each sys)))
-
-  from-suc : (k : ℕ) → Each (From (sys .loc) q) (keys (logAt sys k)) → Each (From (sys .loc) q) (keys (logAt sys (suc k)))
-  from-suc k e = rw (keys-suc sys k) (each-append (From (sys .loc) q) (keys (logAt sys k)) (candidateKeys (additions sys (logAt sys k))) e
-      (each-candidateKeys (From (sys .loc) q) (additions sys (logAt sys k)) (each-map (Reasoned sys (logAt sys k)) (λ (c : Candidate). From (sys .loc) q (c .key))
-      (λ c ρ. rw (ρ .key-is) (b .rules (c .rule) (ρ .rule) (ρ .is))) (additions sys (logAt sys k)) (additions-reasoned sys (logAt sys k)))))
-
-  pub log-from : (k : ℕ) → Each (From (sys .loc) q) (keys (logAt sys k))
-  log-from zero = from-zero
-  log-from (suc k) = from-suc k (log-from k)
+pub log-from : (sys : System) (q : Process → ℕ) → Rooted sys q → (k : ℕ) → Each (From (sys .loc) q) (keys (logAt sys k))
+log-from sys q b k = each-of-map (From (sys .loc) q) (λ (x : Record). x .key) (logAt sys k) (each-round sys (λ k x. From (sys .loc) q (x .key)) (b .automaton) (λ k x p. p)
+    (λ k e c ρ. rw (ρ .key-is) (b .rules (c .rule) (ρ .rule) (ρ .is))) k)
 
 -- ---- back along a path
 module _ (loc : ℕ → Processes) (q : Process → ℕ) (i : Process) where

@@ -42,7 +42,7 @@ use Rattle.start.specs.RestSets.{processesOfTable, plainGroup, LetterAt,
 use Rattle.start.specs.Search.{pathFrom, roundPath, OnPath, Underway, Advanced, PathWritten, startFound, Sought}
 use Rattle.start.proofs.ScratchRegions.{same-none, same-join, linked-same}
 use Rattle.start.proofs.Grounds.{grounds}
-use Rattle.start.proofs.RestRight.{right-kept, goesOn, word-from, target-is, target-over, first-is-lead, lead-accepts}
+use Rattle.start.proofs.RestRight.{right-kept, goesOn, word-from, target-is, first-is-lead, lead-accepts}
 
 -- ---- the lowest record that leads on
 pick-first : (sys : System) (b : ℕ) (g : Group) (ok : Group → Bool) (next : Group → Option Path) (rs : List Record) (n j : ℕ) → j < length rs
@@ -98,7 +98,7 @@ module _ {table : List ℕ} {t : Table} {round : ℕ} {log : List ℕ} {count : 
     pub next-record : (g′ : Group) → g′ ≡ merge (processesOf (a .bits)) (afterAt log r) g → NextRecord table t round i g count r g′
     next-record g′ e = subst (NextRecord table t round i g count r) (sym (e ∙ target-is lent i inside a letter g r lead-inside reads)) (record {
       inside = lead-inside;
-      over = target-over lent i inside a letter g r lead-inside o reads;
+      over = grounds table t (lent .holds) .moves round r (omega (arith, lead-inside, lent .size)) g o;
       accepted = and-right (readsAt (sys .loc) (pileIn table i) g (recordAt records r)) (accepts (sys .loc) (keys records) (sys .accepting) rest (move (sys .loc) (recordAt records r .key) g)) goes;
       first = path-step;
     })
