@@ -8,13 +8,14 @@ use native.Mathlib.Decide.{ℕ-discrete, decLt}
 use native.Mathlib.Omega.{arith}
 use lib.ListN.{length}
 use Rattle.model.specs.declared.Group.{Group}
-use Rattle.model.specs.Groups.{Processes, p0, p1, p2, p3, processesOf, restrict, merge}
-use Rattle.automaton.specs.StateNumbers.{stateCount, stateNumber, groupNumbered}
+use Rattle.model.specs.Groups.{Processes, processesOf, restrict, merge}
+use Rattle.automaton.specs.StateNumbers.{stateCount, stateNumber, digit, groupNumbered}
 use Rattle.automaton.specs.StateSets.{setLength, member, firstFrom}
 use Rattle.automaton.proofs.StateNumbers.{stateNumber-below}
 use Rattle.automaton.proofs.StateSets.{first-at}
 use Rattle.model.specs.Records.{afterAt}
 use Rattle.wordsets.specs.WordSets.{hasBit, inSet, gains, inBlock, OutsideSet, SetsApart, RecordAdded, BlockFits}
+use Rattle.wordsets.proofs.States.{each-process}
 use Rattle.packs.specs.Packs.{packed}
 use Rattle.rings.specs.Rings.{recordReads}
 use Rattle.start.specs.declared.Frame.{Frame}
@@ -28,10 +29,7 @@ use Rattle.start.proofs.Leading.{lead-not, lead-reads, some-lead, the-l
 use Rattle.start.proofs.OwnGroups.{own-below, numbered-own, own-fits, own-place, gains-lead, gains-own}
 
 zero-under : (top : ℕ) → Under top 0
-zero-under top p0 = omega arith
-zero-under top p1 = omega arith
-zero-under top p2 = omega arith
-zero-under top p3 = omega arith
+zero-under top = each-process (λ i. digit 0 i ≤ digit top i) (omega arith) (omega arith) (omega arith) (omega arith)
 
 or-left : (b c : Bool) → b ≡ true → (b || c) ≡ true
 or-left b c e = rw e

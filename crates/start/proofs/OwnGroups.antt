@@ -16,26 +16,22 @@ use Rattle.packs.proofs.Unpacked.{merge-bytes}
 use Rattle.automaton.specs.StateNumbers.{stateCount, stateNumber, digit, groupNumbered}
 use Rattle.automaton.proofs.StateNumbers.{stateNumber-below, digit-number, digits-number, at-numbered}
 use Rattle.wordsets.specs.WordSets.{hasBit, inSet, gains, inBlock, BlockFits}
-use Rattle.wordsets.proofs.States.{stated, plus, rest-has, Offset, adds-like, added-offsets}
+use Rattle.wordsets.proofs.States.{each-process, stated, plus, rest-has, Offset, adds-like, added-offsets}
 use Rattle.start.specs.declared.Frame.{Frame}
 use Rattle.start.specs.RestSets.{noStates, ownNumber}
 use Rattle.start.specs.OwnGroups.{Under, extent, Framed, Numbered, InFrame}
 
 -- ---- digits
 pub digit-small : (x : ℕ) (i : Process) → digit x i < 8
-digit-small x p0 = omega arith
-digit-small x p1 = omega arith
-digit-small x p2 = omega arith
-digit-small x p3 = omega arith
+digit-small x = each-process (λ i. digit x i < 8) (omega arith) (omega arith) (omega arith) (omega arith)
 
 stated-same : (D E : Process → ℕ) → ((i : Process) → D i ≡ E i) → stated D ≡ stated E
 stated-same D E e = omega (arith, e p0, e p1, e p2, e p3)
 
 digit-stated : (D : Process → ℕ) → ((i : Process) → D i < 8) → (i : Process) → digit (stated D) i ≡ D i
-digit-stated D h p0 = omega (arith, h p0, h p1, h p2, h p3)
-digit-stated D h p1 = omega (arith, h p0, h p1, h p2, h p3)
-digit-stated D h p2 = omega (arith, h p0, h p1, h p2, h p3)
-digit-stated D h p3 = omega (arith, h p0, h p1, h p2, h p3)
+digit-stated D h =
+    let low : (D p0 < 8) × (D p1 < 8) × (D p2 < 8) × (D p3 < 8) = (h p0, h p1, h p2, h p3) in
+    each-process (λ i. digit (stated D) i ≡ D i) (omega (arith, low)) (omega (arith, low)) (omega (arith, low)) (omega (arith, low))
 
 number-stated : (g : Group) → stateNumber g ≡ stated (λ i. at g i % 8)
 unfolding stateNumber
@@ -47,10 +43,7 @@ digits-same x y h l e = sym (digits-number x h) ∙ stated-same (digit x) (digit
 
 -- ---- own numbers
 zero-at : (i : Process) → at noStates i ≡ 0
-zero-at p0 = refl
-zero-at p1 = refl
-zero-at p2 = refl
-zero-at p3 = refl
+zero-at = each-process (λ i. at noStates i ≡ 0) refl refl refl refl
 
 pub own-digit : (L : Processes) (g : Group) (i : Process) → digit (ownNumber L g) i ≡ cond (has L i) (at g i % 8) 0
 unfolding ownNumber
