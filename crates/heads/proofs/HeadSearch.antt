@@ -24,6 +24,7 @@ use Rattle.automaton.proofs.StateSets.{First, first-at}
 use Rattle.logs.proofs.Rules.{rule-over}
 use Rattle.packs.specs.Packs.{Bytes, packed}
 use Rattle.packs.proofs.Packs.{same-bits}
+use Rattle.logs.proofs.Logs.{over-byte}
 use Rattle.paths.specs.Arrivals.{hit, stored, taken}
 use Rattle.paths.specs.Jobs.{seenIn}
 use Rattle.paths.proofs.Arrivals.{hit-append, or-assoc, or-false, stored-append, stored-capped, stored-earlier, stored-length, taken-append, taken-same}
@@ -41,7 +42,6 @@ use Rattle.heads.specs.Heads.{Arrived, HeadSearched, Leading, beforeOf, 
 use Rattle.heads.specs.Jobs.{HeadOf, hasHead}
 use Rattle.heads.specs.Rounds.{InRound, earlierLog, headAt, isActive, isOffered, lookedAt, ruleCandidates, ruleOffers}
 use Rattle.heads.proofs.InRounds.{active-kept, order-kept, round-kept}
-use Rattle.heads.proofs.StoredRecords.{over-bytes}
 
 -- ---- candidates that arrive one after the other
 arrived-none : (table : List ℕ) (round : Round) (count : ℕ) (log s : List ℕ) → count ≤ round .n + 1 → Arrived table round [] count log s count log s
@@ -123,7 +123,7 @@ head-parts a b r e = (eqb-true (r .letter) a (and-left (eqb (r .letter) a) (same
 
 module _ (table : List ℕ) (t : Table) (holds : Holds table t) where
   bytes-before : (k : ℕ) → k < t .rules → Bytes (ruleIn table k .before)
-  bytes-before k l = over-bytes (systemIn table .loc (ruleIn table k .letter)) (ruleIn table k .before) (rule-over table t holds k l .0)
+  bytes-before k l = over-byte (systemIn table .loc (ruleIn table k .letter)) (ruleIn table k .before) (rule-over table t holds k l .0)
 
   pub head-test : (head : Head) (h k : ℕ) → HeadOf table h head → h < t .rules → k < t .rules → hasHead table head k ≡ isHead (ruleIn table h .letter) (ruleIn table h .before) (ruleIn table k)
   unfolding hasHead isHead

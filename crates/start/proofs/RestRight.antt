@@ -33,6 +33,7 @@ use Rattle.rings.specs.Rings.{recordReads}
 use Rattle.table.specs.declared.Table.{Table}
 use Rattle.table.specs.Reading.{Holds, systemIn, pileIn, statesIn}
 use Rattle.table.proofs.Layouts.{table-modest, pile-count}
+use Rattle.logs.proofs.Logs.{over-byte}
 use Rattle.stack.specs.RoundLogs.{RoundLog, SomeRound}
 use Rattle.stack.proofs.RoundLogs.{round-fits, round-reads}
 use Rattle.start.specs.declared.Letter.{Letter}
@@ -86,9 +87,6 @@ accepts-first sys log b w g =
     ∙ any-first (λ (r : Record). readsAt (sys .loc) b g r && accepts (sys .loc) (keys log) (sys .accepting) w (move (sys .loc) (r .key) g)) noRecord log
 
 -- ---- what the rings find is what the paths go by
-over-bytes : (L : Processes) (g : Group) → Over L g → Bytes g
-over-bytes L g o i = by-test (has L i) (λ m. omega (arith, o .inside i m)) (λ n. omega (arith, o .outside i n))
-
 same-packed : (g h : Group) → Bytes g → Bytes h → eqb (packed h) (packed g) ≡ sameGroup g h
 same-packed g h p q = same-test (eqb (packed h) (packed g)) (sameGroup g h)
     (λ t. sameGroup-of g h (packed-same g h p q (sym (eqb-true (packed h) (packed g) t))))
@@ -127,7 +125,7 @@ module _ {table : List ℕ} {t : Table} {round : ℕ} {log : List ℕ} {count : 
       let L = processesOfTable t in
       ap (λ (h : Group). recordReads log (a .number) (packed h) r) (restrict-within L (processesOf (a .bits)) (plainGroup L g) g own-within (restrict-merge L g noStates))
       ∙ ap₂ (λ (b : ℕ) (L : Processes). recordReads log b (packed (restrict L g)) r) (letter .number) (letter .bits .same)
-      ∙ reads-model (sys .loc) log (pileIn table i) g r (recordAt records r) (round-reads lent r h) (round-fits lent r h) (over-bytes L g o)
+      ∙ reads-model (sys .loc) log (pileIn table i) g r (recordAt records r) (round-reads lent r h) (round-fits lent r h) (over-byte L g o)
 
   -- where a record that reads the letter leads
   pub target-is : (g : Group) (r : ℕ) → r < count → readsAt (systemIn table .loc) (pileIn table i) g (recordAt (logAt (systemIn table) round) r) ≡ true
