@@ -8,7 +8,7 @@ use native.Mathlib.Nat.{le-refl}
 use native.Mathlib.Omega.{arith}
 use lib.Dec.{eqb, leb}
 use lib.ListN.{drop, drop-of-length-le, getD, length, length-append, length-drop, length-map, length-set, length-take, set, take}
-use lib.Seq.{drop-cons, getD-drop, getD-set-other, getD-take}
+use lib.Seq.{drop-cons, getD-drop, getD-set-other, getD-take, take-suc-set}
 use borrow.Author.Tests.{eqb-true, ltb-false}
 use Rattle.model.specs.declared.Group.{Group}
 use Rattle.model.specs.Automata.{move}
@@ -67,11 +67,6 @@ mem-at (y ∷ l) x m = step (λ q. mem-at l x q) (List·Memᴰ·cases-cons m)
     step : (List·Memᴰ x l → (j : ℕ) × (j < length l) × (getD l j 0 ≡ x)) → (x ≡ y) ⊎ List·Memᴰ x l → (j : ℕ) × (j < length (y ∷ l)) × (getD (y ∷ l) j 0 ≡ x)
     step later (inl e) = (0, omega arith, sym e)
     step later (inr q) = let r = later q in (suc (r .0), omega (arith, r .1), r .2)
-
-pub take-more : (l : List ℕ) (k x : ℕ) → k < length l → take (suc k) (set l k x) ≡ take k l ++ (x ∷ [])
-take-more [] k x h = absurd (omega arith)
-take-more (y ∷ l) zero x h = refl
-take-more (y ∷ l) (suc k) x h = ap (λ (m : List ℕ). y ∷ m) (take-more l k x (omega arith))
 
 sum-more : (f : ℕ → ℕ) (ns : List ℕ) (r : ℕ) → sumOver f (ns ++ (r ∷ [])) ≡ sumOver f ns + f r
 sum-more f [] r = omega arith
@@ -257,7 +252,7 @@ module _ (job : Job) (level state : ℕ) (found : Bool) (trail : Trail) (count :
       places-size = omega (arith, stands .size, ready .few)
 
       numbers-are : take (suc level) (longerTrail log trail level r .places) ≡ pre ++ (r ∷ [])
-      numbers-are = take-more (trail .places) level r places-size
+      numbers-are = take-suc-set (trail .places) level r places-size
 
       pub going-stands : Standing job log (suc level) led (longerTrail log trail level r)
       going-stands = record {
