@@ -24,7 +24,7 @@ use Rattle.paths.specs.declared.Job.{Job}
 use Rattle.paths.specs.declared.Trail.{Trail}
 use Rattle.paths.specs.Arrivals.{endNumber, stored, taken}
 use Rattle.paths.specs.Jobs.{PassedRight, Searchable, Searched, Standing, arrivals, endEntry, glances, jobProcesses, made, seenIn, storedEnd}
-use Rattle.paths.proofs.Arrivals.{hit-seen, stored-length, taken-none}
+use Rattle.paths.proofs.Arrivals.{hit-seen, or-false, or-true, stored-length, taken-none}
 use Rattle.paths.proofs.Passing.{passed-kept, seen-bytes, seen-more, seen-passed}
 
 -- candidates whose ends were all seen change nothing
@@ -47,7 +47,7 @@ pub searched-log : (job : Job) (cs : List Candidate) (count : ℕ) (log s : List
 searched-log job cs count log s count′ log′ s′ holds d = ap length (d .written) ∙ stored-length (job .n) log count (map (addedRecord (job .round) (glances log (job .base))) (taken (seenIn s) cs)) holds
 
 -- ---- the record of an end
-module _ (job : Job) (log s : List ℕ) (state : ℕ) (trail : Trail) (ready : Searchable job log s) (stands : Standing job log (job .count) state trail) where
+module _ {job : Job} {log s : List ℕ} {state : ℕ} {trail : Trail} (ready : Searchable job log s) (stands : Standing job log (job .count) state trail) where
   abbrev after : ℕ
   after = restrictedBits (job .mask) state
 
@@ -57,7 +57,7 @@ module _ (job : Job) (log s : List ℕ) (state : ℕ) (trail : Trail) (ready : S
   after-is : unpacked after ≡ restrict (jobProcesses job) (unpacked state)
   after-is = ap (λ (m : ℕ). unpacked (restrictedBits m state)) (ready .own) ∙ restrict-unpacked (jobProcesses job) state (stands .packed)
 
-  pub end-is : packNumber after ≡ endNumber new
+  end-is : packNumber after ≡ endNumber new
   end-is = number-unpacked after (rw (ready .own) (restrict-below (jobProcesses job) state (stands .packed))) ∙ ap stateNumber after-is
 
   -- the places behind the path's end are those of no record
@@ -86,17 +86,18 @@ module _ (job : Job) (log s : List ℕ) (state : ℕ) (trail : Trail) (ready : S
 
   -- ---- what an arrival leaves
   module _ (count : ℕ) (few : count ≤ job .n + 1) where
-    pub arrived-stale : (found : Bool) → found ≡ false → Searched job (arrivals job found state trail) count log s count log s
-    arrived-stale found f = rw f (searched-nothing job [] count log s few tt (ready .passed))
+    pub arrived-stale : {found : Bool} → found ≡ false → Searched job (arrivals job found state trail) count log s count log s
+    arrived-stale f = rw f (searched-nothing job [] count log s few tt (ready .passed))
 
-    pub arrived-seen : (found : Bool) (x : ℕ) → found ≡ true → x ≡ packNumber after → seenIn s x ≡ true → Searched job (arrivals job found state trail) count log s count log s
-    arrived-seen found x f e y = rw f (searched-nothing job (new ∷ []) count log s few (subst (λ (k : ℕ). seenIn s k ≡ true) (e ∙ end-is) y, tt) (ready .passed))
+    pub arrived-seen : {found : Bool} {y x : ℕ} → found ≡ true → y ≡ restrictedBits (job .mask) state → x ≡ packNumber y → seenIn s x ≡ true → Searched job (arrivals job found state trail) count log s count log s
+    arrived-seen f y-is e y = rw f (searched-nothing job (new ∷ []) count log s few (subst (λ (k : ℕ). seenIn s k ≡ true) (e ∙ ap packNumber y-is ∙ end-is) y, tt) (ready .passed))
 
-    pub arrived-new : (found : Bool) (x : ℕ) (count′ : ℕ) (log′ s′ : List ℕ) → found ≡ true → x ≡ packNumber after → seenIn s x ≡ false → s′ ≡ inserted s (seenBit x) → count′ ≡ min (count + 1) (job .n + 1) → log′ ≡ storedEnd log job after trail count
+    pub arrived-new : {found : Bool} {y x count′ : ℕ} {log′ s′ : List ℕ} → found ≡ true → y ≡ restrictedBits (job .mask) state → x ≡ packNumber y → seenIn s x ≡ false → s′ ≡ inserted s (seenBit x)
+        → (count′ ≡ min (count + 1) (job .n + 1)) × (log′ ≡ storedEnd log job y trail count)
         → Searched job (arrivals job found state trail) count log s count′ log′ s′
-    arrived-new found x count′ log′ s′ f e n q r w = rw (f, q) (record {
-      counted = r ∙ ap (λ (l : List Candidate). min (count + length l) (job .n + 1)) (sym one);
-      written = w ∙ stored-is count ∙ ap (λ (l : List Candidate). stored (job .n) log count (map (addedRecord (job .round) (glances log (job .base))) l)) (sym one);
+    arrived-new {y = y} {x = x} f y-is x-is n q w = rw (f, q) (record {
+      counted = w .0 ∙ ap (λ (l : List Candidate). min (count + length l) (job .n + 1)) (sym one);
+      written = w .1 ∙ ap (λ (y : ℕ). storedEnd log job y trail count) y-is ∙ stored-is count ∙ ap (λ (l : List Candidate). stored (job .n) log count (map (addedRecord (job .round) (glances log (job .base))) l)) (sym one);
       seen = λ y h. seen-more s x small room y ∙ turned y;
       scratch-length = length-inserted s (seenBit x);
       kept = λ i a b. seen-bytes s x small room i a;
@@ -104,6 +105,9 @@ module _ (job : Job) (log s : List ℕ) (state : ℕ) (trail : Trail) (ready : S
       passed = passed-kept job (glances log (job .base)) s (inserted s (seenBit x)) (λ y h v. seen-more s x small room y ∙ rw v (or-true (eqb y x))) (λ l g m h b. seen-passed s x small room l g m) (ready .passed);
     })
       where
+        e : x ≡ packNumber (restrictedBits (job .mask) state)
+        e = x-is ∙ ap packNumber y-is
+
         small : x < stateCount
         small = rw (e ∙ end-is) (stateNumber-below (new .key .after))
 
@@ -113,15 +117,9 @@ module _ (job : Job) (log s : List ℕ) (state : ℕ) (trail : Trail) (ready : S
         one : taken (seenIn s) (new ∷ []) ≡ new ∷ []
         one = rw (ap (seenIn s) (sym (e ∙ end-is)) ∙ n) refl
 
-        or-true : (b : Bool) → (b || true) ≡ true
-        or-true true = refl
-        or-true false = refl
-
         turned : (y : ℕ) → (eqb y x || seenIn s y) ≡ (seenIn s y || (eqb y (endNumber new) || false))
         turned y = ap (λ (k : ℕ). eqb y k || seenIn s y) (e ∙ end-is) ∙ swap (eqb y (endNumber new)) (seenIn s y)
           where
             swap : (a b : Bool) → (a || b) ≡ (b || (a || false))
-            swap true true = refl
-            swap true false = refl
-            swap false true = refl
-            swap false false = refl
+            swap true b = sym (or-true b)
+            swap false b = sym (or-false b)
