@@ -17,7 +17,7 @@ use Rattle.scratch.specs.Regions.{passedAt, ringsAt, seenBit, setBytes}
 use Rattle.paths.specs.Held.{HeldSeen, heldBelow}
 use Rattle.paths.specs.Jobs.{seenIn}
 use Rattle.paths.proofs.Arrivals.{or-false, or-true}
-use Rattle.paths.proofs.Passing.{seen-bytes, seen-more}
+use Rattle.paths.proofs.Arriving.{seen-bytes, seen-more}
 
 -- records that do not read them change nothing
 held-skip : (log : List ℕ) (letter g m k : ℕ) → ((i : ℕ) → m ≤ i → i < m + k → recordReads log letter g i ≡ false) → (x : ℕ) → heldBelow log letter g (m + k) x ≡ heldBelow log letter g m x

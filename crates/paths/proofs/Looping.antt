@@ -23,9 +23,8 @@ use Rattle.scratch.specs.Regions.{passedAt, ringsAt, setBytes}
 use Rattle.paths.specs.declared.Job.{Job}
 use Rattle.paths.specs.declared.Trail.{Trail}
 use Rattle.paths.specs.Jobs.{Searchable, Searched, Standing, arrivals, firstTried, glances, isPassed, jobLoc, longerTrail, made, offers, withPassed}
-use Rattle.paths.proofs.Arriving.{searched-nothing}
+use Rattle.paths.proofs.Arriving.{searched-nothing, pass-bytes, pass-length, pass-seen, passed-more, passed-seen}
 use Rattle.paths.proofs.Glances.{reads-same}
-use Rattle.paths.proofs.Passing.{pass-bytes, pass-length, pass-seen, passed-more, passed-seen}
 use Rattle.paths.proofs.Turns.{Going, by-record, earlier, going-count, going-end, going-ready, going-seen, going-stands, going-start, going-turn, joined, log-size, word-end}
 
 -- what the search from a state comes to

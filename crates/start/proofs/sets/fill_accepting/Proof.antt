@@ -3,8 +3,7 @@ use mathlib.Core.Path.{_∙_}
 use native.Mathlib.Omega.{arith}
 use Rattle.table.proofs.Layouts.{table-modest}
 use Rattle.start.proofs.ScratchRegions.{same-join}
-use Rattle.start.proofs.Filling.{Numbering, numbering-start, numbering-turn, numbering-end}
-use Rattle.start.proofs.RestRight.{set-last}
+use Rattle.start.proofs.RestRight.{Numbering, numbering-start, numbering-turn, numbering-end, set-last}
 use Rattle.start.proofs.sets.fill_accepting.Statement.{statement}
 use Rattle.start.proofs.sets.fill_accepting.Tie as tie
 
