@@ -31,9 +31,6 @@ use Rattle.start.proofs.OwnGroups.{own-below, numbered-own, own-fits, o
 zero-under : (top : ℕ) → Under top 0
 zero-under top = each-process (λ i. digit 0 i ≤ digit top i) (omega arith) (omega arith) (omega arith) (omega arith)
 
-or-left : (b c : Bool) → b ≡ true → (b || c) ≡ true
-or-left b c e = rw e
-
 or-right : (b c : Bool) → c ≡ true → (b || c) ≡ true
 or-right true c e = refl
 or-right false c e = e
@@ -179,7 +176,7 @@ module _ {log : List ℕ} {count : ℕ} {a : Letter} {f : Frame} {k : ℕ} where
       leads-gained g i e y = gains-lead L f (p .2) x (p .3) (p .4) (afterAt log r) t (setPlace (k + 1)) g i e ∙ sym (leads-is g (i .states) e) ∙ y
 
       kept-now : (m : ℕ) → m < stateCount → member (setAt t k) m ≡ true → member (setAt u k) m ≡ true
-      kept-now m l y = now m l ∙ or-left (member (setAt t k) m) _ y
+      kept-now m l y = now m l ∙ rw y
 
       joined : Added log count (setAt s (k + 1)) a f (λ (z : ℕ). ⊥) k s u
       joined = record {
