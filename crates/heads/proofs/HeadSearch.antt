@@ -154,7 +154,8 @@ pub record Searching (table : List ℕ) (t : Table) (round : Round) (head : Head
   pub arrived : Arrived table round (filter (isOffered round) (searchedAt table round s₀ from m)) count log₀ s₀ total log s
 
 pub searching-start : {table : List ℕ} {t : Table} {round : Round} {head : Head} {from count : ℕ} {log s : List ℕ}
-    → InRound table t round log s × (from < t .rules) × (inSet s activeAt from ≡ true) × Leading table s from × HeadOf table (orderedRule s from) head × (round .base ≤ count) × (count ≤ round .n)
+    → InRound table t round log s × (from < t .rules) × (inSet s activeAt from ≡ true) × Leading table s from
+    × HeadOf table (orderedRule s from) head × (round .base ≤ count) × (count ≤ round .n)
     → Searching table t round head from count log s log s from count
 searching-start {table} {t} {round} {count = count} {log = log} {s = s} p = record {
   here = p .0;
@@ -253,8 +254,10 @@ module _ {table : List ℕ} {t : Table} {round : Round} {head : Head} {from coun
         }
 
     -- the rule there may be searched
-    pub searching-rule : {k : ℕ} → k ≡ orderedRule s position → InRound table t round log s × (k < t .rules) × HeadOf table k head × (round .base ≤ total) × (total ≤ round .n + 1)
-    searching-rule e = (searching-round, rw (e, order-same position below) (ruled-at position below), rw (e, order-same position below) search-head, searching-count .0, searching-count .1)
+    pub searching-rule : {k : ℕ} → k ≡ orderedRule s position
+        → InRound table t round log s × (k < t .rules) × HeadOf table k head × (round .base ≤ total) × (total ≤ round .n + 1)
+    searching-rule e =
+        (searching-round, rw (e, order-same position below) (ruled-at position below), rw (e, order-same position below) search-head, searching-count .0, searching-count .1)
 
     pub searching-turn : {k total′ : ℕ} {log′ s′ : List ℕ} {next : ℕ} → k ≡ orderedRule s position → Arrived table round (ruleOffers table round k) total log s total′ log′ s′
         → next ≡ firstFrom (inSet s′ activeAt) (position + 1) (positionCeiling - (position + 1)) → Searching table t round head from count log₀ s₀ log′ s′ next total′

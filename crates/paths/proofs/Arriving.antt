@@ -201,15 +201,19 @@ module _ {job : Job} {log s : List ℕ} {state : ℕ} {trail : Trail} (ready : S
     pub arrived-stale : {found : Bool} → found ≡ false → Searched job (arrivals job found state trail) count log s count log s
     arrived-stale f = rw f (searched-nothing job [] count log s few tt (ready .passed))
 
-    pub arrived-seen : {found : Bool} {y x : ℕ} → found ≡ true → y ≡ restrictedBits (job .mask) state → x ≡ packNumber y → seenIn s x ≡ true → Searched job (arrivals job found state trail) count log s count log s
-    arrived-seen f y-is e y = rw f (searched-nothing job (new ∷ []) count log s few (subst (λ (k : ℕ). seenIn s k ≡ true) (e ∙ ap packNumber y-is ∙ end-is) y, tt) (ready .passed))
+    pub arrived-seen : {found : Bool} {y x : ℕ} → found ≡ true → y ≡ restrictedBits (job .mask) state → x ≡ packNumber y → seenIn s x ≡ true
+        → Searched job (arrivals job found state trail) count log s count log s
+    arrived-seen f y-is e y =
+        rw f (searched-nothing job (new ∷ []) count log s few (subst (λ (k : ℕ). seenIn s k ≡ true) (e ∙ ap packNumber y-is ∙ end-is) y, tt) (ready .passed))
 
-    pub arrived-new : {found : Bool} {y x count′ : ℕ} {log′ s′ : List ℕ} → found ≡ true → y ≡ restrictedBits (job .mask) state → x ≡ packNumber y → seenIn s x ≡ false → s′ ≡ inserted s (seenBit x)
+    pub arrived-new : {found : Bool} {y x count′ : ℕ} {log′ s′ : List ℕ} → found ≡ true → y ≡ restrictedBits (job .mask) state → x ≡ packNumber y
+        → seenIn s x ≡ false → s′ ≡ inserted s (seenBit x)
         → (count′ ≡ min (count + 1) (job .n + 1)) × (log′ ≡ storedEnd log job y trail count)
         → Searched job (arrivals job found state trail) count log s count′ log′ s′
     arrived-new {y = y} {x = x} f y-is x-is n q w = rw (f, q) (record {
       counted = w .0 ∙ ap (λ (l : List Candidate). min (count + length l) (job .n + 1)) (sym one);
-      written = w .1 ∙ ap (λ (y : ℕ). storedEnd log job y trail count) y-is ∙ stored-is count ∙ ap (λ (l : List Candidate). stored (job .n) log count (map (addedRecord (job .round) (glances log (job .base))) l)) (sym one);
+      written = w .1 ∙ ap (λ (y : ℕ). storedEnd log job y trail count) y-is ∙ stored-is count ∙ ap
+          (λ (l : List Candidate). stored (job .n) log count (map (addedRecord (job .round) (glances log (job .base))) l)) (sym one);
       seen = λ y h. seen-more s x small room y ∙ turned y;
       scratch-length = length-inserted s (seenBit x);
       kept = λ i a b. seen-bytes s x small room i a;

@@ -59,7 +59,8 @@ module _ {log : List ℕ} {n base letter g : ℕ} {s₀ : List ℕ} where
   holding-start {r} p q = onward s₀ 0 r (omega arith) (p .0) (p .1)
       (record { seen = λ x h. sym (or-false (seenIn s₀ x)); scratch-length = refl; outside = λ i h. refl }) (q ∙ ap (firstFrom (recordReads log letter g) 0) (omega arith))
 
-  module _ {s : List ℕ} {r y x : ℕ} {s′ : List ℕ} (o : Holding log n base letter g s₀ s r) (h : r < base) (y-is : y ≡ packedAfter log r) (x-is : (x ≡ packNumber y) × (x < stateCount)) (e : s′ ≡ inserted s (seenBit x)) where
+  module _ {s : List ℕ} {r y x : ℕ} {s′ : List ℕ} (o : Holding log n base letter g s₀ s r) (h : r < base) (y-is : y ≡ packedAfter log r)
+      (x-is : (x ≡ packNumber y) × (x < stateCount)) (e : s′ ≡ inserted s (seenBit x)) where
     small : x < stateCount
     small = x-is .1
 

@@ -38,7 +38,8 @@ Asked job level state trail count log s = Searchable job log s × Standing job l
 -- ---- without the loop
 module _ {job : Job} {level state : ℕ} (found : Bool) {trail : Trail} {count : ℕ} {log s : List ℕ} (p : Asked job level state trail count log s) where
   -- at the word's end there is one path, the empty one
-  pub explored-end : {count′ : ℕ} {log′ s′ : List ℕ} → level ≡ job .count → Searched job (arrivals job found state trail) count log s count′ log′ s′ → Explored job level state found trail count log s count′ log′ s′
+  pub explored-end : {count′ : ℕ} {log′ s′ : List ℕ} → level ≡ job .count → Searched job (arrivals job found state trail) count log s count′ log′ s′
+      → Explored job level state found trail count log s count′ log′ s′
   explored-end {count′} {log′} {s′} e d = subst (λ (cs : List Candidate). Searched job cs count log s count′ log′ s′) (sym one) d
     where
       one : offers job (glances log (job .base)) level found (unpacked state) (take level (trail .places)) ≡ arrivals job found state trail
@@ -67,7 +68,8 @@ pub record Looping (log₀ s₀ : List ℕ) (job : Job) (level state : ℕ) (fou
   pub is-n : n ≡ job .n
   pub going : Going job level state found trail count log₀ s₀ ready stands more low log s total r
 
-pub looping-start : {log₀ s₀ : List ℕ} {job : Job} {level state : ℕ} {found : Bool} {trail : Trail} {count x letter mask g r : ℕ} → Asked job level state trail count log₀ s₀ → (level ≡ job .count → ⊥)
+pub looping-start : {log₀ s₀ : List ℕ} {job : Job} {level state : ℕ} {found : Bool} {trail : Trail} {count x letter mask g r : ℕ}
+    → Asked job level state trail count log₀ s₀ → (level ≡ job .count → ⊥)
     → x ≡ packNumber state → letter ≡ getD (job .letters) level 0 → mask ≡ getD (job .masks) level 0 → g ≡ restrictedBits mask state
     → r ≡ firstFrom (recordReads log₀ letter g) (firstTried job level found) (job .base - firstTried job level found)
     → Looping log₀ s₀ job level state found trail count x letter mask g (job .base) (job .n) log₀ s₀ count r
@@ -119,7 +121,8 @@ module _ {log₀ s₀ : List ℕ} {job : Job} {level state : ℕ} {found : Bool}
   looping-longer h = (looping-level, omega (arith, o .is-base, o .ready .room .fits, o .ready .room .short), looping-record h, omega (arith, o .stands .steps))
 
   -- record r leads to the state next
-  module _ (h : r < base) {y next : ℕ} {new : Bool} {on : Trail} (y-is : y ≡ packedAfter log r) (e : next ≡ mergedBits mask y state) (f : new ≡ (found || leb (job .lo) r)) (t : on ≡ longerTrail log trail level r) where
+  module _ (h : r < base) {y next : ℕ} {new : Bool} {on : Trail} (y-is : y ≡ packedAfter log r) (e : next ≡ mergedBits mask y state)
+      (f : new ≡ (found || leb (job .lo) r)) (t : on ≡ longerTrail log trail level r) where
     next-is : next ≡ mergedBits (getD (job .masks) level 0) (packedAfter log r) state
     next-is = e ∙ ap₂ (λ (m y : ℕ). mergedBits m y state) (o .is-mask) y-is
 
@@ -127,7 +130,9 @@ module _ {log₀ s₀ : List ℕ} {job : Job} {level state : ℕ} {found : Bool}
     looping-asks = (looping-ready, stands, looping-count .0, looping-count .1)
       where
         stands : Standing job log (level + 1) next on
-        stands = rw (add-one level, next-is, t) (going-stands job level state found trail count log₀ s₀ (o .ready) (o .stands) (o .more) (o .low) log s total r (o .going) (below-base h))
+        stands =
+            rw (add-one level, next-is, t) (going-stands job level state found trail count log₀ s₀ (o .ready) (o .stands) (o .more) (o .low) log s total r
+            (o .going) (below-base h))
 
     module _ {total′ : ℕ} {log′ s′ : List ℕ} (d : Explored job (level + 1) next new on total log s total′ log′ s′) where
       searched : Searched job (by-record job level state found trail count log₀ s₀ (o .ready) (o .stands) (o .more) (o .low) log s total r (o .going) (below-base h)) total log s total′ log′ s′

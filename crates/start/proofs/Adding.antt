@@ -111,7 +111,8 @@ module _ {log : List ℕ} {count : ℕ} {members : List ℕ} {a : Letter} {f : F
   going-end h w = record { same = w .added .same; kept = w .added .kept; sound = w .added .sound; complete = λ g i l y. w .added .complete g i (omega arith) y }
 
 module _ {log : List ℕ} {count : ℕ} {a : Letter} {f : Frame} {k : ℕ} where
-  pub going-turn : {x next n : ℕ} {s t u : List ℕ} → Linked log count n s → k < 64 → Going log count (setAt s (k + 1)) a f k x s t → Added log count (setAt t (k + 1)) a f (λ (z : ℕ). z ≡ x) k t u
+  pub going-turn : {x next n : ℕ} {s t u : List ℕ} → Linked log count n s → k < 64 → Going log count (setAt s (k + 1)) a f k x s t
+      → Added log count (setAt t (k + 1)) a f (λ (z : ℕ). z ≡ x) k t u
       → NextUnder (f .own) x next → Going log count (setAt s (k + 1)) a f k next s u
   going-turn {x} {next} {s = s} {t} {u} linked small w call n = record {
     under = n .under;
@@ -165,14 +166,16 @@ module _ {log : List ℕ} {count : ℕ} {a : Letter} {f : Frame} {k : ℕ} where
       leads-is g i e =
           let m = stateNumber (merge L (afterAt log r) g) in
           lead-reads log (setAt s (k + 1)) a g r (reads-own log a g x before r (w .states) i e ∙ w .reading h)
-          ∙ sym (in-set t (k + 1) m (stateNumber-below (merge L (afterAt log r) g)) ∙ ap (λ (l : List ℕ). member l m) (only-next (p .1) (omega (arith, p .0 .room .room)) (w .added .same)))
+          ∙ sym (in-set t (k + 1) m (stateNumber-below (merge L (afterAt log r) g)) ∙ ap (λ (l : List ℕ). member l m)
+          (only-next (p .1) (omega (arith, p .0 .room .room)) (w .added .same)))
 
       gained-leads : (g : Group) → Numbered (processesOf (a .bits)) g → gained (stateNumber g) ≡ true → someLead log count (setAt s (k + 1)) a g ≡ true
       gained-leads g i y =
           let o = gains-own L f (p .2) x (p .3) (p .4) (afterAt log r) t (setPlace (k + 1)) g y in
           some-lead log (setAt s (k + 1)) a g count r h (leads-is g i (o .0) ∙ o .1)
 
-      leads-gained : (g : Group) → InFrame (processesOf (a .bits)) f g → ownNumber (processesOf (a .bits)) g ≡ x → leads log (setAt s (k + 1)) a g r ≡ true → gained (stateNumber g) ≡ true
+      leads-gained : (g : Group) → InFrame (processesOf (a .bits)) f g → ownNumber (processesOf (a .bits)) g ≡ x → leads log (setAt s (k + 1)) a g r ≡ true
+          → gained (stateNumber g) ≡ true
       leads-gained g i e y = gains-lead L f (p .2) x (p .3) (p .4) (afterAt log r) t (setPlace (k + 1)) g i e ∙ sym (leads-is g (i .states) e) ∙ y
 
       kept-now : (m : ℕ) → m < stateCount → member (setAt t k) m ≡ true → member (setAt u k) m ≡ true
@@ -182,7 +185,8 @@ module _ {log : List ℕ} {count : ℕ} {a : Letter} {f : Frame} {k : ℕ} where
       joined = record {
         same = same-join (w .added .same) (only-outside k (d .outside));
         kept = λ m l y. kept-now m l (w .added .kept m l y);
-        sound = λ g i y. ⊎-elim (w .added .sound g i) (λ z. inr (gained-leads g i z)) (or-cases (member (setAt t k) (stateNumber g)) (gained (stateNumber g)) (sym (now (stateNumber g) (stateNumber-below g)) ∙ y));
+        sound = λ g i y. ⊎-elim (w .added .sound g i) (λ z. inr (gained-leads g i z))
+            (or-cases (member (setAt t k) (stateNumber g)) (gained (stateNumber g)) (sym (now (stateNumber g) (stateNumber-below g)) ∙ y));
         complete = λ g i z y. absurd z;
       }
 
@@ -200,8 +204,10 @@ module _ {log : List ℕ} {count : ℕ} {a : Letter} {f : Frame} {k : ℕ} where
             taken = λ g i e q l y. elim (decLt q r) [
               | yes less ↦ kept-now (stateNumber g) (stateNumber-below g) (w .taken g i e q less y)
               | no later ↦ elim (ℕ-discrete q r) [
-                | yes is ↦ now (stateNumber g) (stateNumber-below g) ∙ or-right (member (setAt t k) (stateNumber g)) (gained (stateNumber g)) (leads-gained g i e (sym (ap (leads log (setAt s (k + 1)) a g) is) ∙ y))
-                | no ne ↦ absurd (true≢false (sym y ∙ lead-not log (setAt s (k + 1)) a g q (reads-own log a g x before q (w .states) (i .states) e ∙ first .fails q (omega arith) l)))
+                | yes is ↦ now (stateNumber g) (stateNumber-below g) ∙ or-right (member (setAt t k) (stateNumber g)) (gained (stateNumber g))
+                    (leads-gained g i e (sym (ap (leads log (setAt s (k + 1)) a g) is) ∙ y))
+                | no ne ↦ absurd (true≢false (sym y ∙ lead-not log (setAt s (k + 1)) a g q
+                    (reads-own log a g x before q (w .states) (i .states) e ∙ first .fails q (omega arith) l)))
               ]
             ];
           }

@@ -116,14 +116,16 @@ module _ (table : List ℕ) (t : Table) (h : Holds table t) where
   ranged-at i m = each-place Ranged ps absent (numberOf i) bodies-ranged (omega (arith, first-has (t .processes) i m, count-in table t h 1 (omega arith)))
 
   lacks : (i : Process) → has (processesOfTable t) i ≡ false → statesIn table i ≡ 256
-  lacks i m = ap (λ (body : List ℕ). byteOf body 1) (List·getD-eq-default ps absent {n = numberOf i} (omega (arith, first-lacks (t .processes) i m, count-in table t h 1 (omega arith))))
+  lacks i m =
+      ap (λ (body : List ℕ). byteOf body 1) (List·getD-eq-default ps absent {n = numberOf i} (omega (arith, first-lacks (t .processes) i m, count-in table t h 1 (omega arith))))
 
   -- the processes of a letter are processes of the table
   letter-within : (a : ℕ) → a < t .letters → Within (systemIn table .loc a) (processesOfTable t)
   unfolding processesBelow
   letter-within = loc-within table t h
 
-  from-states : (bound : Process → ℕ) → ((i : Process) → has (processesOfTable t) i ≡ true → bound i ≤ statesIn table i) → (u : Transition) → Fitting (bodies 2 (itemsIn table)) bound u
+  from-states : (bound : Process → ℕ) → ((i : Process) → has (processesOfTable t) i ≡ true → bound i ≤ statesIn table i) → (u : Transition)
+      → Fitting (bodies 2 (itemsIn table)) bound u
       → From (systemIn table .loc) (statesIn table) u
   unfolding systemIn systemOf
   from-states bound small u f i m =
@@ -149,7 +151,8 @@ module _ (table : List ℕ) (t : Table) (h : Holds table t) where
 
   accepting-fits : Each Fitted (systemIn table .accepting)
   unfolding systemIn systemOf
-  accepting-fits = subst (λ (L : Processes). Each (λ (g : Group). groupFits L (statesIn table) g ≡ true) (systemIn table .accepting)) (ap firstProcesses (count-in table t h 1 (omega arith)))
+  accepting-fits =
+      subst (λ (L : Processes). Each (λ (g : Group). groupFits L (statesIn table) g ≡ true) (systemIn table .accepting)) (ap firstProcesses (count-in table t h 1 (omega arith)))
       (each-of-map (λ (g : Group). groupFits (present ps) (statesOf ps) g ≡ true) (λ (body : List ℕ). groupOf body 0) (bodies 5 items) (accepting-fit (complete .checked)))
 
   accepting-states : (i : Process) → Each (λ (f : Group). at f i < statesIn table i) (systemIn table .accepting)
@@ -170,7 +173,8 @@ module _ (table : List ℕ) (t : Table) (h : Holds table t) where
         let w = each-at (λ r. Keyed table t (r .key)) (logAt (systemIn table) round) (log-over table t h round) r l in
         merge-over (processesOfTable t) (systemIn table .loc (x .letter)) (x .after) g (letter-within (x .letter) (w .0)) (w .2) o;
     start = start-over table t h;
-    accepting = each-map Fitted (Over (processesOfTable t)) (λ f e. over-fits (processesOfTable t) (statesIn table) f (λ i m. ranged-at i m .small) e) (systemIn table .accepting) accepting-fits;
+    accepting = each-map Fitted (Over (processesOfTable t)) (λ f e. over-fits (processesOfTable t) (statesIn table) f (λ i m. ranged-at i m .small) e)
+        (systemIn table .accepting) accepting-fits;
   }
 
 -- the number of states of every process, also of one that the table lacks

@@ -58,12 +58,15 @@ module _ {log members : List ℕ} {a : Letter} {g : Group} {before count r : ℕ
           high = omega (arith, f .high);
           reading = λ l. f .passes (omega arith);
           fails = fails-join (leads log members a g) 0 r q (s .fails)
-              (fails-join (leads log members a g) r (r + 1) q (fails-one (leads log members a g) r (seeking-leads h is ∙ n)) (fails-lead log members a g before (r + 1) q (s .states) (f .fails)));
+              (fails-join (leads log members a g) r (r + 1) q (fails-one (leads log members a g) r (seeking-leads h is ∙ n))
+              (fails-lead log members a g before (r + 1) q (s .states) (f .fails)));
         }
 
-    pub seeking-found : {b : Bool} → r < count → b ≡ member members (stateNumber (merge (processesOf (a .bits)) (afterAt log r) g)) → b ≡ true → r ≡ firstLead log count members a g
+    pub seeking-found : {b : Bool} → r < count → b ≡ member members (stateNumber (merge (processesOf (a .bits)) (afterAt log r) g)) → b ≡ true
+        → r ≡ firstLead log count members a g
     unfolding firstLead
-    seeking-found h is y = first-is (leads log members a g) 0 count r (record { low = omega arith; high = omega (arith, s .high); passes = λ l. seeking-leads h is ∙ y; fails = s .fails })
+    seeking-found h is y =
+        first-is (leads log members a g) 0 count r (record { low = omega arith; high = omega (arith, s .high); passes = λ l. seeking-leads h is ∙ y; fails = s .fails })
 
     pub seeking-none : count ≤ r → count ≡ firstLead log count members a g
     unfolding firstLead

@@ -245,7 +245,8 @@ set-last {table} {t} holds round s s′ f g o =
     let L = processesOfTable t in
     f .members (ownNumber L g) (own-below L g)
     ∙ any-agree (λ (h : Group). eqb (ownNumber L g) (ownNumber L h)) (sameGroup g) (systemIn table .accepting)
-    (each-map (Over L) (λ (h : Group). eqb (ownNumber L g) (ownNumber L h) ≡ sameGroup g h) (λ h q. number-same L g h o q) (systemIn table .accepting) (grounds table t holds .accepting))
+    (each-map (Over L) (λ (h : Group). eqb (ownNumber L g) (ownNumber L h) ≡ sameGroup g h) (λ h q. number-same L g h o q) (systemIn table .accepting)
+    (grounds table t holds .accepting))
     ∙ sym (ap (λ (w : List ℕ). accepts (systemIn table .loc) (keys (logAt (systemIn table) round)) (systemIn table .accepting) w g)
     (drop-of-length-le (systemIn table .start .word) {i = t .pile} (omega (arith, pile-count table t holds))))
 
@@ -262,8 +263,11 @@ pub set-filled : {table : List ℕ} {t : Table} {log : List ℕ} {count n : ℕ}
     → OnlySet i s s″ × RightForLog table t log count s″ i
 set-filled {table} {t} {i = i} {a = a} {f = f} p letter cleared is to d =
     let small : t .pile ≤ 64 = table-modest table t (p .0 .1 .holds) .pile in
-    let next = right-kept (i + 1) (omega (arith, p .2)) (omega (arith, p .1 .room .room)) (inr (omega arith)) (cleared .0) (p .3) in
-    (same-join (cleared .0) (d .same), λ round lent. set-before lent i (p .2) a letter _ _ f (next round lent) (cleared .1) (subst (λ (g : Group). FrameTo (processesOf (a .bits)) g f) is to) d)
+    let next = right-kept (i + 1) (omega (arith, p .2)) (omega (arith, p .1 .room .room)) (inr (omega arith)) (cleared .0) (p .3) in (
+      same-join (cleared .0) (d .same),
+      λ round lent. set-before lent i (p .2) a letter _ _ f (next round lent) (cleared .1)
+          (subst (λ (g : Group). FrameTo (processesOf (a .bits)) g f) is to) d,
+    )
 
 -- the loop: the sets from i on are right
 pub record Backwards (table : List ℕ) (t : Table) (log : List ℕ) (count n : ℕ) (s : List ℕ) (i : ℕ) (s′ : List ℕ) : Type 0 where
@@ -281,7 +285,8 @@ backwards-start {table} {t} {log} {count} s linked r = record {
   right = λ k a b. let e : t .pile ≡ k = omega arith in subst (λ (j : ℕ). RightForLog table t log count s j) e r;
 }
 
-pub backwards-turn : {table : List ℕ} {t : Table} {log : List ℕ} {count n : ℕ} {s s′ s″ : List ℕ} {i : ℕ} → SomeRound table t log count → 0 < i → Backwards table t log count n s i s′
+pub backwards-turn : {table : List ℕ} {t : Table} {log : List ℕ} {count n : ℕ} {s s′ s″ : List ℕ} {i : ℕ} → SomeRound table t log count → 0 < i
+    → Backwards table t log count n s i s′
     → OnlySet (i - 1) s′ s″ × RightForLog table t log count s″ (i - 1) → Backwards table t log count n s (i - 1) s″
 backwards-turn {table} {t} {log} {count} {s″ = s″} {i = i} lent h b w =
     let small : t .pile ≤ 64 = table-modest table t (lent .1 .holds) .pile in

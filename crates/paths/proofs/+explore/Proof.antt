@@ -79,22 +79,27 @@ pub +explore-spec : {M : Type 1} → statement M
     explore-Inv-loop
     explore-μ-loop
     (λ c κs. let p = c .before .before .before .before .before .pre .1 in (p .0, rw (c .before .before .if1 .taken) at (p .1), p .2, p .3))
-    (λ c. searched-log _ _ _ _ _ _ _ _ (c .before .before .before .before .before .before .before .before .before .before .pre .1 .0 .holds) (c .before .before .before .before .arrive .ensures))
+    (λ c. searched-log _ _ _ _ _ _ _ _ (c .before .before .before .before .before .before .before .before .before .before .pre .1 .0 .holds)
+    (c .before .before .before .before .arrive .ensures))
     (λ c. c .before .before .before .before .arrive .ensures .scratch-length)
-    (λ c. explored-end _ (c .before .before .before .before .before .before .before .before .before .before .pre .1) (c .before .before .before .before .before .before .before .if1 .taken) (c .before .before .before .before .arrive .ensures))
+    (λ c. explored-end _ (c .before .before .before .before .before .before .before .before .before .before .pre .1)
+    (c .before .before .before .before .before .before .before .if1 .taken) (c .before .before .before .before .arrive .ensures))
     (λ c κs. search needs)
     (λ c κs.
     let p = c .before .before .before .before .before .pre .1 in
     (omega (arith, p .0 .few, p .1 .within), c .before .number .ensures .1, omega (arith, p .0 .room .room)))
     (λ c. refl)
-    (λ c. explored-passed _ (c .before .before .before .before .before .before .before .pre .1) (c .before .before .before .before .if1 .left) (c .before .before .before .number .ensures .0) (sym (c .before .is-passed .ensures) ∙ c .if2 .taken))
+    (λ c. explored-passed _ (c .before .before .before .before .before .before .before .pre .1) (c .before .before .before .before .if1 .left)
+    (c .before .before .before .number .ensures .0) (sym (c .before .is-passed .ensures) ∙ c .if2 .taken))
     (λ c κs. let p = c .before .before .before .before .before .before .before .pre .1 in omega (arith, p .0 .few, p .1 .within, c .before .before .before .before .if1 .left))
     (λ c κs. let p = c .before .before .before .before .before .before .before .before .pre .1 in omega (arith, p .0 .few, p .1 .within, c .before .before .before .before .before .if1 .left))
     (λ c κs. search needs)
     (λ c κs. let w = c .before .before .before .before .before .before .before .before .before .before .before .before .pre .1 .0 in (w .room, w .ringed, w .freshened, w .low))
     (λ c.
     let at-letter = c .before .before .before .before .before in
-    looping-start (at-letter .before .before .before .before .before .before .before .before .pre .1) (at-letter .before .before .before .before .before .if1 .left) (at-letter .before .before .before .before .number .ensures .0) (at-letter .letter-of .ensures) (c .before .before .before .before .mask-of .ensures) (c .before .before .before .restricted .ensures) (c .first-try .ensures))
+    looping-start (at-letter .before .before .before .before .before .before .before .before .pre .1)
+    (at-letter .before .before .before .before .before .if1 .left) (at-letter .before .before .before .before .number .ensures .0)
+    (at-letter .letter-of .ensures) (c .before .before .before .before .mask-of .ensures) (c .before .before .before .restricted .ensures) (c .first-try .ensures))
     (λ c κs. looping-record (c .before .before .loop .inv) (c .before .loop-test .taken))
     (λ c κs. search needs)
     (λ c κs. search needs)
@@ -104,15 +109,23 @@ pub +explore-spec : {M : Type 1} → statement M
     let at-merged = c .before .before .before .before .before in
     let at-loop = at-merged .before .before .before .before in (
       omega (arith, at-loop .before .before .before .before .before .before .before .before .before .before .before .before .before .before .pre .0, at-loop .loop .inv .more),
-      looping-asks (at-loop .loop .inv) (at-merged .before .before .before .loop-test .taken) (at-merged .before .after-at .ensures) (at-merged .merged .ensures) (c .before .before .before .before .is-fresh .ensures) (c .before .before .longer .ensures),
+      looping-asks (at-loop .loop .inv) (at-merged .before .before .before .loop-test .taken) (at-merged .before .after-at .ensures)
+          (at-merged .merged .ensures) (c .before .before .before .before .is-fresh .ensures) (c .before .before .longer .ensures),
     ))
     (λ c κs.
     let at-merged = c .before .before .before .before .before .before .before .before .before .before .before .before in
-    looping-next (at-merged .before .before .before .before .loop .inv) (at-merged .before .before .before .loop-test .taken) (at-merged .before .after-at .ensures) (at-merged .merged .ensures) (c .before .before .before .before .before .before .before .before .before .before .before .is-fresh .ensures) (c .before .before .before .before .before .before .before .before .before .longer .ensures) (c .before .before .before .before .before .before .explore .ensures))
+    looping-next (at-merged .before .before .before .before .loop .inv) (at-merged .before .before .before .loop-test .taken)
+    (at-merged .before .after-at .ensures) (at-merged .merged .ensures)
+    (c .before .before .before .before .before .before .before .before .before .before .before .is-fresh .ensures)
+    (c .before .before .before .before .before .before .before .before .before .longer .ensures) (c .before .before .before .before .before .before .explore .ensures))
     (λ c. omega (arith, first-at _ _ _ _ (c .next-match .ensures) .low, c .before .before .before .before .before .before .before .before .before .before .before .before .before .before .before .before .loop-test .taken))
     (λ c.
     let at-merged = c .before .before .before .before .before .before .before .before .before .before .before .before .before in
-    looping-again (at-merged .before .before .before .before .loop .inv) (at-merged .before .before .before .loop-test .taken) (at-merged .before .after-at .ensures) (at-merged .merged .ensures) (c .before .before .before .before .before .before .before .before .before .before .before .before .is-fresh .ensures) (c .before .before .before .before .before .before .before .before .before .before .longer .ensures) (c .before .before .before .before .before .before .before .explore .ensures) (c .next-match .ensures))
+    looping-again (at-merged .before .before .before .before .loop .inv) (at-merged .before .before .before .loop-test .taken)
+    (at-merged .before .after-at .ensures) (at-merged .merged .ensures)
+    (c .before .before .before .before .before .before .before .before .before .before .before .before .is-fresh .ensures)
+    (c .before .before .before .before .before .before .before .before .before .before .longer .ensures)
+    (c .before .before .before .before .before .before .before .explore .ensures) (c .next-match .ensures))
     (λ c κs. looping-pass (c .before .before .loop .inv))
     (λ c. looping-log (c .before .before .before .before .before .loop .inv))
     (λ c. looping-scratch (c .before .before .before .before .before .loop .inv) (c .before .before .pass .ensures))

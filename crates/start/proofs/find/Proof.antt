@@ -7,7 +7,8 @@ use Rattle.start.proofs.find.Statement.{statement}
 use Rattle.start.proofs.find.Tie as tie
 
 is-accepted-requires : tie.Need-is-accepted-requires
-is-accepted-requires c κs = let filled = c .before .before .before in (filled .before .before .before .before .before .pre .0 .1 .holds, omega (arith, filled .fill-sets .ensures .linked .room .room))
+is-accepted-requires c κs =
+    let filled = c .before .before .before in (filled .before .before .before .before .before .pre .0 .1 .holds, omega (arith, filled .fill-sets .ensures .linked .room .room))
 
 write-path-requires : tie.Need-write-path-requires
 write-path-requires c κs =

@@ -9,7 +9,8 @@ use Rattle.heads.proofs.jobs.job_of.Statement.{statement}
 use Rattle.heads.proofs.jobs.job_of.Tie as tie
 
 cast-t11 : tie.Need-cast-t11
-cast-t11 c = let start = c .before .before .before .before .before .before in omega (arith, start .pre .1, table-modest (start .args .table .now) (start .args .t) (start .pre .0) .rules)
+cast-t11 c =
+    let start = c .before .before .before .before .before .before in omega (arith, start .pre .1, table-modest (start .args .table .now) (start .args .t) (start .pre .0) .rules)
 
 returns : tie.Need-returns
 returns c =

@@ -16,12 +16,14 @@ abbrev μ-loop : tie.MeasureT-loop
 next-match-requires : tie.Need-next-match-requires Inv-loop μ-loop
 next-match-requires c κs =
     let at-number = c .before .before .before .before in
-    holding-next (at-number .before .before .before .before .loop .inv) (at-number .before .before .before .loop-test .taken) (at-number .before .after-at .ensures) (at-number .number .ensures) (c .before .before .before .see .ensures)
+    holding-next (at-number .before .before .before .before .loop .inv) (at-number .before .before .before .loop-test .taken)
+    (at-number .before .after-at .ensures) (at-number .number .ensures) (c .before .before .before .see .ensures)
 
 loop-again : tie.Need-loop-again Inv-loop μ-loop
 loop-again c =
     let at-number = c .before .before .before .before .before in
-    holding-turn (at-number .before .before .before .before .loop .inv) (at-number .before .before .before .loop-test .taken) (at-number .before .after-at .ensures) (at-number .number .ensures) (c .before .before .before .before .see .ensures) (c .next-match .ensures)
+    holding-turn (at-number .before .before .before .before .loop .inv) (at-number .before .before .before .loop-test .taken)
+    (at-number .before .after-at .ensures) (at-number .number .ensures) (c .before .before .before .before .see .ensures) (c .next-match .ensures)
 
 pub see-held-spec : {M : Type 1} → statement M
 see-held-spec = tie.close (tie.spec Inv-loop μ-loop (λ c κs. search needs) (λ c. holding-start (c .before .before .before .before .pre) (c .first-match .ensures))

@@ -36,7 +36,8 @@ returns : tie.Need-returns Inv-loop μ-loop
 returns c =
     let add = c .before .before .before .before in
     let test = add .before .before .before in
-    taking-full (entry (test .before) .pre) (test .before .loop .inv) (add .before .before .own-after .ensures) (test .loop-test .taken) (add .add-record .ensures) (c .if1 .taken)
+    taking-full (entry (test .before) .pre) (test .before .loop .inv) (add .before .before .own-after .ensures) (test .loop-test .taken)
+    (add .add-record .ensures) (c .if1 .taken)
 
 next-match-requires : tie.Need-next-match-requires Inv-loop μ-loop
 next-match-requires c κs =
@@ -54,7 +55,8 @@ loop-again : tie.Need-loop-again Inv-loop μ-loop
 loop-again c =
     let add = c .before .before .before .before .before .before in
     let test = add .before .before .before in
-    taking-turn (entry (test .before) .pre) (test .before .loop .inv) (add .before .before .own-after .ensures) (test .loop-test .taken) (add .add-record .ensures) (c .next-match .ensures)
+    taking-turn (entry (test .before) .pre) (test .before .loop .inv) (add .before .before .own-after .ensures) (test .loop-test .taken)
+    (add .add-record .ensures) (c .next-match .ensures)
 
 pub add-group-spec : {M : Type 1} → statement M
 add-group-spec = tie.close (tie.spec Inv-loop μ-loop (λ c κs. search needs) (λ c κs. search needs)

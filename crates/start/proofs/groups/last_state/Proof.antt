@@ -11,4 +11,5 @@ range : (c : tie.After-local-states) → (0 < c .local-states .result) × (c .lo
 range c = let start = c .before .before in rw (c .local-states .ensures) (states-range (start .args .table .now) (start .args .t) (start .pre .0) (processAt (start .args .p)))
 
 pub last-state-spec : {M : Type 1} → statement M
-last-state-spec = tie.close (tie.spec (λ c κs. search needs) (λ c. omega (arith, range c .0)) (λ c. omega (arith, range c .1)) (λ c. omega (arith, range c .0, c .local-states .ensures)))
+last-state-spec =
+    tie.close (tie.spec (λ c κs. search needs) (λ c. omega (arith, range c .0)) (λ c. omega (arith, range c .1)) (λ c. omega (arith, range c .0, c .local-states .ensures)))

@@ -47,7 +47,10 @@ returns c =
 
 pub advance-spec : {M : Type 1} → statement M
 advance-spec = tie.close (tie.spec (λ c κs. search needs) (λ c. search needs) (λ c κs. search needs)
-    (λ c κs. let start = c .before .before .before .before .before .before .before in (start .pre .linked, omega (arith, start .pre .inside, few start))) (λ c. search needs) (λ c. search needs)
-    cast-put-number (λ c κs. let start = c .before .before .before .before .before .before .before .before .before .before in omega (arith, start .pre .linked .room .room, start .pre .inside, few start))
+    (λ c κs. let start = c .before .before .before .before .before .before .before in
+    (start .pre .linked, omega (arith, start .pre .inside, few start))) (λ c. search needs) (λ c. search needs)
+    cast-put-number (λ c κs. let start =
+    c .before .before .before .before .before .before .before .before .before .before in omega (arith, start .pre .linked .room .room, start .pre .inside, few start))
     (λ c κs. let found = c .before .before .before .before .before in round-has (entry found .pre .some .1) _ (inside found)) (λ c κs. search needs)
-    (λ c κs. let found = c .before .before .before .before .before .before .before in round-has (entry found .pre .some .1) _ (inside found)) add-steps-requires (λ c. search needs) returns)
+    (λ c κs. let found = c .before .before .before .before .before .before .before in
+    round-has (entry found .pre .some .1) _ (inside found)) add-steps-requires (λ c. search needs) returns)

@@ -14,15 +14,20 @@ few c = table-modest (c .args .table .now) (c .args .t) (c .pre .0 .1 .holds) .p
 add-groups-requires : tie.Need-add-groups-requires
 add-groups-requires c κs =
     let at-clear-set = c .before .before .before .before .before in
-    let start = at-clear-set .before .before .before .before .before .before in
-    (linked-same (omega (arith, start .pre .2, few start)) (at-clear-set .clear-set .ensures .0) (start .pre .1), omega (arith, start .pre .2, few start), c .before .frame-of .ensures .framed)
+    let start = at-clear-set .before .before .before .before .before .before in (
+      linked-same (omega (arith, start .pre .2, few start)) (at-clear-set .clear-set .ensures .0) (start .pre .1),
+      omega
+          (arith, start .pre .2, few start),
+      c .before .frame-of .ensures .framed,
+    )
 
 returns : tie.Need-returns
 returns c =
     let at-frame-of = c .before .before .before .before in
     let at-clear-set = at-frame-of .before .before .before .before in
     let at-letter-at = at-clear-set .before .before in
-    set-filled (at-letter-at .before .before .before .before .pre) (at-letter-at .letter-at .ensures) (at-clear-set .clear-set .ensures) (at-frame-of .before .last-states .ensures) (at-frame-of .frame-of .ensures)
+    set-filled (at-letter-at .before .before .before .before .pre) (at-letter-at .letter-at .ensures) (at-clear-set .clear-set .ensures)
+    (at-frame-of .before .last-states .ensures) (at-frame-of .frame-of .ensures)
     (c .before .before .add-groups .ensures)
 
 pub fill-set-spec : {M : Type 1} → statement M

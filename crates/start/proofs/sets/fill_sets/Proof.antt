@@ -34,9 +34,12 @@ fill-set-requires c κs =
 loop-again : tie.Need-loop-again Inv-loop μ-loop
 loop-again c =
     let at-loop = c .before .before .before .before .before in
-    backwards-turn (at-loop .before .before .before .before .before .before .before .before .pre .0) (c .before .before .before .before .loop-test .taken) (at-loop .loop .inv) (c .before .before .fill-set .ensures)
+    backwards-turn (at-loop .before .before .before .before .before .before .before .before .pre .0) (c .before .before .before .before .loop-test .taken)
+    (at-loop .loop .inv) (c .before .before .fill-set .ensures)
 
 pub fill-sets-spec : {M : Type 1} → statement M
-fill-sets-spec = tie.close (tie.spec Inv-loop μ-loop (λ c κs. let p = c .before .before .before .before .pre in (p .0 .1 .holds, omega (arith, p .1 .room .room))) loop-holds (λ c. omega arith)
+fill-sets-spec =
+    tie.close (tie.spec Inv-loop μ-loop (λ c κs. let p = c .before .before .before .before .pre in
+    (p .0 .1 .holds, omega (arith, p .1 .room .room))) loop-holds (λ c. omega arith)
     fill-set-requires (λ c. omega arith) loop-again (λ c. c .before .loop .inv .size ∙ c .before .before .before .before .fill-accepting .ensures .0 .size)
     (λ c. let inv = c .before .loop .inv in record { linked = inv .linked; right = λ k h. inv .right k (omega (arith, c .loop-test .left)) h }))
