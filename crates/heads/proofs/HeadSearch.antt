@@ -24,6 +24,7 @@ use Rattle.automaton.proofs.StateSets.{First, first-at}
 use Rattle.logs.proofs.Rules.{rule-over}
 use Rattle.packs.specs.Packs.{Bytes, packed}
 use Rattle.packs.proofs.Packs.{same-bits}
+use Rattle.logs.proofs.Logs.{over-byte}
 use Rattle.paths.specs.Arrivals.{hit, stored, taken}
 use Rattle.paths.specs.Jobs.{seenIn}
 use Rattle.paths.proofs.Arrivals.{hit-append, or-assoc, or-false, stored-append, stored-capped, stored-earlier, stored-length, taken-append, taken-same}
@@ -41,13 +42,12 @@ use Rattle.heads.specs.Heads.{Arrived, HeadSearched, Leading, beforeOf, 
 use Rattle.heads.specs.Jobs.{HeadOf, hasHead}
 use Rattle.heads.specs.Rounds.{InRound, earlierLog, headAt, isActive, isOffered, lookedAt, ruleCandidates, ruleOffers}
 use Rattle.heads.proofs.InRounds.{active-kept, order-kept, round-kept}
-use Rattle.heads.proofs.StoredRecords.{over-bytes}
 
 -- ---- candidates that arrive one after the other
-pub arrived-none : (table : List ℕ) (round : Round) (count : ℕ) (log s : List ℕ) → count ≤ round .n + 1 → Arrived table round [] count log s count log s
+arrived-none : (table : List ℕ) (round : Round) (count : ℕ) (log s : List ℕ) → count ≤ round .n + 1 → Arrived table round [] count log s count log s
 arrived-none table round count log s h = record { counted = omega arith; written = refl; seen = λ x l. sym (or-false (seenIn s x)); scratch-length = refl; kept = λ i a b. refl; outside = λ i a. refl }
 
-module _ (table : List ℕ) (round : Round) (cs ds : List Candidate) (count : ℕ) (log s : List ℕ) (count₁ : ℕ) (log₁ s₁ : List ℕ) (count₂ : ℕ) (log₂ s₂ : List ℕ)
+module _ {table : List ℕ} {round : Round} {cs ds : List Candidate} {count : ℕ} {log s : List ℕ} {count₁ : ℕ} {log₁ s₁ : List ℕ} {count₂ : ℕ} {log₂ s₂ : List ℕ}
     (a : Arrived table round cs count log s count₁ log₁ s₁) (b : Arrived table round ds count₁ log₁ s₁ count₂ log₂ s₂) where
   abbrev rec : Candidate → Record
   rec = addedRecord (round .number) (earlierLog table (round .number))
@@ -58,7 +58,7 @@ module _ (table : List ℕ) (round : Round) (cs ds : List Candidate) (count : �
   count-is : length (taken (seenIn s) (cs ++ ds)) ≡ length (taken (seenIn s) cs) + length (taken (seenIn s₁) ds)
   count-is = ap length all-taken ∙ length-append (taken (seenIn s) cs) (taken (seenIn s₁) ds)
 
-  pub arrived-both : Arrived table round (cs ++ ds) count log s count₂ log₂ s₂
+  arrived-both : Arrived table round (cs ++ ds) count log s count₂ log₂ s₂
   arrived-both = record {
     counted = omega (arith, a .counted, b .counted, count-is);
     written = b .written
@@ -73,8 +73,8 @@ module _ (table : List ℕ) (round : Round) (cs ds : List Candidate) (count : �
     outside = λ i p. b .outside i p ∙ a .outside i p;
   }
 
-module _ (table : List ℕ) (t : Table) (round : Round) (cs : List Candidate) (count : ℕ) (log s : List ℕ) (here : InRound table t round log s) (low : round .base ≤ count)
-    (count′ : ℕ) (log′ s′ : List ℕ) (a : Arrived table round cs count log s count′ log′ s′) where
+module _ {table : List ℕ} {t : Table} {round : Round} {cs : List Candidate} {count : ℕ} {log s : List ℕ} {count′ : ℕ} {log′ s′ : List ℕ}
+    (here : InRound table t round log s) (low : round .base ≤ count) (a : Arrived table round cs count log s count′ log′ s′) where
   pub arrived-front : take (round .base * recordLength) log′ ≡ take (round .base * recordLength) log
   arrived-front = ap (take (round .base * recordLength)) (a .written)
       ∙ stored-earlier (round .n) log count (map (addedRecord (round .number) (earlierLog table (round .number))) (taken (seenIn s) cs)) (round .base) low (here .records)
@@ -123,7 +123,7 @@ head-parts a b r e = (eqb-true (r .letter) a (and-left (eqb (r .letter) a) (same
 
 module _ (table : List ℕ) (t : Table) (holds : Holds table t) where
   bytes-before : (k : ℕ) → k < t .rules → Bytes (ruleIn table k .before)
-  bytes-before k l = over-bytes (systemIn table .loc (ruleIn table k .letter)) (ruleIn table k .before) (rule-over table t holds k l .0)
+  bytes-before k l = over-byte (systemIn table .loc (ruleIn table k .letter)) (ruleIn table k .before) (rule-over table t holds k l .0)
 
   pub head-test : (head : Head) (h k : ℕ) → HeadOf table h head → h < t .rules → k < t .rules → hasHead table head k ≡ isHead (ruleIn table h .letter) (ruleIn table h .before) (ruleIn table k)
   unfolding hasHead isHead
@@ -153,23 +153,25 @@ pub record Searching (table : List ℕ) (t : Table) (round : Round) (head : Head
   pub inside : position ≤ positionCeiling
   pub arrived : Arrived table round (filter (isOffered round) (searchedAt table round s₀ from m)) count log₀ s₀ total log s
 
-pub searching-start : (table : List ℕ) (t : Table) (round : Round) (head : Head) (from count : ℕ) (log s : List ℕ) → InRound table t round log s → from < t .rules → inSet s activeAt from ≡ true
-    → Leading table s from → HeadOf table (orderedRule s from) head → round .base ≤ count → count ≤ round .n → Searching table t round head from count log s log s from count
-searching-start table t round head from count log s here within lead first of low fits = record {
-  here = here;
-  within = within;
-  first = first;
-  of = of;
-  low = low;
+pub searching-start : {table : List ℕ} {t : Table} {round : Round} {head : Head} {from count : ℕ} {log s : List ℕ}
+    → InRound table t round log s × (from < t .rules) × (inSet s activeAt from ≡ true) × Leading table s from
+    × HeadOf table (orderedRule s from) head × (round .base ≤ count) × (count ≤ round .n)
+    → Searching table t round head from count log s log s from count
+searching-start {table} {t} {round} {count = count} {log = log} {s = s} p = record {
+  here = p .0;
+  within = p .1;
+  first = p .3;
+  of = p .4;
+  low = p .5;
   m = 0;
   behind = omega arith;
   begins = λ e. refl;
-  ruled = omega arith;
+  ruled = omega (arith, p .1);
   same = λ q a b. absurd (omega arith);
   idle = λ q a b. absurd (omega arith);
-  active = λ l. lead;
-  inside = omega (arith, table-modest table t (here .holds) .rules);
-  arrived = arrived-none table round count log s (omega arith);
+  active = λ l. p .2;
+  inside = omega (arith, p .1, table-modest table t (p .0 .holds) .rules);
+  arrived = arrived-none table round count log s (omega (arith, p .6));
 }
 
 module _ {table : List ℕ} {t : Table} {round : Round} {head : Head} {from count : ℕ} {log₀ s₀ log s : List ℕ} {position total : ℕ} (o : Searching table t round head from count log₀ s₀ log s position total) where
@@ -211,13 +213,13 @@ module _ {table : List ℕ} {t : Table} {round : Round} {head : Head} {from coun
   looked-offers p l y e = rw (sym (active-rule p l) ∙ y, isHead-of a g (ruleIn table (orderedRule s₀ p)) e)
 
   pub searching-round : InRound table t round log s
-  searching-round = arrived-round table t round (offered (o .m)) count log₀ s₀ here (o .low) total log s (o .arrived)
+  searching-round = arrived-round here (o .low) (o .arrived)
 
-  pub searching-count : (round .base ≤ total) × (total ≤ round .n + 1)
-  searching-count = arrived-count table t round (offered (o .m)) count log₀ s₀ here (o .low) total log s (o .arrived)
+  searching-count : (round .base ≤ total) × (total ≤ round .n + 1)
+  searching-count = arrived-count here (o .low) (o .arrived)
 
   pub searching-length : length log ≡ length log₀
-  searching-length = arrived-length table t round (offered (o .m)) count log₀ s₀ here (o .low) total log s (o .arrived)
+  searching-length = arrived-length here (o .low) (o .arrived)
 
   order-same : (p : ℕ) → p < t .rules → orderedRule s p ≡ orderedRule s₀ p
   order-same p l = order-kept table t holds s₀ s (λ i a b. o .arrived .kept i (omega arith) b) p l
@@ -242,21 +244,24 @@ module _ {table : List ℕ} {t : Table} {round : Round} {head : Head} {from coun
     pub searching-small : position < 200
     searching-small = omega (arith, below, few)
 
-    pub searching-rule : orderedRule s position < t .rules
-    searching-rule = rw (order-same position below) (ruled-at position below)
-
-    pub searching-head : HeadOf table (orderedRule s position) head
-    searching-head = rw (order-same position below) (
+    search-head : HeadOf table (orderedRule s₀ position) head
+    search-head =
         let parts = head-parts a g (ruleIn table (orderedRule s₀ position)) is-head in
         record {
           letter = o .of .letter ∙ sym (parts .0);
           bits = subst (λ (x : ℕ). BitsOf (systemIn table .loc x) (head .bits)) (sym (parts .0)) (o .of .bits);
           before = o .of .before ∙ ap packed (sym (parts .1));
-        })
+        }
 
-    pub searching-turn : (total′ : ℕ) (log′ s′ : List ℕ) (next : ℕ) → Arrived table round (ruleOffers table round (orderedRule s position)) total log s total′ log′ s′
+    -- the rule there may be searched
+    pub searching-rule : {k : ℕ} → k ≡ orderedRule s position
+        → InRound table t round log s × (k < t .rules) × HeadOf table k head × (round .base ≤ total) × (total ≤ round .n + 1)
+    searching-rule e =
+        (searching-round, rw (e, order-same position below) (ruled-at position below), rw (e, order-same position below) search-head, searching-count .0, searching-count .1)
+
+    pub searching-turn : {k total′ : ℕ} {log′ s′ : List ℕ} {next : ℕ} → k ≡ orderedRule s position → Arrived table round (ruleOffers table round k) total log s total′ log′ s′
         → next ≡ firstFrom (inSet s′ activeAt) (position + 1) (positionCeiling - (position + 1)) → Searching table t round head from count log₀ s₀ log′ s′ next total′
-    searching-turn total′ log′ s′ next d e = record {
+    searching-turn {k} {total′} {log′} {s′} {next} is d e = record {
       here = here;
       within = o .within;
       first = o .first;
@@ -273,8 +278,8 @@ module _ {table : List ℕ} {t : Table} {round : Round} {head : Head} {from coun
       arrived = subst (λ (cs : List Candidate). Arrived table round cs count log₀ s₀ total′ log′ s′) (sym candidates-are) all-arrived;
     }
       where
-        all-arrived : Arrived table round (offered (o .m) ++ ruleOffers table round (orderedRule s position)) count log₀ s₀ total′ log′ s′
-        all-arrived = arrived-both table round (offered (o .m)) (ruleOffers table round (orderedRule s position)) count log₀ s₀ total log s total′ log′ s′ (o .arrived) d
+        all-arrived : Arrived table round (offered (o .m) ++ ruleOffers table round k) count log₀ s₀ total′ log′ s′
+        all-arrived = arrived-both (o .arrived) d
 
         active-now : (p : ℕ) → p < positionCeiling → inSet s′ activeAt p ≡ inSet s₀ activeAt p
         active-now p l = active-kept table t holds s₀ s′ (λ i a b. all-arrived .kept i (omega arith) b) p l
@@ -282,13 +287,13 @@ module _ {table : List ℕ} {t : Table} {round : Round} {head : Head} {from coun
         next-at : First (inSet s′ activeAt) (position + 1) (positionCeiling - (position + 1)) next
         next-at = first-at (inSet s′ activeAt) (position + 1) (positionCeiling - (position + 1)) next e
 
-        candidates-are : offered (position + 1 - from) ≡ offered (o .m) ++ ruleOffers table round (orderedRule s position)
+        candidates-are : offered (position + 1 - from) ≡ offered (o .m) ++ ruleOffers table round k
         candidates-are =
             ap (filter (isOffered round)) (run-on (systemIn table .loc) (earlierLog table (round .number)) ok (systemIn table .rules) (ruleOf []) (orderedRule s₀) from (o .m) position (o .behind)
             (λ q a b. idle-none q (omega (arith, below)) (o .idle q a b))
             ∙ ap (λ (cs : List Candidate). searchedAt table round s₀ from (o .m) ++ cs) (looked-offers position below (o .active (omega (arith, below, few))) same-head))
             ∙ filter-append (isOffered round) (searchedAt table round s₀ from (o .m)) (ruleCandidates table (round .number) (orderedRule s₀ position))
-            ∙ ap (λ (k : ℕ). offered (o .m) ++ ruleOffers table round k) (sym (order-same position below))
+            ∙ ap (λ (k : ℕ). offered (o .m) ++ ruleOffers table round k) (sym (is ∙ order-same position below))
 
   module _ (fails : test ≡ false) where
     other-head : position < t .rules → headAt table s₀ position ≡ headAt table s₀ from → ⊥

@@ -1,13 +1,10 @@
-pub mod Taken
 pub mod StoredRecords
-pub mod CandidateOrder
-pub mod InOrder
+pub mod Candidates
 pub mod HeadOrder
 pub mod Matching
 pub mod RuleSearch
 pub mod InRounds
 pub mod HeadSearch
-pub mod HeadEnds
 pub mod Clearing
 pub mod Words
 pub mod HeadAdding

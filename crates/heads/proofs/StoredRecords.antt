@@ -6,13 +6,10 @@ use native.Mathlib.Omega.{arith}
 use lib.ListN.{List·getD-append, drop, getD, length, length-append, length-drop, take, take-append-drop}
 use lib.Seq.{drop-append-add, drop-drop, ext-getD, getD-drop, getD-take, length-take-le, take-add, take-at}
 use borrow.Author.Tests.{lt-ltb}
-use Rattle.model.specs.declared.Group.{Group}
-use Rattle.model.specs.Groups.{Processes, has}
 use Rattle.model.specs.Log.{Record, recordAt}
 use Rattle.model.specs.Records.{afterAt, logBytes, recordBytes, recordLength}
 use Rattle.model.proofs.RecordBytes.{from-after, length-record, log-from}
-use Rattle.model.proofs.Tests.{by-test}
-use Rattle.automaton.specs.StateNumbers.{Over, stateNumber}
+use Rattle.automaton.specs.StateNumbers.{stateNumber}
 use Rattle.records.specs.Entries.{recordEntry, withEntry}
 use Rattle.records.proofs.Entries.{entry-bytes, length-with}
 use Rattle.packs.specs.Packs.{Bytes, packNumber, packed, packedAfter}
@@ -104,9 +101,6 @@ hold-bytes log from (r ∷ rs) room h =
     (λ i l. let step : from + suc i ≡ suc from + i = omega arith in subst (λ (q : ℕ). Holds log q (recordAt rs i)) step (h (suc i) (omega arith))))
 
 -- ---- the number of a record's states after
-pub over-bytes : (L : Processes) (g : Group) → Over L g → Bytes g
-over-bytes L g o i = by-test (has L i) (λ y. omega (arith, o .inside i y)) (λ n. omega (arith, o .outside i n))
-
 own-number : (r : Record) → packedAfter (recordBytes r) 0 ≡ packed (r .key .after)
 unfolding packedAfter afterAt
 own-number r = pack-group (recordBytes r) (0 * recordLength + 5) ∙ ap packed (from-after (recordBytes r) 0 r [] (sym (append-nil (recordBytes r))))

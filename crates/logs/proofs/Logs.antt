@@ -43,7 +43,7 @@ pub along-over : (loc : ℕ → Processes) (L : Processes) (ts : List Transition
 along-over loc L [] g f e w o p = subst (Over L) p o
 along-over loc L (x ∷ ts) g f e w o p = along-over loc L ts (move loc x g) f (e .1) (w .1) (merge-over L (loc (x .letter)) (x .after) g (w .0) (e .0) o) (p .1)
 
-over-byte : (L : Processes) (g : Group) → Over L g → (i : Process) → at g i < 256
+pub over-byte : (L : Processes) (g : Group) → Over L g → (i : Process) → at g i < 256
 over-byte L g o i = by-test (has L i)
     (λ m. let low : at g i < 8 = o .inside i m in omega arith)
     (λ n. let is : at g i ≡ 255 = o .outside i n in omega arith)

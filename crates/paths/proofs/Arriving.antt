@@ -1,31 +1,143 @@
--- An arrival at an end, on lists: nothing where it adds nothing, else one end and one record more.
-use mathlib.Core.Path.{_≡_, refl, ap, ap₂, sym, subst, _∙_}
-use mathlib.Core.Bool.{Bool, true, false, cond, _||_}
-use mathlib.Core.List.{List, [], _∷_, map}
-use Prim.Native.Nat.{ℕ, zero, suc, _+_, _*_, _<_, _≤_, min}
+-- Bits of the scratch during a search, the ends seen and the states passed, and an arrival at an end: nothing where it adds nothing, else one end and one record more.
+use mathlib.Core.Path.{_≡_, refl, ap, sym, subst, _∙_, ap₂}
+use mathlib.Core.Bool.{Bool, true, false, _||_, cond}
+use mathlib.Core.Logic.{_≢_, _⊎_, inl, inr, ⊎-elim}
+use mathlib.Core.List.{List, [], _∷_, _++_, map}
+use Prim.Native.Nat.{ℕ, _+_, _*_, _/_, _<_, _≤_, zero, suc, min}
 use native.Mathlib.Omega.{arith}
 use lib.Dec.{eqb, ltb}
-use lib.ListN.{getD, length, take}
-use Rattle.model.specs.Groups.{restrict}
+use lib.ListN.{drop, getD, length, take}
+use lib.Seq.{getD-set-other}
+use borrow.Author.Tests.{eq-eqb, eqb-false, eqb-true, ne-eqb}
+use Rattle.model.specs.declared.Group.{Group}
 use Rattle.model.specs.Lists.{Each}
-use Rattle.model.specs.Log.{Candidate, addedRecord, noNumber}
+use Rattle.model.specs.Log.{Candidate, Path, Record, paths, addedRecord, noNumber}
+use Rattle.model.proofs.FreshPaths.{fresh-paths, freshPaths, found-paths, pathFresh}
+use Rattle.model.proofs.Lists.{each-map}
+use Rattle.model.proofs.RoundHeads.{filter}
+use Rattle.model.proofs.Tests.{by-test}
+use Rattle.automaton.specs.StateNumbers.{Over, stateCount, stateNumber}
+use Rattle.automaton.specs.StateSets.{inserted, member}
+use Rattle.automaton.proofs.StateNumbers.{number-injective, stateNumber-below}
+use Rattle.automaton.proofs.StateSets.{length-inserted, member-inserted}
+use Rattle.scratch.specs.Regions.{passedAt, passedBit, seenAt, seenBit, setBytes}
+use Rattle.paths.specs.declared.Job.{Job}
+use Rattle.paths.specs.Arrivals.{endNumber, stored, taken}
+use Rattle.paths.specs.Jobs.{PassedRight, isPassed, jobLoc, jobProcesses, jobWord, made, offers, seenIn, withPassed, Searchable, Searched, Standing, arrivals, endEntry, glances, storedEnd}
+use Rattle.model.specs.Groups.{restrict}
 use Rattle.model.specs.Records.{recordLength}
 use Rattle.model.specs.Tables.{writtenPlaces}
-use Rattle.automaton.specs.StateNumbers.{stateCount, stateNumber}
-use Rattle.automaton.specs.StateSets.{inserted}
-use Rattle.automaton.proofs.StateNumbers.{stateNumber-below}
-use Rattle.automaton.proofs.StateSets.{length-inserted}
 use Rattle.records.specs.declared.Entry.{Entry}
 use Rattle.records.specs.Entries.{padded, recordEntry, withEntry}
 use Rattle.packs.specs.Packs.{packNumber, restrictedBits, unpacked}
 use Rattle.packs.proofs.Unpacked.{number-unpacked, restrict-below, restrict-unpacked}
-use Rattle.scratch.specs.Regions.{passedAt, seenBit, setBytes}
-use Rattle.paths.specs.declared.Job.{Job}
 use Rattle.paths.specs.declared.Trail.{Trail}
-use Rattle.paths.specs.Arrivals.{endNumber, stored, taken}
-use Rattle.paths.specs.Jobs.{PassedRight, Searchable, Searched, Standing, arrivals, endEntry, glances, jobProcesses, made, seenIn, storedEnd}
-use Rattle.paths.proofs.Arrivals.{hit-seen, stored-length, taken-none}
-use Rattle.paths.proofs.Passing.{passed-kept, seen-bytes, seen-more, seen-passed}
+use Rattle.paths.proofs.Arrivals.{hit-seen, or-false, or-true, stored-length, taken-none}
+
+-- ---- one bit more
+byte-kept : (s : List ℕ) (n i : ℕ) → (i ≡ n / 8 → ⊥) → getD (inserted s n) i 0 ≡ getD s i 0
+unfolding inserted
+byte-kept s n i ne = getD-set-other s (n / 8) i _ 0 ne
+
+-- an end more, where bits are set below the states passed
+module _ (s : List ℕ) (x : ℕ) (small : x < stateCount) (room : passedAt + 12 * setBytes ≤ length s) where
+  pub seen-more : (y : ℕ) → seenIn (inserted s (seenBit x)) y ≡ (eqb y x || seenIn s y)
+  seen-more y = member-inserted s (seenBit x) (seenBit y) (omega arith) ∙ ap (λ (b : Bool). b || seenIn s y) same
+    where
+      same : eqb (seenBit y) (seenBit x) ≡ eqb y x
+      same = by-test (eqb y x) (λ t. eq-eqb (seenBit y) (seenBit x) (ap seenBit (eqb-true y x t)) ∙ sym t) (λ f. ne-eqb (seenBit y) (seenBit x) (λ e. eqb-false y x f (omega arith)) ∙ sym f)
+
+  pub seen-bytes : (i : ℕ) → seenAt + setBytes ≤ i → getD (inserted s (seenBit x)) i 0 ≡ getD s i 0
+  seen-bytes i h = byte-kept s (seenBit x) i (λ e. omega arith)
+
+  pub seen-passed : (level : ℕ) (found : Bool) (m : ℕ) → member (inserted s (seenBit x)) (passedBit level found m) ≡ member s (passedBit level found m)
+  seen-passed level found m = member-inserted s (seenBit x) (passedBit level found m) (omega arith) ∙ ap (λ (b : Bool). b || member s (passedBit level found m)) (ne-eqb (passedBit level found m) (seenBit x) (λ e. omega arith))
+
+-- ---- what is passed stays right
+-- more ends seen, the same states passed
+pub passed-kept : (job : Job) (log : List Record) (s s′ : List ℕ) → ((x : ℕ) → x < stateCount → seenIn s x ≡ true → seenIn s′ x ≡ true)
+    → ((level : ℕ) (found : Bool) (m : ℕ) → level < job .count → m < stateCount → member s′ (passedBit level found m) ≡ member s (passedBit level found m)) → PassedRight job log s → PassedRight job log s′
+passed-kept job log s s′ more same f level found m l b y g o e =
+    each-map (λ (c : Candidate). seenIn s (endNumber c) ≡ true) (λ (c : Candidate). seenIn s′ (endNumber c) ≡ true) (λ c v. more (endNumber c) (stateNumber-below (c .key .after)) v)
+    (offers job log level found g []) (f level found m l b (sym (same level found m l b) ∙ y) g o e)
+
+-- ---- one state more
+-- the bit of another depth, flag or state is another
+bit-other : (level level′ m m′ : ℕ) (found found′ : Bool) → m < stateCount → m′ < stateCount → passedBit level found m ≡ passedBit level′ found′ m′ → (level ≡ level′) × (found ≡ found′) × (m ≡ m′)
+bit-other level level′ m m′ true true h k e = (omega arith, refl, omega arith)
+bit-other level level′ m m′ false false h k e = (omega arith, refl, omega arith)
+bit-other level level′ m m′ true false h k e = absurd (omega arith)
+bit-other level level′ m m′ false true h k e = absurd (omega arith)
+
+bit-inside : (level m : ℕ) (found : Bool) → level < 6 → m < stateCount → (8 * passedAt + 8192 * level ≤ passedBit level found m) × (passedBit level found m < 8 * (passedAt + 12 * setBytes))
+bit-inside level m true l h = (omega arith, omega arith)
+bit-inside level m false l h = (omega arith, omega arith)
+
+-- what noting a state leaves
+module _ (s : List ℕ) (level : ℕ) (found : Bool) (m : ℕ) (l : level < 6) (small : m < stateCount) (room : passedAt + 12 * setBytes ≤ length s) where
+  pub pass-length : length (withPassed s level found m) ≡ length s
+  unfolding withPassed
+  pass-length = by-test (eqb level 0) (λ y. rw y refl) (λ n. rw n (length-inserted s (passedBit level found m)))
+
+  pub pass-bytes : (i : ℕ) → (i < passedAt + 2 * setBytes) ⊎ (passedAt + 12 * setBytes ≤ i) → getD (withPassed s level found m) i 0 ≡ getD s i 0
+  unfolding withPassed
+  pass-bytes i h = by-test (eqb level 0) (λ y. rw y refl)
+      (λ n. rw n (byte-kept s (passedBit level found m) i (λ e. let high : level ≢ 0 = eqb-false level 0 n in let b = bit-inside level m found l small in ⊎-elim (λ (q : i < passedAt + 2 * setBytes). omega (arith, b .0)) (λ (q : passedAt + 12 * setBytes ≤ i). omega (arith, b .1)) h)))
+
+  pub pass-seen : (x : ℕ) → x < stateCount → seenIn (withPassed s level found m) x ≡ seenIn s x
+  unfolding withPassed
+  pass-seen x h = by-test (eqb level 0) (λ y. rw y refl)
+      (λ n. rw n (let b = bit-inside level m found l small in member-inserted s (passedBit level found m) (seenBit x) (omega (arith, b .1)) ∙ ap (λ (v : Bool). v || seenIn s x) (ne-eqb (seenBit x) (passedBit level found m) (λ e. omega (arith, b .0)))))
+
+  -- the bits after it are those before it, and that of the state
+  pub pass-bit : (k : ℕ) (b : Bool) (j : ℕ) → member (withPassed s level found m) (passedBit k b j) ≡ true → (member s (passedBit k b j) ≡ true) ⊎ (passedBit k b j ≡ passedBit level found m)
+  unfolding withPassed
+  pass-bit k b j e = by-test (eqb level 0) (λ y. inl (rw y at e))
+      (λ n. by-test (eqb (passedBit k b j) (passedBit level found m)) (λ y. inr (eqb-true (passedBit k b j) (passedBit level found m) y))
+      (λ q. inl (let c = bit-inside level m found l small in let w : member (inserted s (passedBit level found m)) (passedBit k b j) ≡ true = rw n at e in
+      let v : (eqb (passedBit k b j) (passedBit level found m) || member s (passedBit k b j)) ≡ true = sym (member-inserted s (passedBit level found m) (passedBit k b j) (omega (arith, c .1))) ∙ w in rw q at v)))
+
+-- the ends do not depend on the path so far
+each-joined : (job : Job) (Q : ℕ → Type 0) (pre pre′ : List ℕ) (ps : List Path) → Each (λ (c : Candidate). Q (endNumber c)) (map (λ (p : Path). made job (pre ++ p .numbers) (p .end)) ps) → Each (λ (c : Candidate). Q (endNumber c)) (map (λ (p : Path). made job (pre′ ++ p .numbers) (p .end)) ps)
+each-joined job Q pre pre′ [] e = tt
+each-joined job Q pre pre′ (p ∷ ps) e = (e .0, each-joined job Q pre pre′ ps (e .1))
+
+-- a state all of whose ends were seen may be noted
+pub passed-more : (job : Job) (log : List Record) (s : List ℕ) (level : ℕ) (found : Bool) (g : Group) (pre : List ℕ) → level < job .count → job .count ≤ 6 → passedAt + 12 * setBytes ≤ length s → Over (jobProcesses job) g
+    → Each (λ (c : Candidate). seenIn s (endNumber c) ≡ true) (offers job log level found g pre) → PassedRight job log s → PassedRight job log (withPassed s level found (stateNumber g))
+passed-more job log s level found g pre l few room over all right k b j h small y g′ o e =
+    each-map (λ (c : Candidate). seenIn s (endNumber c) ≡ true) (λ (c : Candidate). seenIn (withPassed s level found (stateNumber g)) (endNumber c) ≡ true)
+    (λ c v. pass-seen s level found (stateNumber g) (omega arith) (stateNumber-below g) room (endNumber c) (stateNumber-below (c .key .after)) ∙ v)
+    (offers job log k b g′ [])
+    (⊎-elim (λ (q : member s (passedBit k b j) ≡ true). right k b j h small q g′ o e) this (pass-bit s level found (stateNumber g) (omega arith) (stateNumber-below g) room k b j y))
+  where
+    this : passedBit k b j ≡ passedBit level found (stateNumber g) → Each (λ (c : Candidate). seenIn s (endNumber c) ≡ true) (offers job log k b g′ [])
+    this q =
+        let same = bit-other k level j (stateNumber g) b found small (stateNumber-below g) q in
+        let state : g ≡ g′ = number-injective (jobProcesses job) g g′ over o (sym (e ∙ same .2)) in
+        subst (λ (i : ℕ). Each (λ (c : Candidate). seenIn s (endNumber c) ≡ true) (offers job log i b g′ [])) (sym (same .0))
+        (subst (λ (v : Bool). Each (λ (c : Candidate). seenIn s (endNumber c) ≡ true) (offers job log level v g′ [])) (sym (same .1))
+        (subst (λ (x : Group). Each (λ (c : Candidate). seenIn s (endNumber c) ≡ true) (offers job log level found x [])) state
+        (each-joined job (λ (x : ℕ). seenIn s x ≡ true) pre [] (freshPaths (jobLoc job) log (job .lo) found (drop level (jobWord job)) g) all)))
+
+-- ---- a state that was passed leads to nothing new
+each-filter : (job : Job) (Q : ℕ → Type 0) (f : Path → Bool) (ps : List Path) → Each (λ (c : Candidate). Q (endNumber c)) (map (λ (p : Path). made job ([] ++ p .numbers) (p .end)) ps) → Each (λ (c : Candidate). Q (endNumber c)) (map (λ (p : Path). made job ([] ++ p .numbers) (p .end)) (filter f ps))
+each-filter job Q f [] e = tt
+each-filter job Q f (p ∷ ps) e = by-test (f p) (λ y. rw y (e .0, each-filter job Q f ps (e .1))) (λ n. rw n (each-filter job Q f ps (e .1)))
+
+pub passed-seen : (job : Job) (log : List Record) (s : List ℕ) (level : ℕ) (found : Bool) (g : Group) (pre : List ℕ) → level < job .count → Over (jobProcesses job) g → PassedRight job log s → isPassed s level found (stateNumber g) ≡ true
+    → Each (λ (c : Candidate). seenIn s (endNumber c) ≡ true) (offers job log level found g pre)
+unfolding isPassed
+passed-seen job log s level found g pre l over right y = each-joined job (λ (x : ℕ). seenIn s x ≡ true) [] pre (freshPaths (jobLoc job) log (job .lo) found (drop level (jobWord job)) g) (by-test (member s (passedBit level true (stateNumber g)))
+    (λ t. narrower (right level true (stateNumber g) l (stateNumber-below g) t g over refl))
+    (λ n. right level found (stateNumber g) l (stateNumber-below g) (rw n at y) g over refl))
+  where
+    -- the paths with a record of the last round are some of all paths
+    narrower : Each (λ (c : Candidate). seenIn s (endNumber c) ≡ true) (offers job log level true g []) → Each (λ (c : Candidate). seenIn s (endNumber c) ≡ true) (offers job log level found g [])
+    narrower e =
+        rw (fresh-paths (jobLoc job) (job .lo) log found (drop level (jobWord job)) g)
+        (each-filter job (λ (x : ℕ). seenIn s x ≡ true) (pathFresh (job .lo) found) (paths (jobLoc job) log (drop level (jobWord job)) g)
+        (subst (λ (ps : List Path). Each (λ (c : Candidate). seenIn s (endNumber c) ≡ true) (map (λ (p : Path). made job ([] ++ p .numbers) (p .end)) ps)) (found-paths (jobLoc job) (job .lo) log (drop level (jobWord job)) g) e))
 
 -- candidates whose ends were all seen change nothing
 pub searched-nothing : (job : Job) (cs : List Candidate) (count : ℕ) (log s : List ℕ) → count ≤ job .n + 1 → Each (λ (c : Candidate). seenIn s (endNumber c) ≡ true) cs → PassedRight job (glances log (job .base)) s
@@ -47,7 +159,7 @@ pub searched-log : (job : Job) (cs : List Candidate) (count : ℕ) (log s : List
 searched-log job cs count log s count′ log′ s′ holds d = ap length (d .written) ∙ stored-length (job .n) log count (map (addedRecord (job .round) (glances log (job .base))) (taken (seenIn s) cs)) holds
 
 -- ---- the record of an end
-module _ (job : Job) (log s : List ℕ) (state : ℕ) (trail : Trail) (ready : Searchable job log s) (stands : Standing job log (job .count) state trail) where
+module _ {job : Job} {log s : List ℕ} {state : ℕ} {trail : Trail} (ready : Searchable job log s) (stands : Standing job log (job .count) state trail) where
   abbrev after : ℕ
   after = restrictedBits (job .mask) state
 
@@ -57,7 +169,7 @@ module _ (job : Job) (log s : List ℕ) (state : ℕ) (trail : Trail) (ready : S
   after-is : unpacked after ≡ restrict (jobProcesses job) (unpacked state)
   after-is = ap (λ (m : ℕ). unpacked (restrictedBits m state)) (ready .own) ∙ restrict-unpacked (jobProcesses job) state (stands .packed)
 
-  pub end-is : packNumber after ≡ endNumber new
+  end-is : packNumber after ≡ endNumber new
   end-is = number-unpacked after (rw (ready .own) (restrict-below (jobProcesses job) state (stands .packed))) ∙ ap stateNumber after-is
 
   -- the places behind the path's end are those of no record
@@ -86,17 +198,22 @@ module _ (job : Job) (log s : List ℕ) (state : ℕ) (trail : Trail) (ready : S
 
   -- ---- what an arrival leaves
   module _ (count : ℕ) (few : count ≤ job .n + 1) where
-    pub arrived-stale : (found : Bool) → found ≡ false → Searched job (arrivals job found state trail) count log s count log s
-    arrived-stale found f = rw f (searched-nothing job [] count log s few tt (ready .passed))
+    pub arrived-stale : {found : Bool} → found ≡ false → Searched job (arrivals job found state trail) count log s count log s
+    arrived-stale f = rw f (searched-nothing job [] count log s few tt (ready .passed))
 
-    pub arrived-seen : (found : Bool) (x : ℕ) → found ≡ true → x ≡ packNumber after → seenIn s x ≡ true → Searched job (arrivals job found state trail) count log s count log s
-    arrived-seen found x f e y = rw f (searched-nothing job (new ∷ []) count log s few (subst (λ (k : ℕ). seenIn s k ≡ true) (e ∙ end-is) y, tt) (ready .passed))
+    pub arrived-seen : {found : Bool} {y x : ℕ} → found ≡ true → y ≡ restrictedBits (job .mask) state → x ≡ packNumber y → seenIn s x ≡ true
+        → Searched job (arrivals job found state trail) count log s count log s
+    arrived-seen f y-is e y =
+        rw f (searched-nothing job (new ∷ []) count log s few (subst (λ (k : ℕ). seenIn s k ≡ true) (e ∙ ap packNumber y-is ∙ end-is) y, tt) (ready .passed))
 
-    pub arrived-new : (found : Bool) (x : ℕ) (count′ : ℕ) (log′ s′ : List ℕ) → found ≡ true → x ≡ packNumber after → seenIn s x ≡ false → s′ ≡ inserted s (seenBit x) → count′ ≡ min (count + 1) (job .n + 1) → log′ ≡ storedEnd log job after trail count
+    pub arrived-new : {found : Bool} {y x count′ : ℕ} {log′ s′ : List ℕ} → found ≡ true → y ≡ restrictedBits (job .mask) state → x ≡ packNumber y
+        → seenIn s x ≡ false → s′ ≡ inserted s (seenBit x)
+        → (count′ ≡ min (count + 1) (job .n + 1)) × (log′ ≡ storedEnd log job y trail count)
         → Searched job (arrivals job found state trail) count log s count′ log′ s′
-    arrived-new found x count′ log′ s′ f e n q r w = rw (f, q) (record {
-      counted = r ∙ ap (λ (l : List Candidate). min (count + length l) (job .n + 1)) (sym one);
-      written = w ∙ stored-is count ∙ ap (λ (l : List Candidate). stored (job .n) log count (map (addedRecord (job .round) (glances log (job .base))) l)) (sym one);
+    arrived-new {y = y} {x = x} f y-is x-is n q w = rw (f, q) (record {
+      counted = w .0 ∙ ap (λ (l : List Candidate). min (count + length l) (job .n + 1)) (sym one);
+      written = w .1 ∙ ap (λ (y : ℕ). storedEnd log job y trail count) y-is ∙ stored-is count ∙ ap
+          (λ (l : List Candidate). stored (job .n) log count (map (addedRecord (job .round) (glances log (job .base))) l)) (sym one);
       seen = λ y h. seen-more s x small room y ∙ turned y;
       scratch-length = length-inserted s (seenBit x);
       kept = λ i a b. seen-bytes s x small room i a;
@@ -104,6 +221,9 @@ module _ (job : Job) (log s : List ℕ) (state : ℕ) (trail : Trail) (ready : S
       passed = passed-kept job (glances log (job .base)) s (inserted s (seenBit x)) (λ y h v. seen-more s x small room y ∙ rw v (or-true (eqb y x))) (λ l g m h b. seen-passed s x small room l g m) (ready .passed);
     })
       where
+        e : x ≡ packNumber (restrictedBits (job .mask) state)
+        e = x-is ∙ ap packNumber y-is
+
         small : x < stateCount
         small = rw (e ∙ end-is) (stateNumber-below (new .key .after))
 
@@ -113,15 +233,9 @@ module _ (job : Job) (log s : List ℕ) (state : ℕ) (trail : Trail) (ready : S
         one : taken (seenIn s) (new ∷ []) ≡ new ∷ []
         one = rw (ap (seenIn s) (sym (e ∙ end-is)) ∙ n) refl
 
-        or-true : (b : Bool) → (b || true) ≡ true
-        or-true true = refl
-        or-true false = refl
-
         turned : (y : ℕ) → (eqb y x || seenIn s y) ≡ (seenIn s y || (eqb y (endNumber new) || false))
         turned y = ap (λ (k : ℕ). eqb y k || seenIn s y) (e ∙ end-is) ∙ swap (eqb y (endNumber new)) (seenIn s y)
           where
             swap : (a b : Bool) → (a || b) ≡ (b || (a || false))
-            swap true true = refl
-            swap true false = refl
-            swap false true = refl
-            swap false false = refl
+            swap true b = sym (or-true b)
+            swap false b = sym (or-false b)

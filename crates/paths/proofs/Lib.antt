@@ -1,5 +1,4 @@
 pub mod Arrivals
-pub mod Passing
 pub mod Arriving
 pub mod Glances
 pub mod Extending

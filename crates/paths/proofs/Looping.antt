@@ -8,7 +8,7 @@ use native.Mathlib.Numerals.{add-one}
 use native.Mathlib.Omega.{arith}
 use lib.Dec.{leb}
 use lib.ListN.{getD, length, take}
-use Rattle.model.specs.Log.{Candidate}
+use Rattle.model.specs.Log.{Candidate, stepsCap}
 use Rattle.model.specs.Tables.{writtenPlaces}
 use Rattle.model.proofs.FreshPaths.{freshPaths}
 use Rattle.model.proofs.Tests.{by-test}
@@ -23,33 +23,36 @@ use Rattle.scratch.specs.Regions.{passedAt, ringsAt, setBytes}
 use Rattle.paths.specs.declared.Job.{Job}
 use Rattle.paths.specs.declared.Trail.{Trail}
 use Rattle.paths.specs.Jobs.{Searchable, Searched, Standing, arrivals, firstTried, glances, isPassed, jobLoc, longerTrail, made, offers, withPassed}
-use Rattle.paths.proofs.Arriving.{searched-nothing}
+use Rattle.paths.proofs.Arriving.{searched-nothing, pass-bytes, pass-length, pass-seen, passed-more, passed-seen}
 use Rattle.paths.proofs.Glances.{reads-same}
-use Rattle.paths.proofs.Passing.{pass-bytes, pass-length, pass-seen, passed-more, passed-seen}
 use Rattle.paths.proofs.Turns.{Going, by-record, earlier, going-count, going-end, going-ready, going-seen, going-stands, going-start, going-turn, joined, log-size, word-end}
 
 -- what the search from a state comes to
 abbrev pub Explored : Job → ℕ → ℕ → Bool → Trail → ℕ → List ℕ → List ℕ → ℕ → List ℕ → List ℕ → Type 0
 Explored job level state found trail count log s count′ log′ s′ = Searched job (offers job (glances log (job .base)) level found (unpacked state) (take level (trail .places))) count log s count′ log′ s′
 
--- ---- without the loop
--- at the word's end there is one path, the empty one
-pub explored-end : (job : Job) (level state : ℕ) (found : Bool) (trail : Trail) (count : ℕ) (log s : List ℕ) (count′ : ℕ) (log′ s′ : List ℕ) → Searchable job log s → level ≡ job .count
-    → Searched job (arrivals job found state trail) count log s count′ log′ s′ → Explored job level state found trail count log s count′ log′ s′
-explored-end job level state found trail count log s count′ log′ s′ ready e d =
-    subst (λ (cs : List Candidate). Searched job cs count log s count′ log′ s′) (sym one) d
-  where
-    one : offers job (glances log (job .base)) level found (unpacked state) (take level (trail .places)) ≡ arrivals job found state trail
-    one = ap (λ (k : ℕ). offers job (glances log (job .base)) k found (unpacked state) (take k (trail .places))) e
-        ∙ ap (λ (w : List ℕ). map (joined job (take (job .count) (trail .places))) (freshPaths (jobLoc job) (glances log (job .base)) (job .lo) found w (unpacked state))) (word-end job (omega (arith, ready .few, ready .letters)))
-        ∙ by-test found (λ y. rw y (ap (λ (ns : List ℕ). made job ns (unpacked state) ∷ []) (append-nil (take (job .count) (trail .places))))) (λ n. rw n refl)
+-- what it asks
+abbrev Asked : Job → ℕ → ℕ → Trail → ℕ → List ℕ → List ℕ → Type 0
+Asked job level state trail count log s = Searchable job log s × Standing job log level state trail × (job .base ≤ count) × (count ≤ job .n + 1)
 
--- a state that was passed
-pub explored-passed : (job : Job) (level state : ℕ) (found : Bool) (trail : Trail) (count : ℕ) (log s : List ℕ) (x : ℕ) → Searchable job log s → Standing job log level state trail → (level ≡ job .count → ⊥) → count ≤ job .n + 1
-    → x ≡ packNumber state → isPassed s level found x ≡ true → Explored job level state found trail count log s count log s
-explored-passed job level state found trail count log s x ready stands ne few e y =
-    searched-nothing job (offers job (glances log (job .base)) level found (unpacked state) (take level (trail .places))) count log s few
-    (passed-seen job (glances log (job .base)) s level found (unpacked state) (take level (trail .places)) (omega (arith, stands .within)) (stands .over) (ready .passed) (subst (λ (m : ℕ). isPassed s level found m ≡ true) (e ∙ number-unpacked state (stands .packed)) y)) (ready .passed)
+-- ---- without the loop
+module _ {job : Job} {level state : ℕ} (found : Bool) {trail : Trail} {count : ℕ} {log s : List ℕ} (p : Asked job level state trail count log s) where
+  -- at the word's end there is one path, the empty one
+  pub explored-end : {count′ : ℕ} {log′ s′ : List ℕ} → level ≡ job .count → Searched job (arrivals job found state trail) count log s count′ log′ s′
+      → Explored job level state found trail count log s count′ log′ s′
+  explored-end {count′} {log′} {s′} e d = subst (λ (cs : List Candidate). Searched job cs count log s count′ log′ s′) (sym one) d
+    where
+      one : offers job (glances log (job .base)) level found (unpacked state) (take level (trail .places)) ≡ arrivals job found state trail
+      one = ap (λ (k : ℕ). offers job (glances log (job .base)) k found (unpacked state) (take k (trail .places))) e
+          ∙ ap (λ (w : List ℕ). map (joined job (take (job .count) (trail .places))) (freshPaths (jobLoc job) (glances log (job .base)) (job .lo) found w (unpacked state))) (word-end job (omega (arith, p .0 .few, p .0 .letters)))
+          ∙ by-test found (λ y. rw y (ap (λ (ns : List ℕ). made job ns (unpacked state) ∷ []) (append-nil (take (job .count) (trail .places))))) (λ n. rw n refl)
+
+  -- a state that was passed
+  pub explored-passed : {x : ℕ} → (level ≡ job .count → ⊥) → x ≡ packNumber state → isPassed s level found x ≡ true → Explored job level state found trail count log s count log s
+  explored-passed ne e y =
+      searched-nothing job (offers job (glances log (job .base)) level found (unpacked state) (take level (trail .places))) count log s (p .3)
+      (passed-seen job (glances log (job .base)) s level found (unpacked state) (take level (trail .places)) (omega (arith, p .1 .within)) (p .1 .over) (p .0 .passed)
+      (subst (λ (m : ℕ). isPassed s level found m ≡ true) (e ∙ number-unpacked state (p .1 .packed)) y)) (p .0 .passed)
 
 -- ---- the loop
 pub record Looping (log₀ s₀ : List ℕ) (job : Job) (level state : ℕ) (found : Bool) (trail : Trail) (count x letter mask g base n : ℕ) (log s : List ℕ) (total r : ℕ) : Type 0 where
@@ -65,11 +68,12 @@ pub record Looping (log₀ s₀ : List ℕ) (job : Job) (level state : ℕ) (fou
   pub is-n : n ≡ job .n
   pub going : Going job level state found trail count log₀ s₀ ready stands more low log s total r
 
-pub looping-start : (log₀ s₀ : List ℕ) (job : Job) (level state : ℕ) (found : Bool) (trail : Trail) (count x letter mask g r : ℕ) → Searchable job log₀ s₀ → Standing job log₀ level state trail → job .base ≤ count → count ≤ job .n + 1 → (level ≡ job .count → ⊥)
+pub looping-start : {log₀ s₀ : List ℕ} {job : Job} {level state : ℕ} {found : Bool} {trail : Trail} {count x letter mask g r : ℕ}
+    → Asked job level state trail count log₀ s₀ → (level ≡ job .count → ⊥)
     → x ≡ packNumber state → letter ≡ getD (job .letters) level 0 → mask ≡ getD (job .masks) level 0 → g ≡ restrictedBits mask state
     → r ≡ firstFrom (recordReads log₀ letter g) (firstTried job level found) (job .base - firstTried job level found)
     → Looping log₀ s₀ job level state found trail count x letter mask g (job .base) (job .n) log₀ s₀ count r
-looping-start log₀ s₀ job level state found trail count x letter mask g r ready stands low few ne i l m k q =
+looping-start {log₀} {s₀} {job} {level} {state} {found} {trail} {count} {g = g} {r = r} (ready, stands, low, few) ne i l m k q =
     let more : level < job .count = omega (arith, stands .within, ne) in
     let key-is : g ≡ restrictedBits (getD (job .masks) level 0) state = k ∙ ap (λ (y : ℕ). restrictedBits y state) m in
     record {
@@ -88,10 +92,10 @@ looping-start log₀ s₀ job level state found trail count x letter mask g r re
 
 module _ {log₀ s₀ : List ℕ} {job : Job} {level state : ℕ} {found : Bool} {trail : Trail} {count x letter mask g base n : ℕ} {log s : List ℕ} {total r : ℕ}
     (o : Looping log₀ s₀ job level state found trail count x letter mask g base n log s total r) where
-  pub looping-ready : Searchable job log s
+  looping-ready : Searchable job log s
   looping-ready = going-ready job level state found trail count log₀ s₀ (o .ready) (o .stands) (o .more) (o .low) log s total r (o .going)
 
-  pub looping-count : (job .base ≤ total) × (total ≤ job .n + 1)
+  looping-count : (job .base ≤ total) × (total ≤ job .n + 1)
   looping-count = going-count job level state found trail count log₀ s₀ (o .ready) (o .stands) (o .more) (o .low) log s total r (o .going)
 
   pub looping-log : length log ≡ length log₀
@@ -100,8 +104,8 @@ module _ {log₀ s₀ : List ℕ} {job : Job} {level state : ℕ} {found : Bool}
   pub looping-pass : (level < 6) × (x < stateCount) × (passedAt + 12 * setBytes ≤ length s)
   looping-pass = (omega (arith, o .more, o .ready .few), rw (o .is-number) (stateNumber-below (unpacked state)), omega (arith, looping-ready .room .room))
 
-  pub looping-scratch : (s′ : List ℕ) → s′ ≡ withPassed s level found x → length s′ ≡ length s₀
-  looping-scratch s′ e = ap length e ∙ pass-length s level found x (looping-pass .0) (looping-pass .1) (looping-pass .2) ∙ o .going .scratch-length
+  pub looping-scratch : {s′ : List ℕ} → s′ ≡ withPassed s level found x → length s′ ≡ length s₀
+  looping-scratch e = ap length e ∙ pass-length s level found x (looping-pass .0) (looping-pass .1) (looping-pass .2) ∙ o .going .scratch-length
 
   pub looping-level : level < writtenPlaces
   looping-level = omega (arith, o .more, o .ready .few)
@@ -112,34 +116,41 @@ module _ {log₀ s₀ : List ℕ} {job : Job} {level state : ℕ} {found : Bool}
   pub looping-record : r < base → HasRecord log r
   looping-record h = omega (arith, o .is-base, looping-ready .room .records)
 
-  -- the states behind record r
-  module _ (h : r < base) {after next : ℕ} {new : Bool} {on : Trail} (a : after ≡ packedAfter log r) (e : next ≡ mergedBits mask after state) (f : new ≡ (found || leb (job .lo) r)) (t : on ≡ longerTrail log trail level r) where
-    next-is : next ≡ mergedBits (getD (job .masks) level 0) (packedAfter log r) state
-    next-is = e ∙ ap₂ (λ (m y : ℕ). mergedBits m y state) (o .is-mask) a
+  -- the path may grow by the record
+  pub looping-longer : r < base → (level < writtenPlaces) × (r < 65536) × HasRecord log r × (trail .steps ≤ stepsCap)
+  looping-longer h = (looping-level, omega (arith, o .is-base, o .ready .room .fits, o .ready .room .short), looping-record h, omega (arith, o .stands .steps))
 
-    pub looping-stands : Standing job log (level + 1) next on
-    looping-stands =
-        subst (λ (k : ℕ). Standing job log k next on) (sym (add-one level))
-        (subst (λ (y : ℕ). Standing job log (suc level) y on) (sym next-is)
-        (subst (λ (y : Trail). Standing job log (suc level) (mergedBits (getD (job .masks) level 0) (packedAfter log r) state) y) (sym t)
-        (going-stands job level state found trail count log₀ s₀ (o .ready) (o .stands) (o .more) (o .low) log s total r (o .going) (below-base h))))
+  -- record r leads to the state next
+  module _ (h : r < base) {y next : ℕ} {new : Bool} {on : Trail} (y-is : y ≡ packedAfter log r) (e : next ≡ mergedBits mask y state)
+      (f : new ≡ (found || leb (job .lo) r)) (t : on ≡ longerTrail log trail level r) where
+    next-is : next ≡ mergedBits (getD (job .masks) level 0) (packedAfter log r) state
+    next-is = e ∙ ap₂ (λ (m y : ℕ). mergedBits m y state) (o .is-mask) y-is
+
+    pub looping-asks : Asked job (level + 1) next on total log s
+    looping-asks = (looping-ready, stands, looping-count .0, looping-count .1)
+      where
+        stands : Standing job log (level + 1) next on
+        stands =
+            rw (add-one level, next-is, t) (going-stands job level state found trail count log₀ s₀ (o .ready) (o .stands) (o .more) (o .low) log s total r
+            (o .going) (below-base h))
 
     -- record r reads the last letter
-    pub last-stands : level + 1 ≡ job .count → Standing job log (job .count) next on
-    last-stands w = subst (λ (k : ℕ). Standing job log k next on) w looping-stands
+    pub last-asks : level + 1 ≡ job .count → Asked job (job .count) next on total log s
+    last-asks w = (looping-asks .0, rw w at (looping-asks .1), looping-asks .2, looping-asks .3)
 
-    pub last-explored : level + 1 ≡ job .count → {total′ : ℕ} {log′ s′ : List ℕ} → Searched job (arrivals job new next on) total log s total′ log′ s′ → Explored job (level + 1) next new on total log s total′ log′ s′
-    last-explored w d = explored-end job (level + 1) next new on total log s _ _ _ looping-ready w d
+    pub last-explored : {total′ : ℕ} {log′ s′ : List ℕ} → level + 1 ≡ job .count → Searched job (arrivals job new next on) total log s total′ log′ s′
+        → Explored job (level + 1) next new on total log s total′ log′ s′
+    last-explored w d = explored-end new looping-asks w d
 
-    module _ (total′ : ℕ) (log′ s′ : List ℕ) (d : Explored job (level + 1) next new on total log s total′ log′ s′) where
+    module _ {total′ : ℕ} {log′ s′ : List ℕ} (d : Explored job (level + 1) next new on total log s total′ log′ s′) where
       searched : Searched job (by-record job level state found trail count log₀ s₀ (o .ready) (o .stands) (o .more) (o .low) log s total r (o .going) (below-base h)) total log s total′ log′ s′
       searched =
           subst (λ (y : Trail). Explored job (suc level) (mergedBits (getD (job .masks) level 0) (packedAfter log r) state) (found || leb (job .lo) r) y total log s total′ log′ s′) t
           (subst (λ (b : Bool). Explored job (suc level) (mergedBits (getD (job .masks) level 0) (packedAfter log r) state) b on total log s total′ log′ s′) f
           (subst (λ (y : ℕ). Explored job (suc level) y new on total log s total′ log′ s′) next-is (subst (λ (k : ℕ). Explored job k next new on total log s total′ log′ s′) (add-one level) d)))
 
-      pub looping-again : (r′ : ℕ) → r′ ≡ firstFrom (recordReads log′ letter g) (r + 1) (base - (r + 1)) → Looping log₀ s₀ job level state found trail count x letter mask g base n log′ s′ total′ r′
-      looping-again r′ y = record {
+      pub looping-again : {r′ : ℕ} → r′ ≡ firstFrom (recordReads log′ letter g) (r + 1) (base - (r + 1)) → Looping log₀ s₀ job level state found trail count x letter mask g base n log′ s′ total′ r′
+      looping-again {r′} y = record {
         ready = o .ready;
         stands = o .stands;
         more = o .more;
@@ -157,23 +168,24 @@ module _ {log₀ s₀ : List ℕ} {job : Job} {level state : ℕ} {found : Bool}
       }
 
       again : Looping log₀ s₀ job level state found trail count x letter mask g base n log′ s′ total′ (firstFrom (recordReads log′ letter g) (r + 1) (base - (r + 1)))
-      again = looping-again (firstFrom (recordReads log′ letter g) (r + 1) (base - (r + 1))) refl
+      again = looping-again refl
 
-      ready-again : Searchable job log′ s′
-      ready-again = going-ready job level state found trail count log₀ s₀ (again .ready) (again .stands) (again .more) (again .low) log′ s′ total′ (firstFrom (recordReads log′ letter g) (r + 1) (base - (r + 1))) (again .going)
+      after : Searchable job log′ s′
+      after = going-ready job level state found trail count log₀ s₀ (again .ready) (again .stands) (again .more) (again .low) log′ s′ total′ (firstFrom (recordReads log′ letter g) (r + 1) (base - (r + 1))) (again .going)
 
-      pub next-requires : RingRoom log′ base n ringsAt s′ × Ringed log′ base n ringsAt s′ × (r < base) × (recordReads log′ letter g r ≡ true)
-      next-requires = (
-        rw (o .is-base, o .is-n) (ready-again .room),
-        rw (o .is-base, o .is-n) (ready-again .ringed),
+      -- the next record may be looked for
+      pub looping-next : RingRoom log′ base n ringsAt s′ × Ringed log′ base n ringsAt s′ × (r < base) × (recordReads log′ letter g r ≡ true)
+      looping-next = (
+        rw (o .is-base, o .is-n) (after .room),
+        rw (o .is-base, o .is-n) (after .ringed),
         h,
         reads-same log₀ log′ (job .base) (earlier job level state found trail count log₀ s₀ (again .ready) (again .stands) (again .more) (again .low) log′ s′ total′ (firstFrom (recordReads log′ letter g) (r + 1) (base - (r + 1))) (again .going)) letter g r (below-base h)
             ∙ ap₂ (λ (a k : ℕ). recordReads log₀ a k r) (o .is-letter) (o .is-key) ∙ o .going .reads (below-base h),
       )
 
   -- ---- no record is left
-  pub looping-end : base ≤ r → (s′ : List ℕ) → s′ ≡ withPassed s level found x → Explored job level state found trail count log₀ s₀ total log s′
-  looping-end h s′ e =
+  pub looping-end : base ≤ r → {s′ : List ℕ} → s′ ≡ withPassed s level found x → Explored job level state found trail count log₀ s₀ total log s′
+  looping-end h e =
       let stop : job .base ≤ r = omega (arith, o .is-base) in
       let few : level < 6 = omega (arith, o .more, o .ready .few) in
       let room : passedAt + 12 * setBytes ≤ length s = omega (arith, looping-ready .room .room) in

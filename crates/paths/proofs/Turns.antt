@@ -1,14 +1,14 @@
 -- The loop of the search: the records that read a letter, one after the other.
 use mathlib.Core.Path.{_∙_, _≡_, ap, ap₂, refl, sym}
 use mathlib.Core.Bool.{Bool, _&&_, _||_, cond, false, true}
-use mathlib.Core.Logic.{_⊎_, inl, inr}
+use mathlib.Core.Logic.{⊎-elim}
 use mathlib.Core.List.{List, List·Memᴰ, List·Memᴰ·cases-cons, List·Memᴰ·not-nil, [], _++_, _∷_, append-assoc, append-nil, map}
 use Prim.Native.Nat.{_*_, _+_, _-_, _<_, _≤_, min, suc, zero, ℕ}
 use native.Mathlib.Nat.{le-refl}
 use native.Mathlib.Omega.{arith}
 use lib.Dec.{eqb, leb}
 use lib.ListN.{drop, drop-of-length-le, getD, length, length-append, length-drop, length-map, length-set, length-take, set, take}
-use lib.Seq.{drop-cons, getD-drop, getD-set-other, getD-take}
+use lib.Seq.{drop-cons, getD-drop, getD-set-other, getD-take, take-suc-set}
 use borrow.Author.Tests.{eqb-true, ltb-false}
 use Rattle.model.specs.declared.Group.{Group}
 use Rattle.model.specs.Automata.{move}
@@ -60,18 +60,13 @@ unfolding firstFrom
 first-cong f h m zero e = refl
 first-cong f h m (suc k) e = ap₂ (λ (b : Bool) (n : ℕ). cond b m n) (e m (omega arith) (omega arith)) (first-cong f h (suc m) k (λ i a b. e i (omega arith) (omega arith)))
 
-mem-at : (l : List ℕ) (x : ℕ) → List·Memᴰ x l → (j : ℕ) × (j < length l) × (getD l j 0 ≡ x)
-mem-at [] x m = absurd (List·Memᴰ·not-nil m)
-mem-at (y ∷ l) x m = step (λ q. mem-at l x q) (List·Memᴰ·cases-cons m)
-  where
-    step : (List·Memᴰ x l → (j : ℕ) × (j < length l) × (getD l j 0 ≡ x)) → (x ≡ y) ⊎ List·Memᴰ x l → (j : ℕ) × (j < length (y ∷ l)) × (getD (y ∷ l) j 0 ≡ x)
-    step later (inl e) = (0, omega arith, sym e)
-    step later (inr q) = let r = later q in (suc (r .0), omega (arith, r .1), r .2)
-
-pub take-more : (l : List ℕ) (k x : ℕ) → k < length l → take (suc k) (set l k x) ≡ take k l ++ (x ∷ [])
-take-more [] k x h = absurd (omega arith)
-take-more (y ∷ l) zero x h = refl
-take-more (y ∷ l) (suc k) x h = ap (λ (m : List ℕ). y ∷ m) (take-more l k x (omega arith))
+-- the place of a member
+pub place-of : {A : Type 0} (l : List A) (d x : A) → List·Memᴰ x l → (j : ℕ) × (j < length l) × (getD l j d ≡ x)
+place-of [] d x m = absurd (List·Memᴰ·not-nil m)
+place-of {A} (y ∷ l) d x m = ⊎-elim
+    (λ (e : x ≡ y). (0, omega arith, sym e))
+    (λ (q : List·Memᴰ x l). let r = place-of l d x q in (suc (r .0), omega (arith, r .1), r .2))
+    (List·Memᴰ·cases-cons m)
 
 sum-more : (f : ℕ → ℕ) (ns : List ℕ) (r : ℕ) → sumOver f (ns ++ (r ∷ [])) ≡ sumOver f ns + f r
 sum-more f [] r = omega arith
@@ -164,7 +159,7 @@ module _ (job : Job) (level state : ℕ) (found : Bool) (trail : Trail) (count :
   stale-behind : laterFresh job level ≡ false → Stale (jobLoc job) (job .lo) A (drop (suc level) (jobWord job))
   stale-behind f n p q m =
       let below : n < job .base = rw (← length-glances log₀ 0 (job .base)) q in
-      let at = mem-at (drop (suc level) (jobWord job)) (recordAt A n .key .letter) m in
+      let at = place-of (drop (suc level) (jobWord job)) 0 (recordAt A n .key .letter) m in
       let size = length-word job (omega (arith, ready .few, ready .letters)) in
       let inside : suc level + at .0 < job .count = omega (arith, at .1, length-drop (suc level) (jobWord job)) in
       ready .stale n (suc level + at .0) p below (omega (arith, ltb-false level (job .last) f)) inside
@@ -257,7 +252,7 @@ module _ (job : Job) (level state : ℕ) (found : Bool) (trail : Trail) (count :
       places-size = omega (arith, stands .size, ready .few)
 
       numbers-are : take (suc level) (longerTrail log trail level r .places) ≡ pre ++ (r ∷ [])
-      numbers-are = take-more (trail .places) level r places-size
+      numbers-are = take-suc-set (trail .places) level r places-size
 
       pub going-stands : Standing job log (suc level) led (longerTrail log trail level r)
       going-stands = record {

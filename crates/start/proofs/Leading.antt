@@ -1,6 +1,6 @@
 -- Laws of the search for the lowest record that reads a letter and leads into a set.
-use mathlib.Core.Path.{_≡_, ap, sym, subst, _∙_}
-use mathlib.Core.Bool.{true, false, true≢false}
+use mathlib.Core.Path.{_≡_, ap, sym, _∙_}
+use mathlib.Core.Bool.{Bool, true, false, true≢false}
 use mathlib.Core.List.{List}
 use Prim.Native.Nat.{ℕ, _+_, _-_, _<_, _≤_}
 use native.Mathlib.Decide.{decLt}
@@ -38,42 +38,41 @@ module _ (log members : List ℕ) (a : Letter) (g : Group) where
     pub reading : r < count → recordReads log (a .number) before r ≡ true
     pub fails : Fails (leads log members a g) 0 r
 
-  pub seeking-start : (before count r : ℕ) → before ≡ packed (restrict (processesOf (a .bits)) g) → r ≡ firstFrom (recordReads log (a .number) before) 0 count
-      → Seeking before count r
-  seeking-start before count r is e =
+module _ {log members : List ℕ} {a : Letter} {g : Group} {before count r : ℕ} where
+  pub seeking-start : before ≡ packed (restrict (processesOf (a .bits)) g) → r ≡ firstFrom (recordReads log (a .number) before) 0 count → Seeking log members a g before count r
+  seeking-start is e =
       let f = first-at (recordReads log (a .number) before) 0 count r e in
-      record { states = is; high = omega (arith, f .high); reading = λ h. f .passes (omega arith); fails = fails-lead before 0 r is (f .fails) }
+      record { states = is; high = omega (arith, f .high); reading = λ h. f .passes (omega arith); fails = fails-lead log members a g before 0 r is (f .fails) }
 
-  module _ {before count r : ℕ} (s : Seeking before count r) where
-    -- where the record leads
-    pub seeking-leads : r < count → leads log members a g r ≡ member members (stateNumber (merge (processesOf (a .bits)) (afterAt log r) g))
-    seeking-leads h = lead-reads r (sym (ap (λ (d : ℕ). recordReads log (a .number) d r) (s .states)) ∙ s .reading h)
+  -- b tells whether record r, which reads the letter, leads into the set
+  module _ (s : Seeking log members a g before count r) where
+    seeking-leads : {b : Bool} → r < count → b ≡ member members (stateNumber (merge (processesOf (a .bits)) (afterAt log r) g)) → leads log members a g r ≡ b
+    seeking-leads h e = lead-reads log members a g r (sym (ap (λ (d : ℕ). recordReads log (a .number) d r) (s .states)) ∙ s .reading h) ∙ sym e
 
-    pub seeking-turn : (q : ℕ) → leads log members a g r ≡ false → q ≡ firstFrom (recordReads log (a .number) before) (r + 1) (count - (r + 1)) → r < count → Seeking before count q
-    seeking-turn q n e h =
+    pub seeking-turn : {q : ℕ} {b : Bool} → r < count → b ≡ member members (stateNumber (merge (processesOf (a .bits)) (afterAt log r) g)) → b ≡ false
+        → q ≡ firstFrom (recordReads log (a .number) before) (r + 1) (count - (r + 1)) → Seeking log members a g before count q
+    seeking-turn {q} h is n e =
         let f = first-at (recordReads log (a .number) before) (r + 1) (count - (r + 1)) q e in
         record {
           states = s .states;
           high = omega (arith, f .high);
           reading = λ l. f .passes (omega arith);
           fails = fails-join (leads log members a g) 0 r q (s .fails)
-              (fails-join (leads log members a g) r (r + 1) q (fails-one (leads log members a g) r n) (fails-lead before (r + 1) q (s .states) (f .fails)));
+              (fails-join (leads log members a g) r (r + 1) q (fails-one (leads log members a g) r (seeking-leads h is ∙ n))
+              (fails-lead log members a g before (r + 1) q (s .states) (f .fails)));
         }
 
-    pub seeking-found : leads log members a g r ≡ true → r ≡ firstLead log count members a g
+    pub seeking-found : {b : Bool} → r < count → b ≡ member members (stateNumber (merge (processesOf (a .bits)) (afterAt log r) g)) → b ≡ true
+        → r ≡ firstLead log count members a g
     unfolding firstLead
-    seeking-found t = first-is (leads log members a g) 0 count r (record { low = omega arith; high = omega (arith, s .high); passes = λ h. t; fails = s .fails })
+    seeking-found h is y =
+        first-is (leads log members a g) 0 count r (record { low = omega arith; high = omega (arith, s .high); passes = λ l. seeking-leads h is ∙ y; fails = s .fails })
 
     pub seeking-none : count ≤ r → count ≡ firstLead log count members a g
     unfolding firstLead
     seeking-none h =
         let e : r ≡ count = omega (arith, s .high) in
-        first-is (leads log members a g) 0 count count (record {
-          low = omega arith;
-          high = omega arith;
-          passes = λ l. absurd (omega arith);
-          fails = subst (λ (k : ℕ). Fails (leads log members a g) 0 k) e (s .fails);
-        })
+        sym e ∙ first-is (leads log members a g) 0 count r (record { low = omega arith; high = omega (arith, s .high); passes = λ l. absurd (omega arith); fails = s .fails })
 
 -- the next record that reads comes later
 pub reads-later : (log : List ℕ) (letter before count r q : ℕ) → q ≡ firstFrom (recordReads log letter before) (r + 1) (count - (r + 1)) → r < q

@@ -1,11 +1,8 @@
 pub mod ScratchRegions
 pub mod Leading
-pub mod Filling
 pub mod OwnGroups
-pub mod Frames
 pub mod NextNumbers
 pub mod Adding
-pub mod Sources
 pub mod Grounds
 pub mod RestRight
 pub mod Tracing

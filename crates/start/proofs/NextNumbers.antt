@@ -5,6 +5,7 @@ use native.Mathlib.Decide.{ℕ-discrete}
 use native.Mathlib.Omega.{arith}
 use Rattle.model.specs.Groups.{Process, p0, p1, p2, p3}
 use Rattle.automaton.specs.StateNumbers.{stateCount, digit}
+use Rattle.wordsets.proofs.States.{each-process}
 use Rattle.start.specs.OwnGroups.{Under, NextUnder}
 
 -- what holds of the shifts of all four processes
@@ -33,47 +34,25 @@ low-turn : (top x z k : ℕ) → k % 3 ≡ 0 → k < 12 → Under top z → top 
 low-turn top x z k m h u f l = by-shift (λ (k : ℕ). top / 2 ^ k % 8 ≤ x / 2 ^ k % 8 → z % 2 ^ k ≤ x % 2 ^ k → z % 2 ^ (k + 3) ≤ x % 2 ^ (k + 3))
     (λ f l. omega (arith, u p3)) (λ f l. omega (arith, u p2)) (λ f l. omega (arith, u p1)) (λ f l. omega (arith, u p0)) k m h f l
 
-pub raising-turn : (top x k : ℕ) → k < 12 → top / 2 ^ k % 8 ≤ x / 2 ^ k % 8 → Raising top x k → Raising top x (k + 3)
-raising-turn top x k h f w = record { shift = omega (arith, w .shift); within = omega (arith, w .shift); low = λ z u. low-turn top x z k (w .shift) h u f (w .low z u) }
+pub raising-turn : {top x k : ℕ} → k < 12 → top / 2 ^ k % 8 ≤ x / 2 ^ k % 8 → Raising top x k → Raising top x (k + 3)
+raising-turn {top} {x} {k} h f w = record { shift = omega (arith, w .shift); within = omega (arith, w .shift); low = λ z u. low-turn top x z k (w .shift) h u f (w .low z u) }
 
-pub raising-end : (top x k : ℕ) → x < stateCount → 12 ≤ k → Raising top x k → NextUnder top x stateCount
-raising-end top x k b h w =
+pub raising-end : {top x k : ℕ} → x < stateCount → 12 ≤ k → Raising top x k → NextUnder top x stateCount
+raising-end {top} {x} {k} b h w =
     let e : k ≡ 12 = omega (arith, w .within) in
     let low : (z : ℕ) → Under top z → z % 2 ^ 12 ≤ x % 2 ^ 12 = subst (λ (k : ℕ). (z : ℕ) → Under top z → z % 2 ^ k ≤ x % 2 ^ k) e (w .low) in
     record { later = b; under = λ l. absurd (omega arith); next = λ z l u q. absurd (omega (arith, low z u)) }
 
 -- the state that can be raised
 module _ (top x : ℕ) (b : x < stateCount) (ux : Under top x) where
-  Raise : ℕ → ℕ → Type 0
-  Raise k r = x / 2 ^ k % 8 < top / 2 ^ k % 8 → r ≡ (x / 2 ^ k + 1) * 2 ^ k → (i : Process) → digit r i ≤ digit top i
-
   raised-under : (r k : ℕ) → k % 3 ≡ 0 → k < 12 → x / 2 ^ k % 8 < top / 2 ^ k % 8 → r ≡ (x / 2 ^ k + 1) * 2 ^ k → Under top r
-  unfolding Raise
-  raised-under r = by-shift (λ (k : ℕ). Raise k r) lowest second third highest
-    where
-      lowest : Raise 0 r
-      lowest f e p0 = omega (arith, ux p0)
-      lowest f e p1 = omega (arith, ux p1)
-      lowest f e p2 = omega (arith, ux p2)
-      lowest f e p3 = omega arith
-
-      second : Raise 3 r
-      second f e p0 = omega (arith, ux p0)
-      second f e p1 = omega (arith, ux p1)
-      second f e p2 = omega arith
-      second f e p3 = omega arith
-
-      third : Raise 6 r
-      third f e p0 = omega (arith, ux p0)
-      third f e p1 = omega arith
-      third f e p2 = omega arith
-      third f e p3 = omega arith
-
-      highest : Raise 9 r
-      highest f e p0 = omega arith
-      highest f e p1 = omega arith
-      highest f e p2 = omega arith
-      highest f e p3 = omega arith
+  raised-under r =
+      let each = each-process (λ (i : Process). digit r i ≤ digit top i) in
+      by-shift (λ (k : ℕ). x / 2 ^ k % 8 < top / 2 ^ k % 8 → r ≡ (x / 2 ^ k + 1) * 2 ^ k → Under top r)
+      (λ f e. each (omega (arith, ux p0)) (omega (arith, ux p1)) (omega (arith, ux p2)) (omega arith))
+      (λ f e. each (omega (arith, ux p0)) (omega (arith, ux p1)) (omega arith) (omega arith))
+      (λ f e. each (omega (arith, ux p0)) (omega arith) (omega arith) (omega arith))
+      (λ f e. each (omega arith) (omega arith) (omega arith) (omega arith))
 
   -- no number between
   raised-next : (r k : ℕ) → k % 3 ≡ 0 → k < 12 → r ≡ (x / 2 ^ k + 1) * 2 ^ k → (x < r) × ((z : ℕ) → z % 2 ^ k ≤ x % 2 ^ k → x < z → r ≤ z)

@@ -1,17 +1,29 @@
 -- The sets are right: a state is in set k exactly if the records accept the rest of the start word from letter k on.
-use mathlib.Core.Path.{_≡_, refl, ap, ap₂, sym, subst, _∙_}
-use mathlib.Core.Bool.{Bool, true, false, _&&_, _||_, true≢false}
-use mathlib.Core.Logic.{inl, inr, ⊎-elim}
+use mathlib.Core.Path.{_≡_, ap, sym, subst, _∙_, refl, ap₂}
+use mathlib.Core.Bool.{Bool, _||_, true, false, _&&_, true≢false}
 use mathlib.Core.List.{List, [], _∷_, map}
-use Prim.Native.Nat.{ℕ, zero, suc, _+_, _-_, _*_, _%_, _<_, _≤_}
-use native.Mathlib.Decide.{decLt}
-use native.Mathlib.Numerals.{add-one}
+use Prim.Native.Nat.{ℕ, suc, _+_, _-_, _<_, _≤_, zero, _*_, _%_}
 use native.Mathlib.Omega.{arith}
 use lib.Dec.{eqb, ltb}
-use lib.ListN.{length, getD, drop, drop-of-length-le}
+use lib.ListN.{length, drop, drop-of-length-le, getD}
 use lib.Seq.{drop-cons}
-use borrow.Author.Tests.{eq-eqb, eqb-true, lt-ltb, le-ltb}
 use Rattle.model.specs.declared.Group.{Group}
+use Rattle.model.specs.Tables.{groupOf}
+use Rattle.automaton.specs.StateNumbers.{stateCount, stateNumber, digit, Over}
+use Rattle.automaton.specs.StateSets.{setLength, member, firstFrom}
+use Rattle.automaton.proofs.StateSets.{member-inserted, first-of}
+use Rattle.table.specs.declared.Table.{Table}
+use Rattle.table.specs.Reading.{Holds, systemIn, acceptingIn, pileIn, statesIn}
+use Rattle.table.proofs.Layouts.{table-modest, accepting-count, pile-count}
+use Rattle.scratch.specs.Regions.{ringsAt}
+use Rattle.start.specs.Regions.{setPlace, setAt, withState, OnlySet, Linked, SameBut}
+use Rattle.start.specs.RestSets.{processesOfTable, ownNumber, EmptySet, Filled, isNumberOf, noStates, plainGroup, LetterAt, leads, firstLead, someLead, acceptsFrom, SetRight, RightForLog}
+use Rattle.start.proofs.ScratchRegions.{same-none, same-join, length-set-at, set-state, only-state, linked-same, set-same}
+use Rattle.start.proofs.OwnGroups.{own-below, own-digit}
+use mathlib.Core.Logic.{_⊎_, inr, ⊎-elim}
+use native.Mathlib.Decide.{decLt}
+use native.Mathlib.Numerals.{add-one}
+use borrow.Author.Tests.{eq-eqb, eqb-true, lt-ltb, le-ltb}
 use Rattle.model.specs.Automata.{Transition, move}
 use Rattle.model.specs.Groups.{Process, Processes, at, has, build, processesOf, sameGroup, Within, restrict, merge}
 use Rattle.model.specs.Lists.{Each, anyOf}
@@ -21,31 +33,65 @@ use Rattle.model.proofs.Groups.{ext, at-build, at-merge, restrict-merge, restri
 use Rattle.model.proofs.Lists.{any-of, each-map, getD-mem}
 use Rattle.model.proofs.LogPaths.{reads-letter}
 use Rattle.model.proofs.Tests.{by-test, same-test}
-use Rattle.automaton.specs.StateNumbers.{stateCount, stateNumber, digit, Over}
-use Rattle.automaton.specs.StateSets.{member, firstFrom}
-use Rattle.automaton.proofs.StateSets.{first-of}
 use Rattle.model.specs.Records.{recordLength, beforeAt, afterAt}
 use Rattle.records.specs.Entries.{Fits, Reads}
 use Rattle.packs.specs.Packs.{packed, Bytes, packedBefore}
 use Rattle.packs.proofs.Packs.{pack-group, packed-same}
 use Rattle.packs.proofs.Unpacked.{restrict-bytes}
 use Rattle.rings.specs.Rings.{recordReads}
-use Rattle.table.specs.declared.Table.{Table}
-use Rattle.table.specs.Reading.{systemIn, pileIn, statesIn}
-use Rattle.table.proofs.Layouts.{pile-count}
-use Rattle.stack.specs.RoundLogs.{RoundLog}
+use Rattle.logs.proofs.Logs.{over-byte}
+use Rattle.stack.specs.RoundLogs.{RoundLog, SomeRound}
 use Rattle.stack.proofs.RoundLogs.{round-fits, round-reads}
 use Rattle.start.specs.declared.Letter.{Letter}
-use Rattle.scratch.specs.Regions.{ringsAt}
-use Rattle.start.specs.Regions.{setAt, setsEnd, Linked, SameBut, OnlySet}
-use Rattle.start.specs.RestSets.{processesOfTable, noStates, plainGroup, ownNumber}
-use Rattle.start.specs.RestSets.{LetterAt, leads, firstLead, someLead, EmptySet, Filled, isNumberOf, acceptsFrom, SetRight, RightForLog}
 use Rattle.start.specs.OwnGroups.{lastStates, Numbered, FrameTo, Added}
 use Rattle.start.specs.declared.Frame.{Frame}
-use Rattle.start.proofs.ScratchRegions.{linked-same, set-same}
 use Rattle.start.proofs.Leading.{lead-not, lead-reads}
-use Rattle.start.proofs.OwnGroups.{own-digit, own-below}
-use Rattle.start.proofs.Grounds.{over-merge, Grounds, grounds}
+use Rattle.start.proofs.Grounds.{Grounds, grounds}
+
+-- a state put into set k
+member-state : (s : List ℕ) (k x y : ℕ) → setPlace k + setLength ≤ length s → x < stateCount → member (setAt (withState s k x) k) y ≡ eqb y x || member (setAt s k) y
+member-state s k x y room h =
+    ap (λ (l : List ℕ). member l y) (set-state s k x room) ∙ member-inserted (setAt s k) x y (omega (arith, length-set-at s k room))
+
+-- the last first: those from j on are in
+pub record Numbering (table : List ℕ) (t : Table) (j : ℕ) (s u : List ℕ) : Type 0 where
+  pub few : j ≤ t .accepting
+  pub same : OnlySet (t .pile) s u
+  pub members : (x : ℕ) → x < stateCount → member (setAt u (t .pile)) x ≡ isNumberOf (processesOfTable t) (drop j (systemIn table .accepting)) x
+
+module _ {table : List ℕ} {t : Table} (holds : Holds table t) where
+  pub numbering-start : (s : List ℕ) → EmptySet s (t .pile) → Numbering table t (t .accepting) s s
+  unfolding isNumberOf
+  numbering-start s empty = record {
+    few = omega arith;
+    same = same-none (setPlace (t .pile)) (setPlace (t .pile) + setLength) s;
+    members = λ x h. empty x ∙ sym (ap (λ (l : List Group). isNumberOf (processesOfTable t) l x)
+        (drop-of-length-le (systemIn table .accepting) {i = t .accepting} (omega (arith, accepting-count table t holds))));
+  }
+
+  pub numbering-turn : {j : ℕ} {s u v : List ℕ} → ringsAt ≤ length s → 0 < j → Numbering table t j s u
+      → v ≡ withState u (t .pile) (ownNumber (processesOfTable t) (acceptingIn table (j - 1))) → Numbering table t (j - 1) s v
+  unfolding isNumberOf
+  numbering-turn {j} {s} {u} room h f is =
+      let L = processesOfTable t in
+      let x₀ = ownNumber L (acceptingIn table (j - 1)) in
+      let room-u : setPlace (t .pile) + setLength ≤ length u = omega (arith, f .same .size, table-modest table t holds .pile) in
+      let e : suc (j - 1) ≡ j = omega arith in
+      let split : drop (j - 1) (systemIn table .accepting) ≡ acceptingIn table (j - 1) ∷ drop j (systemIn table .accepting) =
+      drop-cons (systemIn table .accepting) (j - 1) (groupOf [] 0) (omega (arith, f .few, accepting-count table t holds))
+      ∙ ap (λ (i : ℕ). acceptingIn table (j - 1) ∷ drop i (systemIn table .accepting)) e in
+      subst (Numbering table t (j - 1) s) (sym is) (record {
+        few = omega (arith, f .few);
+        same = same-join (f .same) (only-state u (t .pile) x₀ room-u);
+        members = λ x l. member-state u (t .pile) x₀ x room-u (own-below L (acceptingIn table (j - 1))) ∙ ap (λ (b : Bool). eqb x x₀ || b) (f .members x l)
+            ∙ sym (ap (λ (gs : List Group). isNumberOf L gs x) split);
+      })
+
+pub numbering-end : {table : List ℕ} {t : Table} {j : ℕ} {s u : List ℕ} → j ≤ 0 → Numbering table t j s u
+    → Filled (isNumberOf (processesOfTable t) (systemIn table .accepting)) (t .pile) s u
+numbering-end {table} {t} {j} h f =
+    let e : j ≡ 0 = omega arith in
+    record { same = f .same; members = λ x l. f .members x l ∙ ap (λ (i : ℕ). isNumberOf (processesOfTable t) (drop i (systemIn table .accepting)) x) e }
 
 -- ---- some element passes a test
 first-agree : (test other : ℕ → Bool) (n k : ℕ) → ((j : ℕ) → n ≤ j → j < n + k → test j ≡ other j) → firstFrom test n k ≡ firstFrom other n k
@@ -87,9 +133,6 @@ accepts-first sys log b w g =
     ∙ any-first (λ (r : Record). readsAt (sys .loc) b g r && accepts (sys .loc) (keys log) (sys .accepting) w (move (sys .loc) (r .key) g)) noRecord log
 
 -- ---- what the rings find is what the paths go by
-over-bytes : (L : Processes) (g : Group) → Over L g → Bytes g
-over-bytes L g o i = by-test (has L i) (λ m. omega (arith, o .inside i m)) (λ n. omega (arith, o .outside i n))
-
 same-packed : (g h : Group) → Bytes g → Bytes h → eqb (packed h) (packed g) ≡ sameGroup g h
 same-packed g h p q = same-test (eqb (packed h) (packed g)) (sameGroup g h)
     (λ t. sameGroup-of g h (packed-same g h p q (sym (eqb-true (packed h) (packed g) t))))
@@ -128,7 +171,7 @@ module _ {table : List ℕ} {t : Table} {round : ℕ} {log : List ℕ} {count : 
       let L = processesOfTable t in
       ap (λ (h : Group). recordReads log (a .number) (packed h) r) (restrict-within L (processesOf (a .bits)) (plainGroup L g) g own-within (restrict-merge L g noStates))
       ∙ ap₂ (λ (b : ℕ) (L : Processes). recordReads log b (packed (restrict L g)) r) (letter .number) (letter .bits .same)
-      ∙ reads-model (sys .loc) log (pileIn table i) g r (recordAt records r) (round-reads lent r h) (round-fits lent r h) (over-bytes L g o)
+      ∙ reads-model (sys .loc) log (pileIn table i) g r (recordAt records r) (round-reads lent r h) (round-fits lent r h) (over-byte L g o)
 
   -- where a record that reads the letter leads
   pub target-is : (g : Group) (r : ℕ) → r < count → readsAt (systemIn table .loc) (pileIn table i) g (recordAt (logAt (systemIn table) round) r) ≡ true
@@ -138,13 +181,6 @@ module _ {table : List ℕ} {t : Table} {round : ℕ} {log : List ℕ} {count : 
       (letter .bits .same ∙ sym (ap (sys .loc) (reads-letter (sys .loc) (pileIn table i) g (recordAt records r) y)))
       (round-reads lent r h .after)
 
-  pub target-over : (g : Group) (r : ℕ) → r < count → Over (processesOfTable t) g
-      → readsAt (systemIn table .loc) (pileIn table i) g (recordAt (logAt (systemIn table) round) r) ≡ true
-      → Over (processesOfTable t) (move (systemIn table .loc) (recordAt (logAt (systemIn table) round) r .key) g)
-  target-over g r h o y = over-merge (processesOfTable t) (sys .loc (recordAt records r .key .letter)) (recordAt records r .key .after) g
-      (rw (reads-letter (sys .loc) (pileIn table i) g (recordAt records r) y) (ground .letters i inside))
-      (ground .below round r (omega (arith, lent .size))) o
-
   module _ (s : List ℕ) (next : SetRight table t round s (i + 1)) (g : Group) (o : Over (processesOfTable t) g) where
     lead-is : (r : ℕ) → r < count → leads log (setAt s (i + 1)) a (plainGroup (processesOfTable t) g) r
         ≡ goesOn (systemIn table) (logAt (systemIn table) round) (pileIn table i) (drop (i + 1) (systemIn table .start .word)) g r
@@ -153,7 +189,7 @@ module _ {table : List ℕ} {t : Table} {round : ℕ} {log : List ℕ} {count : 
         (λ y. rw y (lead-reads log (setAt s (i + 1)) a (plainGroup (processesOfTable t) g) r (reads-is g o r h ∙ y)
         ∙ ap (λ (x : Group). member (setAt s (i + 1)) (stateNumber x)) (sym (merge-within (processesOfTable t) (processesOf (a .bits)) (afterAt log r) g noStates own-within))
         ∙ ap (λ (x : Group). member (setAt s (i + 1)) (ownNumber (processesOfTable t) x)) (target-is g r h y)
-        ∙ next (move (sys .loc) (recordAt records r .key) g) (target-over g r h o y)))
+        ∙ next (move (sys .loc) (recordAt records r .key) g) (ground .moves round r (omega (arith, lent .size)) g o)))
         (λ n. rw n (lead-not log (setAt s (i + 1)) a (plainGroup (processesOfTable t) g) r (reads-is g o r h ∙ n)))
 
     pub first-is-lead : firstLead log count (setAt s (i + 1)) a (plainGroup (processesOfTable t) g)
@@ -182,7 +218,7 @@ module _ {table : List ℕ} {t : Table} {round : ℕ} {log : List ℕ} {count : 
       (λ m. rw m (omega (arith, ground .accepted round i g y j, ground .states j m .0, ground .states j m .1)))
       (λ n. rw n (omega arith)))
 
-  pub set-before : (s s′ : List ℕ) (f : Frame) → SetRight table t round s (i + 1) → EmptySet s i → FrameTo (processesOf (a .bits)) (lastStates table t) f
+  set-before : (s s′ : List ℕ) (f : Frame) → SetRight table t round s (i + 1) → EmptySet s i → FrameTo (processesOf (a .bits)) (lastStates table t) f
       → Added log count (setAt s (i + 1)) a f (λ (z : ℕ). z < stateCount) i s s′ → SetRight table t round s′ i
   unfolding ownNumber
   set-before s s′ f next empty to d g o =
@@ -202,30 +238,36 @@ number-same L g h o q = same-test (eqb (ownNumber L g) (ownNumber L h)) (sameGro
     (λ t. sameGroup-of g h (own-injective L g h o q (eqb-true (ownNumber L g) (ownNumber L h) t)))
     (λ t. eq-eqb (ownNumber L g) (ownNumber L h) (ap (ownNumber L) (sameGroup-true g h t)))
 
-pub set-last : {table : List ℕ} {t : Table} (ground : Grounds table t) → length (systemIn table .start .word) ≡ t .pile → (round : ℕ) (s s′ : List ℕ)
+pub set-last : {table : List ℕ} {t : Table} → Holds table t → (round : ℕ) (s s′ : List ℕ)
     → Filled (isNumberOf (processesOfTable t) (systemIn table .accepting)) (t .pile) s s′ → SetRight table t round s′ (t .pile)
 unfolding isNumberOf
-set-last {table} {t} ground size round s s′ f g o =
+set-last {table} {t} holds round s s′ f g o =
     let L = processesOfTable t in
     f .members (ownNumber L g) (own-below L g)
     ∙ any-agree (λ (h : Group). eqb (ownNumber L g) (ownNumber L h)) (sameGroup g) (systemIn table .accepting)
-    (each-map (Over L) (λ (h : Group). eqb (ownNumber L g) (ownNumber L h) ≡ sameGroup g h) (λ h q. number-same L g h o q) (systemIn table .accepting) (ground .accepting))
+    (each-map (Over L) (λ (h : Group). eqb (ownNumber L g) (ownNumber L h) ≡ sameGroup g h) (λ h q. number-same L g h o q) (systemIn table .accepting)
+    (grounds table t holds .accepting))
     ∙ sym (ap (λ (w : List ℕ). accepts (systemIn table .loc) (keys (logAt (systemIn table) round)) (systemIn table .accepting) w g)
-    (drop-of-length-le (systemIn table .start .word) {i = t .pile} (omega arith)))
+    (drop-of-length-le (systemIn table .start .word) {i = t .pile} (omega (arith, pile-count table t holds))))
 
 -- ---- the sets from the back
-right-same : (table : List ℕ) (t : Table) (round : ℕ) (s s′ : List ℕ) (k : ℕ) → setAt s′ k ≡ setAt s k → SetRight table t round s k → SetRight table t round s′ k
-right-same table t round s s′ k e r g o = ap (λ (l : List ℕ). member l (ownNumber (processesOfTable t) g)) e ∙ r g o
+-- a set stays right where other bytes change
+pub right-kept : {table : List ℕ} {t : Table} {log : List ℕ} {count low high : ℕ} {s s′ : List ℕ} (k : ℕ) → k ≤ 64 → ringsAt ≤ length s
+    → (setPlace k + setLength ≤ low) ⊎ (high ≤ setPlace k) → SameBut low high s s′ → RightForLog table t log count s k → RightForLog table t log count s′ k
+right-kept {t = t} k l room d w r round lent g o = ap (λ (members : List ℕ). member members (ownNumber (processesOfTable t) g)) (set-same k (omega arith) d w) ∙ r round lent g o
 
--- a set behind one that has changed stays right
-pub right-behind : (table : List ℕ) (t : Table) (round : ℕ) {s s′ : List ℕ} (i k : ℕ) → i < k → k ≤ 64 → ringsAt ≤ length s → OnlySet i s s′ → SetRight table t round s k
-    → SetRight table t round s′ k
-right-behind table t round {s} {s′} i k h l room w r = right-same table t round s s′ k (set-same k (omega arith) (inr (omega arith)) w) r
-
--- every set stays right where only the bytes behind the sets change
-pub right-before : (table : List ℕ) (t : Table) (round : ℕ) {low high : ℕ} {s s′ : List ℕ} (k : ℕ) → k ≤ 64 → setsEnd ≤ low → ringsAt ≤ length s → SameBut low high s s′
-    → SetRight table t round s k → SetRight table t round s′ k
-right-before table t round {s = s} {s′ = s′} k l h room w r = right-same table t round s s′ k (set-same k (omega arith) (inl (omega arith)) w) r
+-- set i, which was cleared, from set i + 1
+pub set-filled : {table : List ℕ} {t : Table} {log : List ℕ} {count n : ℕ} {s s′ s″ : List ℕ} {i : ℕ} {a : Letter} {last : Group} {f : Frame}
+    → SomeRound table t log count × Linked log count n s × (i < t .pile) × RightForLog table t log count s (i + 1) → LetterAt table i a → OnlySet i s s′ × EmptySet s′ i
+    → last ≡ lastStates table t → FrameTo (processesOf (a .bits)) last f → Added log count (setAt s′ (i + 1)) a f (λ (z : ℕ). z < stateCount) i s′ s″
+    → OnlySet i s s″ × RightForLog table t log count s″ i
+set-filled {table} {t} {i = i} {a = a} {f = f} p letter cleared is to d =
+    let small : t .pile ≤ 64 = table-modest table t (p .0 .1 .holds) .pile in
+    let next = right-kept (i + 1) (omega (arith, p .2)) (omega (arith, p .1 .room .room)) (inr (omega arith)) (cleared .0) (p .3) in (
+      same-join (cleared .0) (d .same),
+      λ round lent. set-before lent i (p .2) a letter _ _ f (next round lent) (cleared .1)
+          (subst (λ (g : Group). FrameTo (processesOf (a .bits)) g f) is to) d,
+    )
 
 -- the loop: the sets from i on are right
 pub record Backwards (table : List ℕ) (t : Table) (log : List ℕ) (count n : ℕ) (s : List ℕ) (i : ℕ) (s′ : List ℕ) : Type 0 where
@@ -243,15 +285,17 @@ backwards-start {table} {t} {log} {count} s linked r = record {
   right = λ k a b. let e : t .pile ≡ k = omega arith in subst (λ (j : ℕ). RightForLog table t log count s j) e r;
 }
 
-pub backwards-turn : {table : List ℕ} {t : Table} {log : List ℕ} {count n : ℕ} {s s′ s″ : List ℕ} {i : ℕ} → 0 < i → t .pile ≤ 64 → Backwards table t log count n s i s′
-    → OnlySet (i - 1) s′ s″
-    → RightForLog table t log count s″ (i - 1) → Backwards table t log count n s (i - 1) s″
-backwards-turn {table} {t} {log} {count} {s″ = s″} {i = i} h small b w r = record {
-  few = omega (arith, b .few);
-  size = w .size ∙ b .size;
-  linked = linked-same (omega (arith, b .few)) w (b .linked);
-  right = λ k l m. elim (decLt (i - 1) k) [
-    | yes n ↦ λ round lent. right-behind table t round (i - 1) k n (omega arith) (omega (arith, b .linked .room .room)) w (b .right k (omega arith) m round lent)
-    | no n ↦ let e : i - 1 ≡ k = omega arith in subst (λ (j : ℕ). RightForLog table t log count s″ j) e r
-  ];
-}
+pub backwards-turn : {table : List ℕ} {t : Table} {log : List ℕ} {count n : ℕ} {s s′ s″ : List ℕ} {i : ℕ} → SomeRound table t log count → 0 < i
+    → Backwards table t log count n s i s′
+    → OnlySet (i - 1) s′ s″ × RightForLog table t log count s″ (i - 1) → Backwards table t log count n s (i - 1) s″
+backwards-turn {table} {t} {log} {count} {s″ = s″} {i = i} lent h b w =
+    let small : t .pile ≤ 64 = table-modest table t (lent .1 .holds) .pile in
+    record {
+      few = omega (arith, b .few);
+      size = w .0 .size ∙ b .size;
+      linked = linked-same (omega (arith, b .few)) (w .0) (b .linked);
+      right = λ k l m. elim (decLt (i - 1) k) [
+        | yes n ↦ right-kept k (omega arith) (omega (arith, b .linked .room .room)) (inr (omega arith)) (w .0) (b .right k (omega arith) m)
+        | no n ↦ let e : i - 1 ≡ k = omega arith in subst (λ (j : ℕ). RightForLog table t log count s″ j) e (w .1)
+      ];
+    }

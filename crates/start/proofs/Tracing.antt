@@ -28,7 +28,7 @@ use Rattle.numbers.specs.NumberBytes.{withNumber}
 use Rattle.numbers.proofs.NumberBytes.{byte-kept, length-number}
 use Rattle.table.specs.declared.Table.{Table}
 use Rattle.table.specs.Reading.{Holds, systemIn, pileIn}
-use Rattle.table.proofs.Layouts.{table-modest}
+use Rattle.table.proofs.Layouts.{table-modest, pile-count}
 use Rattle.stack.specs.StackNumbers.{stackPlace, numbersDown, stackOf}
 use Rattle.stack.specs.RoundLogs.{RoundLog, SomeRound, EachRound}
 use Rattle.stack.proofs.Numbers.{down-more}
@@ -42,7 +42,7 @@ use Rattle.start.specs.RestSets.{processesOfTable, plainGroup, LetterAt,
 use Rattle.start.specs.Search.{pathFrom, roundPath, OnPath, Underway, Advanced, PathWritten, startFound, Sought}
 use Rattle.start.proofs.ScratchRegions.{same-none, same-join, linked-same}
 use Rattle.start.proofs.Grounds.{grounds}
-use Rattle.start.proofs.RestRight.{right-before, goesOn, word-from, target-is, target-over, first-is-lead, lead-accepts}
+use Rattle.start.proofs.RestRight.{right-kept, goesOn, word-from, target-is, first-is-lead, lead-accepts}
 
 -- ---- the lowest record that leads on
 pick-first : (sys : System) (b : ℕ) (g : Group) (ok : Group → Bool) (next : Group → Option Path) (rs : List Record) (n j : ℕ) → j < length rs
@@ -98,7 +98,7 @@ module _ {table : List ℕ} {t : Table} {round : ℕ} {log : List ℕ} {count : 
     pub next-record : (g′ : Group) → g′ ≡ merge (processesOf (a .bits)) (afterAt log r) g → NextRecord table t round i g count r g′
     next-record g′ e = subst (NextRecord table t round i g count r) (sym (e ∙ target-is lent i inside a letter g r lead-inside reads)) (record {
       inside = lead-inside;
-      over = target-over lent i inside a letter g r lead-inside o reads;
+      over = grounds table t (lent .holds) .moves round r (omega (arith, lead-inside, lent .size)) g o;
       accepted = and-right (readsAt (sys .loc) (pileIn table i) g (recordAt records r)) (accepts (sys .loc) (keys records) (sys .accepting) rest (move (sys .loc) (recordAt records r .key) g)) goes;
       first = path-step;
     })
@@ -161,30 +161,34 @@ start-right : {table : List ℕ} {t : Table} {log : List ℕ} {count : ℕ} (s :
     → EachRound table t log count (λ (round : ℕ). startIn table t s ≡ acceptsFrom table round 0 (systemIn table .start .states))
 start-right {table} {t} s right round lent = right round lent (systemIn table .start .states) (grounds table t (lent .holds) .start)
 
-pub tracing-start : (table : List ℕ) (t : Table) (log : List ℕ) (count : ℕ) (s : List ℕ) (c : Trace) → Holds table t → RightForLog table t log count s 0 → startIn table t s ≡ true
+-- what the search asks where it begins
+abbrev Begun : List ℕ → Table → List ℕ → ℕ → ℕ → List ℕ → Type 0
+Begun table t log count n s = SomeRound table t log count × SetsReady table t log count n s × (startIn table t s ≡ true)
+
+pub tracing-start : {table : List ℕ} {t : Table} {log : List ℕ} {count n : ℕ} {s : List ℕ} {c : Trace} → Begun table t log count n s
     → c .state ≡ systemIn table .start .states → c .steps ≡ 0 → Tracing table t log count s 0 s c
 unfolding numbersDown
-tracing-start table t log count s c holds right good e z = record {
+tracing-start {table} {t} {s = s} p e z = record {
   few = omega arith;
   same = same-none stackAt ringsAt s;
   on-path = record {
-    over = subst (Over (processesOfTable t)) (sym e) (grounds table t holds .start);
-    accepted = λ round lent. ap (acceptsFrom table round 0) e ∙ sym (start-right s right round lent) ∙ good;
+    over = subst (Over (processesOfTable t)) (sym e) (grounds table t (p .0 .1 .holds) .start);
+    accepted = λ round lent. ap (acceptsFrom table round 0) e ∙ sym (start-right s (p .1 .right 0 (omega arith)) round lent) ∙ p .2;
     steps = omega arith;
   };
   path = λ round lent. prepend-none (roundPath table round) ∙ ap (λ (g : Group). Option·map (prepend []) (pathFrom table round 0 g)) (sym e);
   figure = λ round lent. z;
 }
 
-pub tracing-underway : {table : List ℕ} {t : Table} {log : List ℕ} {count n : ℕ} {s : List ℕ} {i : ℕ} {s′ : List ℕ} {c : Trace} → SomeRound table t log count → SetsReady table t log count n s
+pub tracing-underway : {table : List ℕ} {t : Table} {log : List ℕ} {count n : ℕ} {s : List ℕ} {i : ℕ} {s′ : List ℕ} {c : Trace} → Begun table t log count n s
     → Tracing table t log count s i s′ c → i < t .pile → Underway table t log count n s′ i c
-tracing-underway {table} {t} {i = i} lent sets w inside =
-    let small : t .pile ≤ 64 = table-modest table t (lent .1 .holds) .pile in
+tracing-underway {table} {t} {i = i} p w inside =
+    let small : t .pile ≤ 64 = table-modest table t (p .0 .1 .holds) .pile in
     record {
-      some = lent;
-      linked = linked-same (omega arith) (w .same) (sets .linked);
+      some = p .0;
+      linked = linked-same (omega arith) (w .same) (p .1 .linked);
       inside = inside;
-      next = λ round r. right-before table t round (i + 1) (omega arith) (omega arith) (omega (arith, sets .linked .room .room)) (w .same) (sets .right (i + 1) (omega arith) round r);
+      next = right-kept (i + 1) (omega arith) (omega (arith, p .1 .linked .room .room)) (inl (omega arith)) (w .same) (p .1 .right (i + 1) (omega arith));
       on-path = w .on-path;
     }
 
@@ -195,10 +199,13 @@ word-only s at x h l = record {
   behind = λ i b. byte-kept 2 s at x i (inr (omega arith));
 }
 
-module _ {table : List ℕ} {t : Table} {log : List ℕ} {count : ℕ} {s s′ s″ : List ℕ} {i : ℕ} {c d : Trace} (small : t .pile ≤ 64) (room : ringsAt ≤ length s) (inside : i < t .pile)
+module _ {table : List ℕ} {t : Table} {log : List ℕ} {count : ℕ} {n : ℕ} {s s′ s″ : List ℕ} {i : ℕ} {c d : Trace} (p : Begun table t log count n s) (inside : i < t .pile)
     (w : Tracing table t log count s i s′ c) (v : Advanced table t log count i c s′ s″ d) where
   abbrev place : ℕ
   place = stackPlace (t .pile - 1 - i)
+
+  few : t .pile ≤ 64
+  few = table-modest table t (p .0 .1 .holds) .pile
 
   more : soFar t (i + 1) s″ ≡ soFar t i s′ ++ (v .number ∷ [])
   more =
@@ -206,13 +213,13 @@ module _ {table : List ℕ} {t : Table} {log : List ℕ} {count : ℕ} {s s′ s
       let above : place + 2 ≡ stackPlace (t .pile - i) = omega arith in
       ap₂ (λ (b k : ℕ). numbersDown s″ b k) same (add-one i)
       ∙ ap (λ (l : List ℕ). numbersDown l place (suc i)) (v .written)
-      ∙ down-more s′ place i (v .number) (omega (arith, w .same .size)) (v .small)
+      ∙ down-more s′ place i (v .number) (omega (arith, few, w .same .size, p .1 .linked .room .room)) (v .small)
       ∙ ap (λ (b : ℕ). numbersDown s′ b i ++ (v .number ∷ [])) above
 
   pub tracing-turn : Tracing table t log count s (i + 1) s″ d
   tracing-turn = record {
     few = omega arith;
-    same = same-join (w .same) (subst (SameBut stackAt ringsAt s′) (sym (v .written)) (word-only s′ place (v .number) (omega arith) (omega arith)));
+    same = same-join (w .same) (subst (SameBut stackAt ringsAt s′) (sym (v .written)) (word-only s′ place (v .number) (omega (arith, few)) (omega (arith, few))));
     on-path = v .on-path;
     path = λ round lent. w .path round lent ∙ ap (λ (o : Option Path). Option·map (prepend (soFar t i s′)) o) (v .first round lent)
         ∙ prepend-more (soFar t i s′) (v .number) (pathFrom table round (i + 1) (d .state))
@@ -233,14 +240,14 @@ path-end sys log w g e y =
     ∙ ap (λ (v : List ℕ). greedy (sys .loc) log (sys .accepting) v g) e
     ∙ ap (λ (b : Bool). cond b (some (record { numbers = []; end = g })) none) yes
 
-pub tracing-end : {table : List ℕ} {t : Table} {log : List ℕ} {count : ℕ} {s s′ : List ℕ} {i : ℕ} {c : Trace} → length (systemIn table .start .word) ≡ t .pile → t .pile ≤ i
+pub tracing-end : {table : List ℕ} {t : Table} {log : List ℕ} {count : ℕ} {s s′ : List ℕ} {i : ℕ} {c : Trace} → Holds table t → t .pile ≤ i
     → Tracing table t log count s i s′ c → EachRound table t log count (λ (round : ℕ). PathWritten table t round s′ (c .steps))
-tracing-end {table} {t} {s′ = s′} {i = i} {c = c} size h w round lent =
+tracing-end {table} {t} {s′ = s′} {i = i} {c = c} holds h w round lent =
     let e : i ≡ t .pile = omega (arith, w .few) in
     let base : stackPlace (t .pile - i) ≡ stackAt = omega arith in
     let all : stackOf s′ (t .pile) ≡ soFar t i s′ = sym (ap₂ (λ (b k : ℕ). numbersDown s′ b k) base e) in
     let last = path-end (systemIn table) (logAt (systemIn table) round) (drop i (systemIn table .start .word)) (c .state)
-    (drop-of-length-le (systemIn table .start .word) {i = i} (omega arith)) (w .on-path .accepted round lent) in
+    (drop-of-length-le (systemIn table .start .word) {i = i} (omega (arith, pile-count table t holds))) (w .on-path .accepted round lent) in
     record {
       path = record { numbers = soFar t i s′; end = c .state };
       is = w .path round lent ∙ ap (λ (o : Option Path). Option·map (prepend (soFar t i s′)) o) last

@@ -14,11 +14,11 @@ ghost use mathlib.Core.Path.{_≡_};
 ghost use Prim.Native.Nat.{ℕ, _+_, _*_, _<_, _≤_};
 ghost use lib.ListN.{length};
 ghost use Rattle.automaton.specs.StateNumbers.{stateCount};
-ghost use Rattle.table.specs.Reading.{Holds, acceptingIn, systemIn};
+ghost use Rattle.table.specs.Reading.{Holds, acceptingIn};
 ghost use Rattle.stack.specs.RoundLogs.{SomeRound};
 ghost use Rattle.scratch.specs.Regions.{ringsAt};
 ghost use Rattle.start.specs.Regions.{withState, Linked, OnlySet};
-ghost use Rattle.start.specs.RestSets.{processesOfTable, ownNumber, EmptySet, Filled, isNumberOf, SetRight, RightForLog, SetsReady};
+ghost use Rattle.start.specs.RestSets.{processesOfTable, ownNumber, EmptySet, SetRight, RightForLog, SetsReady};
 
 fn clear_set(scratch: &mut [u8], k: usize)
     requires { ⌜ (k ≤ 64) × (ringsAt ≤ length (now scratch)) ⌝ }
@@ -78,22 +78,15 @@ fn add_accepting(table: &[u8], t: Table, scratch: &mut [u8], j: usize)
     insert_state(scratch, t.pile, number(plain(t, g)));
 }
 
-fn add_all_accepting(table: &[u8], t: Table, scratch: &mut [u8])
-    requires { ⌜ Holds (now table) t × (ringsAt ≤ length (now scratch)) × EmptySet (now scratch) (t .pile) ⌝ }
-    ensures { λ _. ⌜ Filled (isNumberOf (processesOfTable t) (systemIn (now (table .entry)) .accepting)) (t .pile) (now (scratch .entry)) (now (scratch .exit)) ⌝ }
-{
-    let mut j = t.accepting;
-    while 0 < j {
-        j -= 1;
-        add_accepting(table, t, scratch, j);
-    }
-}
-
 // The last set: the accepting groups.
 fn fill_accepting(table: &[u8], t: Table, scratch: &mut [u8])
     requires { ⌜ Holds (now table) t × (ringsAt ≤ length (now scratch)) ⌝ }
     ensures { λ _. ⌜ OnlySet (t .pile) (now (scratch .entry)) (now (scratch .exit)) × ((round : ℕ) → SetRight (now (table .entry)) t round (now (scratch .exit)) (t .pile)) ⌝ }
 {
     clear_set(scratch, t.pile);
-    add_all_accepting(table, t, scratch);
+    let mut j = t.accepting;
+    while 0 < j {
+        j -= 1;
+        add_accepting(table, t, scratch, j);
+    }
 }

@@ -60,7 +60,7 @@ by-process a b c d p1 = b
 by-process a b c d p2 = c
 by-process a b c d p3 = d
 
-each-process : (P : Process → Type 0) → P p0 → P p1 → P p2 → P p3 → (i : Process) → P i
+pub each-process : (P : Process → Type 0) → P p0 → P p1 → P p2 → P p3 → (i : Process) → P i
 each-process P a b c d p0 = a
 each-process P a b c d p1 = b
 each-process P a b c d p2 = c

@@ -1,12 +1,11 @@
 -- The search from a state: at the word's end it arrives, a state that was passed is left, else it goes on by each record in turn.
-use mathlib.Core.Path.{refl, subst, sym, _∙_}
+use mathlib.Core.Path.{refl, sym, _∙_}
 use mathlib.Core.Logic.{⊎-elim}
 use Prim.Native.Nat.{ℕ, _<_, _-_}
 use native.Mathlib.Omega.{arith}
 use Rattle.automaton.proofs.StateSets.{first-at}
-use Rattle.paths.specs.Jobs.{Standing}
 use Rattle.paths.proofs.Arriving.{searched-log}
-use Rattle.paths.proofs.Looping.{Looping, explored-end, explored-passed, last-explored, last-stands, looping-again, looping-count, looping-end, looping-level, looping-log, looping-pass, looping-ready, looping-record, looping-scratch, looping-stands, looping-start, next-requires}
+use Rattle.paths.proofs.Looping.{Looping, explored-end, explored-passed, last-asks, last-explored, looping-again, looping-asks, looping-end, looping-level, looping-log, looping-longer, looping-next, looping-pass, looping-record, looping-scratch, looping-start}
 use borrow.Author.Needs.{needs}
 use borrow.Fn.Kinds.{In}
 use borrow.Fn.PlainCycle.{Measures, is, falls, and}
@@ -80,82 +79,75 @@ pub +explore-spec : {M : Type 1} → statement M
     explore.Post
     explore-Inv-loop
     explore-μ-loop
-    (λ c κs.
-    let start = c .before .before .before .before .before in
-    let p = start .pre .1 in
-    (p .0, subst (λ (k : ℕ). Standing (start .args .job) (start .args .log .now) k (start .args .state) (start .args .trail)) (c .before .before .if1 .taken) (p .1), p .2, p .3))
-    (λ c.
-    let start = c .before .before .before .before .before .before .before .before .before .before in
-    searched-log _ _ _ _ _ _ _ _ (start .pre .1 .0 .holds) (c .before .before .before .before .arrive .ensures))
+    (λ c κs. let p = c .before .before .before .before .before .pre .1 in (p .0, rw (c .before .before .if1 .taken) at (p .1), p .2, p .3))
+    (λ c. searched-log _ _ _ _ _ _ _ _ (c .before .before .before .before .before .before .before .before .before .before .pre .1 .0 .holds)
+    (c .before .before .before .before .arrive .ensures))
     (λ c. c .before .before .before .before .arrive .ensures .scratch-length)
-    (λ c.
-    let start = c .before .before .before .before .before .before .before .before .before .before in
-    let a = start .args in
-    explored-end (a .job) (a .level) (a .state) (a .found) (a .trail) (a .count) (a .log .now) (a .scratch .now) _ _ _ (start .pre .1 .0) (c .before .before .before .before .before .before .before .if1 .taken) (c .before .before .before .before .arrive .ensures))
+    (λ c. explored-end _ (c .before .before .before .before .before .before .before .before .before .before .pre .1)
+    (c .before .before .before .before .before .before .before .if1 .taken) (c .before .before .before .before .arrive .ensures))
     (λ c κs. search needs)
     (λ c κs.
     let p = c .before .before .before .before .before .pre .1 in
     (omega (arith, p .0 .few, p .1 .within), c .before .number .ensures .1, omega (arith, p .0 .room .room)))
     (λ c. refl)
-    (λ c.
-    let start = c .before .before .before .before .before .before .before in
-    let a = start .args in
-    let p = start .pre .1 in
-    explored-passed (a .job) (a .level) (a .state) (a .found) (a .trail) (a .count) (a .log .now) (a .scratch .now) _ (p .0) (p .1) (c .before .before .before .before .if1 .left) (p .3) (c .before .before .before .number .ensures .0) (sym (c .before .is-passed .ensures) ∙ c .if2 .taken))
+    (λ c. explored-passed _ (c .before .before .before .before .before .before .before .pre .1) (c .before .before .before .before .if1 .left)
+    (c .before .before .before .number .ensures .0) (sym (c .before .is-passed .ensures) ∙ c .if2 .taken))
     (λ c κs. let p = c .before .before .before .before .before .before .before .pre .1 in omega (arith, p .0 .few, p .1 .within, c .before .before .before .before .if1 .left))
     (λ c κs. let p = c .before .before .before .before .before .before .before .before .pre .1 in omega (arith, p .0 .few, p .1 .within, c .before .before .before .before .before .if1 .left))
     (λ c κs. search needs)
     (λ c κs. let w = c .before .before .before .before .before .before .before .before .before .before .before .before .pre .1 .0 in (w .room, w .ringed, w .freshened, w .low))
     (λ c.
-    let start = c .before .before .before .before .before .before .before .before .before .before .before .before .before in
-    let a = start .args in
-    let p = start .pre .1 in
-    looping-start (a .log .now) (a .scratch .now) (a .job) (a .level) (a .state) (a .found) (a .trail) (a .count) _ _ _ _ _ (p .0) (p .1) (p .2) (p .3) (c .before .before .before .before .before .before .before .before .before .before .if1 .left) (c .before .before .before .before .before .before .before .before .before .number .ensures .0) (c .before .before .before .before .before .letter-of .ensures) (c .before .before .before .before .mask-of .ensures) (c .before .before .before .restricted .ensures) (c .first-try .ensures))
+    let at-letter = c .before .before .before .before .before in
+    looping-start (at-letter .before .before .before .before .before .before .before .before .pre .1)
+    (at-letter .before .before .before .before .before .if1 .left) (at-letter .before .before .before .before .number .ensures .0)
+    (at-letter .letter-of .ensures) (c .before .before .before .before .mask-of .ensures) (c .before .before .before .restricted .ensures) (c .first-try .ensures))
     (λ c κs. looping-record (c .before .before .loop .inv) (c .before .loop-test .taken))
     (λ c κs. search needs)
     (λ c κs. search needs)
-    (λ c κs.
-    let o = c .before .before .before .before .before .before .loop .inv in
-    let h = c .before .before .before .before .before .loop-test .taken in
-    (looping-level o, omega (arith, h, o .is-base, o .ready .room .fits, o .ready .room .short), looping-record o h, omega (arith, o .stands .steps)))
+    (λ c κs. looping-longer (c .before .before .before .before .before .before .loop .inv) (c .before .before .before .before .before .loop-test .taken))
     (λ c. omega (arith, looping-level (c .before .before .before .before .before .before .before .loop .inv)))
     (λ c κs.
     let at-longer = c .before .before .before in
-    let at-fresh = at-longer .before .before in
-    let at-test = at-fresh .before .before .before .before in
-    let o = at-test .before .loop .inv in
-    (looping-ready o, last-stands o (at-test .loop-test .taken) (at-fresh .before .before .after-at .ensures) (at-fresh .before .merged .ensures) (at-fresh .is-fresh .ensures) (at-longer .longer .ensures) (c .before .before .if3 .taken), looping-count o .0, looping-count o .1))
+    let at-merged = at-longer .before .before .before in
+    let at-loop = at-merged .before .before .before .before in
+    last-asks (at-loop .loop .inv) (at-merged .before .before .before .loop-test .taken) (at-merged .before .after-at .ensures) (at-merged .merged .ensures) (at-longer .before .before .is-fresh .ensures)
+    (at-longer .longer .ensures) (c .before .before .if3 .taken))
     (λ c. omega (arith, looping-level (c .before .before .before .before .before .before .before .before .before .before .loop .inv)))
     (λ c κs.
     let at-longer = c .before .before .before in
-    let at-fresh = at-longer .before .before in
-    let at-test = at-fresh .before .before .before .before in
-    let o = at-test .before .loop .inv in (
-      omega (arith, at-test .before .before .before .before .before .before .before .before .before .before .before .before .before .before .before .pre .0, o .more),
-      (looping-ready o, looping-stands o (at-test .loop-test .taken) (at-fresh .before .before .after-at .ensures) (at-fresh .before .merged .ensures) (at-fresh .is-fresh .ensures) (at-longer .longer .ensures), looping-count o .0, looping-count o .1),
+    let at-merged = at-longer .before .before .before in
+    let at-loop = at-merged .before .before .before .before in (
+      omega (arith, at-loop .before .before .before .before .before .before .before .before .before .before .before .before .before .before .pre .0, at-loop .loop .inv .more),
+      looping-asks (at-loop .loop .inv) (at-merged .before .before .before .loop-test .taken) (at-merged .before .after-at .ensures) (at-merged .merged .ensures) (at-longer .before .before .is-fresh .ensures)
+          (at-longer .longer .ensures),
     ))
     (λ c κs.
     let at-end = c .before .before in
     let at-longer = c .before .before .before in
-    let at-fresh = at-longer .before .before in
-    let at-test = at-fresh .before .before .before .before in
-    let o = at-test .before .loop .inv in
-    next-requires o (at-test .loop-test .taken) (at-fresh .before .before .after-at .ensures) (at-fresh .before .merged .ensures) (at-fresh .is-fresh .ensures) (at-longer .longer .ensures) (at-end .if3 .total) (at-end .if3 .log) (at-end .if3 .scratch) (⊎-elim
-    (λ arrived. rw (arrived .8, arrived .9, arrived .10) (last-explored o (at-test .loop-test .taken) (at-fresh .before .before .after-at .ensures) (at-fresh .before .merged .ensures) (at-fresh .is-fresh .ensures) (at-longer .longer .ensures) (arrived .0 .taken) (arrived .3 .ensures)))
+    let at-merged = at-longer .before .before .before in
+    let at-loop = at-merged .before .before .before .before in
+    looping-next (at-loop .loop .inv) (at-merged .before .before .before .loop-test .taken) (at-merged .before .after-at .ensures) (at-merged .merged .ensures) (at-longer .before .before .is-fresh .ensures)
+    (at-longer .longer .ensures)
+    {total′ = at-end .if3 .total} (⊎-elim
+    (λ arrived. rw (arrived .8, arrived .9, arrived .10) (last-explored (at-loop .loop .inv) (at-merged .before .before .before .loop-test .taken) (at-merged .before .after-at .ensures) (at-merged .merged .ensures) (at-longer .before .before .is-fresh .ensures) (at-longer .longer .ensures)
+    (arrived .0 .taken) (arrived .3 .ensures)))
     (λ explored. rw (explored .8, explored .9, explored .10) (explored .3 .ensures))
     (at-end .if3 .came)))
     (λ c. omega (arith, first-at _ _ _ _ (c .next-match .ensures) .low, c .before .before .before .before .before .before .before .before .before .before .loop-test .taken))
     (λ c.
     let at-end = c .before .before .before in
     let at-longer = c .before .before .before .before in
-    let at-fresh = at-longer .before .before in
-    let at-test = at-fresh .before .before .before .before in
-    let o = at-test .before .loop .inv in
-    looping-again o (at-test .loop-test .taken) (at-fresh .before .before .after-at .ensures) (at-fresh .before .merged .ensures) (at-fresh .is-fresh .ensures) (at-longer .longer .ensures) (at-end .if3 .total) (at-end .if3 .log) (at-end .if3 .scratch) (⊎-elim
-    (λ arrived. rw (arrived .8, arrived .9, arrived .10) (last-explored o (at-test .loop-test .taken) (at-fresh .before .before .after-at .ensures) (at-fresh .before .merged .ensures) (at-fresh .is-fresh .ensures) (at-longer .longer .ensures) (arrived .0 .taken) (arrived .3 .ensures)))
+    let at-merged = at-longer .before .before .before in
+    let at-loop = at-merged .before .before .before .before in
+    looping-again (at-loop .loop .inv) (at-merged .before .before .before .loop-test .taken) (at-merged .before .after-at .ensures) (at-merged .merged .ensures) (at-longer .before .before .is-fresh .ensures)
+    (at-longer .longer .ensures)
+    (⊎-elim
+    (λ arrived. rw (arrived .8, arrived .9, arrived .10) (last-explored (at-loop .loop .inv) (at-merged .before .before .before .loop-test .taken) (at-merged .before .after-at .ensures) (at-merged .merged .ensures) (at-longer .before .before .is-fresh .ensures) (at-longer .longer .ensures)
+    (arrived .0 .taken) (arrived .3 .ensures)))
     (λ explored. rw (explored .8, explored .9, explored .10) (explored .3 .ensures))
-    (at-end .if3 .came)) _ (c .next-match .ensures))
+    (at-end .if3 .came))
+    (c .next-match .ensures))
     (λ c κs. looping-pass (c .before .before .loop .inv))
     (λ c. looping-log (c .before .before .before .before .before .loop .inv))
-    (λ c. looping-scratch (c .before .before .before .before .before .loop .inv) _ (c .before .before .pass .ensures))
-    (λ c. looping-end (c .before .before .before .before .before .loop .inv) (c .before .before .before .before .loop-test .left) _ (c .before .before .pass .ensures))
+    (λ c. looping-scratch (c .before .before .before .before .before .loop .inv) (c .before .before .pass .ensures))
+    (λ c. looping-end (c .before .before .before .before .before .loop .inv) (c .before .before .before .before .loop-test .left) (c .before .before .pass .ensures))

@@ -8,20 +8,14 @@ use Rattle.start.proofs.find.Tie as tie
 
 is-accepted-requires : tie.Need-is-accepted-requires
 is-accepted-requires c κs =
-    let at-fill-sets = c .before .before .before in
-    let entry = at-fill-sets .before .before .before .before .before in
-    (entry .pre .0 .1 .holds, omega (arith, at-fill-sets .fill-sets .ensures .linked .room .room))
+    let filled = c .before .before .before in (filled .before .before .before .before .before .pre .0 .1 .holds, omega (arith, filled .fill-sets .ensures .linked .room .room))
 
 write-path-requires : tie.Need-write-path-requires
 write-path-requires c κs =
-    let at-is-accepted = c .before .before in
-    let at-fill-sets = at-is-accepted .before .before .before .before in
-    let entry = at-fill-sets .before .before .before .before .before in
-    (entry .pre .0, at-fill-sets .fill-sets .ensures, sym (at-is-accepted .is-accepted .ensures) ∙ c .before .if1 .taken)
-
-returns-2 : tie.Need-returns-2
-returns-2 c = sought-none _ (c .before .before .before .before .before .fill-sets .ensures .right 0 (omega arith)) (sym (c .before .is-accepted .ensures) ∙ c .if1 .left)
+    let filled = c .before .before .before .before .before .before in
+    (filled .before .before .before .before .before .pre .0, filled .fill-sets .ensures, sym (c .before .before .is-accepted .ensures) ∙ c .before .if1 .taken)
 
 pub find-spec : {M : Type 1} → statement M
 find-spec = tie.close (tie.spec (λ c κs. search needs) is-accepted-requires write-path-requires (λ c. search needs)
-    (λ c. λ round lent. sought-path (c .before .before .write-path .ensures round lent)) (λ c. search needs) returns-2)
+    (λ c. λ round lent. sought-path (c .before .before .write-path .ensures round lent)) (λ c. search needs)
+    (λ c. sought-none _ (c .before .before .before .before .before .fill-sets .ensures .right 0 (omega arith)) (sym (c .before .is-accepted .ensures) ∙ c .if1 .left)))

@@ -4,7 +4,7 @@ use Rattle.automaton.specs.StateNumbers.{stateNumber}
 use borrow.Author.Needs.{needs}
 use Rattle.model.specs.Groups.{processesOf}
 use Rattle.start.specs.RestSets.{ownNumber}
-use Rattle.start.proofs.Frames.{frame-made}
+use Rattle.start.proofs.OwnGroups.{frame-made}
 use Rattle.start.proofs.groups.frame_of.Statement.{statement}
 use Rattle.start.proofs.groups.frame_of.Tie as tie
 

@@ -14,14 +14,14 @@ less-one r s e = omega arith
 returns : tie.Need-returns
 unfolding lastStates
 returns c =
-    let at-last-state4 = c .before in
-    let at-last-state3 = at-last-state4 .before in
+    let at-last-state3 = c .before .before in
     let at-last-state2 = at-last-state3 .before in
-    let e0 = less-one _ _ (at-last-state2 .before .last-state .ensures) in
-    let e1 = less-one _ _ (at-last-state2 .last-state2 .ensures) in
-    let e2 = less-one _ _ (at-last-state3 .last-state3 .ensures) in
-    let e3 = less-one _ _ (at-last-state4 .last-state4 .ensures) in
-    c .plain .ensures ∙ ap (plainGroup (processesOfTable (at-last-state2 .before .before .before .args .t))) (λ i. record { s0 = e0 i; s1 = e1 i; s2 = e2 i; s3 = e3 i })
+    c .plain .ensures ∙ ap (plainGroup (processesOfTable (at-last-state2 .before .before .before .args .t))) (λ i. record {
+      s0 = less-one _ _ (at-last-state2 .before .last-state .ensures) i;
+      s1 = less-one _ _ (at-last-state2 .last-state2 .ensures) i;
+      s2 = less-one _ _ (at-last-state3 .last-state3 .ensures) i;
+      s3 = less-one _ _ (c .before .last-state4 .ensures) i;
+    })
 
 pub last-states-spec : {M : Type 1} → statement M
 last-states-spec = tie.close (tie.spec (λ c κs. search needs) (λ c κs. search needs) (λ c κs. search needs) (λ c κs. search needs) (λ c κs. search needs) returns)

@@ -1,30 +1,47 @@
--- The last set has the accepting groups.
-use borrow.Author.Needs.{needs}
-use Rattle.table.proofs.Layouts.{table-modest, pile-count}
+-- The last set has the accepting groups: it is cleared, and they are put into it in turn.
+use mathlib.Core.Path.{_∙_}
+use native.Mathlib.Omega.{arith}
+use Rattle.table.proofs.Layouts.{table-modest}
 use Rattle.start.proofs.ScratchRegions.{same-join}
-use Rattle.start.proofs.Grounds.{grounds}
-use Rattle.start.proofs.RestRight.{set-last}
+use Rattle.start.proofs.RestRight.{Numbering, numbering-start, numbering-turn, numbering-end, set-last}
 use Rattle.start.proofs.sets.fill_accepting.Statement.{statement}
 use Rattle.start.proofs.sets.fill_accepting.Tie as tie
 
-clear-set-requires : tie.Need-clear-set-requires
-clear-set-requires c κs =
-    let a = c .before .before .before .args in
-    (table-modest (a .table .now) (a .t) (c .before .before .before .pre .0) .pile, c .before .before .before .pre .1)
+abbrev Inv-loop : tie.InvT-loop
+Inv-loop table t scratch₀ j₀ scratch j = Numbering table t j scratch₀ scratch
 
-returns : tie.Need-returns
-returns c =
-    let at-add-all-accepting = c .before .before in
-    let at-clear-set = at-add-all-accepting .before .before .before .before in
-    let entry = at-clear-set .before .before .before .before in
-    let a = entry .args in
-    let holds = entry .pre .0 in
-    let e = at-clear-set .clear-set in
-    let f = at-add-all-accepting .add-all-accepting in (
-      same-join (e .ensures .0) (f .ensures .same),
-      λ round. set-last (grounds (a .table .now) (a .t) holds) (pile-count (a .table .now) (a .t) holds) round (e .last .0) (f .last .1 .1 .0) (f .ensures),
+abbrev μ-loop : tie.MeasureT-loop
+μ-loop table t scratch₀ j₀ scratch j = j
+
+abbrev cleared : tie.At-loop Inv-loop μ-loop → tie.After-clear-set Inv-loop μ-loop
+cleared c = c .before .before .before
+
+abbrev entry : tie.At-loop Inv-loop μ-loop → tie.Start Inv-loop μ-loop
+entry c = c .before .before .before .before .before .before .before
+
+add-accepting-requires : tie.Need-add-accepting-requires Inv-loop μ-loop
+add-accepting-requires c κs =
+    let at-loop = c .before .before in (
+      entry at-loop .pre .0,
+      omega (arith, at-loop .loop .inv .few, c .before .loop-test .taken),
+      omega
+          (arith, entry at-loop .pre .1, at-loop .loop .inv .same .size, cleared at-loop .clear-set .ensures .0 .size),
     )
 
+loop-again : tie.Need-loop-again Inv-loop μ-loop
+loop-again c =
+    let at-loop = c .before .before .before .before .before in
+    numbering-turn (entry at-loop .pre .0) (omega (arith, entry at-loop .pre .1, cleared at-loop .clear-set .ensures .0 .size))
+    (c .before .before .before .before .loop-test .taken) (at-loop .loop .inv) (c .before .before .add-accepting .ensures)
+
+returns : tie.Need-returns Inv-loop μ-loop
+returns c =
+    let filled = numbering-end (c .loop-test .left) (c .before .loop .inv) in
+    (same-join (cleared (c .before) .clear-set .ensures .0) (filled .same), λ round. set-last (entry (c .before) .pre .0) round _ _ filled)
+
 pub fill-accepting-spec : {M : Type 1} → statement M
-fill-accepting-spec =
-    tie.close (tie.spec clear-set-requires (λ c κs. search needs) (λ c. search needs) returns)
+fill-accepting-spec = tie.close (tie.spec Inv-loop μ-loop
+    (λ c κs. let start = c .before .before .before in (table-modest (start .args .table .now) (start .args .t) (start .pre .0) .pile, start .pre .1))
+    (λ c. numbering-start (c .before .before .before .before .before .before .pre .0) _ (c .before .before .clear-set .ensures .1))
+    (λ c. omega arith) add-accepting-requires (λ c. omega arith) loop-again
+    (λ c. c .before .loop .inv .same .size ∙ cleared (c .before) .clear-set .ensures .0 .size) returns)
