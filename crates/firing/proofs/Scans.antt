@@ -10,10 +10,10 @@ use lib.Dec.{eqb, ltb}
 use lib.ListN.{length, getD, take, drop, length-drop}
 use lib.Seq.{drop-cons, drop-drop}
 use borrow.Author.Tests.{eq-eqb, ne-eqb, lt-ltb, le-ltb, ltb-true, ltb-false}
-use Rattle.model.specs.Groups.{Processes, processesOf, sameGroup, restrict}
+use Rattle.model.specs.Groups.{Processes, apartTest, processesOf, restrict, sameGroup}
 use Rattle.model.specs.Systems.{Rule, enabled}
 use Rattle.model.specs.Words.{Located, removeFirst}
-use Rattle.model.proofs.CodeTests.{apartTest, topsScan, scan-is}
+use Rattle.model.proofs.CodeTests.{topsScan, scan-is}
 use Rattle.model.proofs.Tests.{by-test}
 use Rattle.shapes.proofs.Ranges.{allBelow, all-below, sameBool, same-bool}
 use Rattle.firing.specs.declared.Placed.{Placed}

@@ -4,9 +4,8 @@ use mathlib.Core.List.{List, [], _∷_, _++_}
 use Prim.Native.Nat.{ℕ, suc, _+_, _-_}
 use lib.Dec.{eqb}
 use lib.ListN.{length, take, drop}
-use Rattle.model.specs.Groups.{Processes, restrict, sameGroup}
+use Rattle.model.specs.Groups.{Processes, apartTest, restrict, sameGroup}
 use Rattle.model.specs.Systems.{Rule}
-use Rattle.model.proofs.CodeTests.{apartTest}
 use Rattle.firing.specs.declared.Placed.{Placed}
 
 -- from the top: the place in the word of a, which no letter above it shares a process with; the word's length where there is none

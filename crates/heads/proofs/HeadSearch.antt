@@ -14,28 +14,30 @@ use Rattle.model.specs.Log.{Candidate, Record, addedRecord}
 use Rattle.model.specs.Records.{recordLength}
 use Rattle.model.specs.Systems.{Rule}
 use Rattle.model.specs.Tables.{ruleOf}
+use Rattle.model.specs.Lists.{filter}
+use Rattle.model.specs.Searches.{isHead}
 use Rattle.model.proofs.FreshPaths.{filter-append}
 use Rattle.model.proofs.Groups.{sameGroup-true}
 use Rattle.model.proofs.Lists.{map-append}
-use Rattle.model.proofs.RoundHeads.{filter, isHead, isHead-of, isHead-true}
+use Rattle.model.proofs.RoundHeads.{isHead-of, isHead-true}
 use Rattle.model.proofs.Tests.{and-left, and-right}
 use Rattle.automaton.specs.StateSets.{firstFrom}
 use Rattle.automaton.proofs.StateSets.{First, first-at}
-use Rattle.logs.proofs.Rules.{rule-over}
+use Rattle.scratch.specs.Regions.{activeAt}
 use Rattle.packs.specs.Packs.{Bytes, packed}
 use Rattle.packs.proofs.Packs.{same-bits}
+use Rattle.table.specs.declared.Table.{Table}
+use Rattle.table.specs.Reading.{BitsOf, Holds, ruleIn, systemIn}
+use Rattle.table.proofs.Layouts.{table-modest}
+use Rattle.logs.proofs.Rules.{rule-over}
 use Rattle.logs.proofs.Logs.{over-byte}
-use Rattle.paths.specs.Arrivals.{hit, stored, taken}
-use Rattle.paths.specs.Jobs.{seenIn}
-use Rattle.paths.proofs.Arrivals.{hit-append, or-assoc, or-false, stored-append, stored-capped, stored-earlier, stored-length, taken-append, taken-same}
 use Rattle.rules.specs.Regions.{inSet, positionCeiling}
 use Rattle.rules.specs.Rules.{orderedRule}
 use Rattle.rules.proofs.HeadRuns.{head-candidates, offersOf, runOffers}
 use Rattle.rules.proofs.RuleOrder.{same-between}
-use Rattle.scratch.specs.Regions.{activeAt}
-use Rattle.table.specs.declared.Table.{Table}
-use Rattle.table.specs.Reading.{BitsOf, Holds, ruleIn, systemIn}
-use Rattle.table.proofs.Layouts.{table-modest}
+use Rattle.paths.specs.Arrivals.{hit, stored, taken}
+use Rattle.paths.specs.Jobs.{seenIn}
+use Rattle.paths.proofs.Arrivals.{hit-append, or-assoc, or-false, stored-append, stored-capped, stored-earlier, stored-length, taken-append, taken-same}
 use Rattle.heads.specs.declared.Head.{Head}
 use Rattle.heads.specs.declared.Round.{Round}
 use Rattle.heads.specs.Heads.{Arrived, HeadSearched, Leading, beforeOf, letterOf}

@@ -11,24 +11,25 @@ use Rattle.model.specs.Lists.{Each}
 use Rattle.model.specs.Records.{logBytes, recordLength}
 use Rattle.model.specs.Systems.{Rule}
 use Rattle.model.proofs.Tests.{by-test}
-use Rattle.logs.proofs.Logs.{log-fits}
-use Rattle.paths.proofs.Glances.{before-same, letter-same}
+use Rattle.automaton.specs.StateSets.{setLength}
+use Rattle.scratch.specs.Regions.{activeAt, countsEnd, orderAt, passedAt, ringsAt}
 use Rattle.records.specs.Entries.{Fits}
 use Rattle.rings.proofs.Keeping.{freshened-log, freshened-scratch, ringed-log, ringed-scratch}
+use Rattle.table.specs.declared.Table.{Table}
+use Rattle.table.specs.Reading.{Holds, ruleIn}
+use Rattle.table.proofs.Layouts.{table-modest}
+use Rattle.logs.proofs.Logs.{log-fits}
 use Rattle.rules.specs.Regions.{inSet, positionCeiling}
 use Rattle.rules.specs.Rules.{hasLetter, orderedRule, writersOf, writesLetter}
 use Rattle.rules.proofs.RegionLaws.{in-same}
 use Rattle.rules.proofs.RuleOrder.{ordered-same}
-use Rattle.scratch.specs.Regions.{activeAt, countsEnd, orderAt, passedAt, ringsAt, setBytes}
-use Rattle.table.specs.declared.Table.{Table}
-use Rattle.table.specs.Reading.{Holds, ruleIn}
-use Rattle.table.proofs.Layouts.{table-modest}
+use Rattle.paths.proofs.Glances.{before-same, letter-same}
 use Rattle.heads.specs.declared.Round.{Round}
 use Rattle.heads.specs.Rounds.{InRound, Prepared, earlierLog, isActive}
 
 -- the bytes that a round keeps while it adds records
 abbrev pub Keeps : List ℕ → List ℕ → Type 0
-Keeps s s′ = (i : ℕ) → countsEnd ≤ i → i < passedAt + 2 * setBytes → getD s′ i 0 ≡ getD s i 0
+Keeps s s′ = (i : ℕ) → countsEnd ≤ i → i < passedAt + 2 * setLength → getD s′ i 0 ≡ getD s i 0
 
 module _ (table : List ℕ) (t : Table) (holds : Holds table t) (s s′ : List ℕ) (keeps : Keeps s s′) where
   -- the rules are in the same order, and the same positions are active

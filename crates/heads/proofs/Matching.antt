@@ -18,13 +18,13 @@ use Rattle.model.specs.Records.{afterAt, beforeAt, logBytes, recordLength}
 use Rattle.model.proofs.LogPaths.{reads-letter}
 use Rattle.model.proofs.Tests.{by-test}
 use Rattle.model.proofs.Validity.{each-at}
+use Rattle.records.specs.Entries.{Fits, Reads}
+use Rattle.records.proofs.Entries.{log-reads}
 use Rattle.packs.specs.Packs.{packed, packedAfter, packedBefore, unpacked}
 use Rattle.packs.proofs.Packs.{pack-group}
 use Rattle.packs.proofs.Unpacked.{packed-below, unpacked-packed}
 use Rattle.paths.specs.Jobs.{glances, glancesFrom}
 use Rattle.paths.proofs.Glances.{glances-at, length-glances}
-use Rattle.records.specs.Entries.{Fits, Reads}
-use Rattle.records.proofs.Entries.{log-reads}
 
 -- ---- paths depend on the transitions, and on the processes of the letters read
 module _ (loc loc′ : ℕ → Processes) (a : ℕ) (g : Group) (same : loc a ≡ loc′ a) (rest rest′ : Group → List Path) (onward : (h : Group) → rest h ≡ rest′ h) where

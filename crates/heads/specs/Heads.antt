@@ -8,17 +8,17 @@ use Rattle.model.specs.declared.Group.{Group}
 use Rattle.model.specs.Groups.{Processes}
 use Rattle.model.specs.Log.{Candidate, addedRecord}
 use Rattle.model.specs.Records.{logBytes, recordLength}
-use Rattle.model.proofs.RoundHeads.{filter}
+use Rattle.model.specs.Lists.{filter}
 use Rattle.automaton.specs.StateNumbers.{Over, stateCount, stateNumber}
-use Rattle.automaton.specs.StateSets.{member}
+use Rattle.automaton.specs.StateSets.{member, setLength}
+use Rattle.scratch.specs.Regions.{activeAt, countsEnd, passedAt, passedBit, ringsAt, seenAt}
 use Rattle.table.specs.declared.Table.{Table}
 use Rattle.table.specs.Reading.{ruleIn}
-use Rattle.scratch.specs.Regions.{activeAt, countsEnd, passedAt, passedBit, ringsAt, seenAt, setBytes}
-use Rattle.ranks.specs.Ranks.{RanksOnly, Sorted}
-use Rattle.rules.specs.Regions.{inSet, positionCeiling}
+use Rattle.rules.specs.Regions.{inSet}
 use Rattle.rules.specs.Rules.{orderedRule}
 use Rattle.paths.specs.Arrivals.{hit, stored, taken}
 use Rattle.paths.specs.Jobs.{seenIn}
+use Rattle.ranks.specs.Ranks.{RanksOnly, Sorted}
 use Rattle.heads.specs.declared.Reached.{Reached}
 use Rattle.heads.specs.declared.Round.{Round}
 use Rattle.heads.specs.Rounds.{earlierLog, headAdditions, headAt, headCandidates, isOffered}
@@ -26,22 +26,22 @@ use Rattle.heads.specs.Rounds.{earlierLog, headAdditions, headAt, headCa
 -- ---- sets cleared
 -- every group of the processes has its number from this byte of a set on
 abbrev pub FirstByte : Processes → ℕ → Type 0
-FirstByte L from = (from ≤ setBytes) × ((g : Group) → Over L g → 8 * from ≤ stateNumber g)
+FirstByte L from = (from ≤ setLength) × ((g : Group) → Over L g → 8 * from ≤ stateNumber g)
 
 -- the sets of a depth are cleared from a byte on
 pub record DepthCleared (from depth : ℕ) (s s′ : List ℕ) : Type 0 where
   pub size : length s′ ≡ length s
   pub clear : (found : Bool) (m : ℕ) → 8 * from ≤ m → m < stateCount → member s′ (passedBit depth found m) ≡ false
   pub others : (d : ℕ) (found : Bool) (m : ℕ) → (d ≡ depth → ⊥) → m < stateCount → member s′ (passedBit d found m) ≡ member s (passedBit d found m)
-  pub before : (i : ℕ) → i < passedAt + 2 * setBytes → getD s′ i 0 ≡ getD s i 0
-  pub behind : (i : ℕ) → passedAt + 12 * setBytes ≤ i → getD s′ i 0 ≡ getD s i 0
+  pub before : (i : ℕ) → i < passedAt + 2 * setLength → getD s′ i 0 ≡ getD s i 0
+  pub behind : (i : ℕ) → passedAt + 12 * setLength ≤ i → getD s′ i 0 ≡ getD s i 0
 
 -- no state from a number on is passed at the depths behind the first and below `depth`
 pub record PassedCleared (from depth : ℕ) (s s′ : List ℕ) : Type 0 where
   pub size : length s′ ≡ length s
   pub clear : (d : ℕ) (found : Bool) (m : ℕ) → 1 ≤ d → d < depth → 8 * from ≤ m → m < stateCount → member s′ (passedBit d found m) ≡ false
-  pub before : (i : ℕ) → i < passedAt + 2 * setBytes → getD s′ i 0 ≡ getD s i 0
-  pub behind : (i : ℕ) → passedAt + 12 * setBytes ≤ i → getD s′ i 0 ≡ getD s i 0
+  pub before : (i : ℕ) → i < passedAt + 2 * setLength → getD s′ i 0 ≡ getD s i 0
+  pub behind : (i : ℕ) → passedAt + 12 * setLength ≤ i → getD s′ i 0 ≡ getD s i 0
 
 -- ---- searches
 -- candidates have arrived one after the other: the first for each end that was not seen before is written, as long as the log has room
@@ -50,8 +50,8 @@ pub record Arrived (table : List ℕ) (round : Round) (cs : List Candidate) (cou
   pub written : log′ ≡ stored (round .n) log count (map (addedRecord (round .number) (earlierLog table (round .number))) (taken (seenIn s) cs))
   pub seen : (x : ℕ) → x < stateCount → seenIn s′ x ≡ (seenIn s x || hit cs x)
   pub scratch-length : length s′ ≡ length s
-  pub kept : (i : ℕ) → seenAt + setBytes ≤ i → i < passedAt + 2 * setBytes → getD s′ i 0 ≡ getD s i 0
-  pub outside : (i : ℕ) → passedAt + 12 * setBytes ≤ i → getD s′ i 0 ≡ getD s i 0
+  pub kept : (i : ℕ) → seenAt + setLength ≤ i → i < passedAt + 2 * setLength → getD s′ i 0 ≡ getD s i 0
+  pub outside : (i : ℕ) → passedAt + 12 * setLength ≤ i → getD s′ i 0 ≡ getD s i 0
 
 -- no active position before p has its head
 abbrev pub Leading : List ℕ → List ℕ → ℕ → Type 0
@@ -91,5 +91,5 @@ pub record HeadAdded (table : List ℕ) (t : Table) (round : Round) (p count : �
   pub front : take (round .base * recordLength) log′ ≡ take (round .base * recordLength) log
   pub log-length : length log′ ≡ length log
   pub scratch-length : length s′ ≡ length s
-  pub kept : (i : ℕ) → countsEnd ≤ i → i < passedAt + 2 * setBytes → getD s′ i 0 ≡ getD s i 0
+  pub kept : (i : ℕ) → countsEnd ≤ i → i < passedAt + 2 * setLength → getD s′ i 0 ≡ getD s i 0
   pub rings : (i : ℕ) → ringsAt ≤ i → getD s′ i 0 ≡ getD s i 0

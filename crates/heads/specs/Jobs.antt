@@ -7,9 +7,9 @@ use lib.Dec.{eqb}
 use lib.ListN.{length, getD}
 use Rattle.model.specs.Tables.{writtenPlaces}
 use Rattle.packs.specs.Packs.{maskOf, packed}
-use Rattle.paths.specs.declared.Job.{Job}
 use Rattle.table.specs.Reading.{BitsOf, ruleIn, systemIn}
 use Rattle.rules.specs.Rules.{hasLetter}
+use Rattle.paths.specs.declared.Job.{Job}
 use Rattle.heads.specs.declared.Head.{Head}
 use Rattle.heads.specs.declared.Round.{Round}
 use Rattle.heads.specs.declared.jobs.Word.{Word}

@@ -6,16 +6,16 @@ use Prim.Native.Nat.{ℕ, _+_, _-_, _*_, _<_, _≤_}
 use lib.Dec.{eqb, ltb}
 use lib.ListN.{length, getD, take}
 use Rattle.model.specs.declared.Group.{Group}
-use Rattle.model.specs.Lists.{anyOf}
+use Rattle.model.specs.Lists.{anyOf, filter}
 use Rattle.model.specs.Log.{Record, Candidate, candidate, collect, logAt, paths}
 use Rattle.model.specs.Records.{letterAt, logBytes, recordLength}
 use Rattle.model.specs.Systems.{Rule}
-use Rattle.model.proofs.FreshPaths.{anyFrom}
-use Rattle.model.proofs.RoundHeads.{candidatesOf, filter, isHead, ruleHead}
+use Rattle.model.specs.Searches.{anyFrom, candidatesOf, isHead, ruleHead}
+use Rattle.automaton.specs.StateSets.{setLength}
+use Rattle.scratch.specs.Regions.{activeAt, passedAt, ringsAt}
+use Rattle.rings.specs.Rings.{Freshened, RingRoom, Ringed}
 use Rattle.table.specs.declared.Table.{Table}
 use Rattle.table.specs.Reading.{Holds, ruleIn, systemIn}
-use Rattle.scratch.specs.Regions.{activeAt, passedAt, ringsAt, setBytes}
-use Rattle.rings.specs.Rings.{Freshened, RingRoom, Ringed}
 use Rattle.rules.specs.Regions.{inSet, positionCeiling}
 use Rattle.rules.specs.Rules.{Ordered, Writers, hasLetter, orderedRule}
 use Rattle.heads.specs.declared.Round.{Round}
@@ -36,7 +36,7 @@ headAt table s p = ruleHead (ruleIn table (orderedRule s p))
 pub record Prepared (table : List ℕ) (t : Table) (s : List ℕ) : Type 0 where
   pub ordered : Ordered table (t .rules) s
   pub writers : Writers table (t .letters) (t .rules) s
-  pub first-depth : (i : ℕ) → passedAt ≤ i → i < passedAt + 2 * setBytes → getD s i 0 ≡ 0
+  pub first-depth : (i : ℕ) → passedAt ≤ i → i < passedAt + 2 * setLength → getD s i 0 ≡ 0
 
 pub record InRound (table : List ℕ) (t : Table) (round : Round) (log s : List ℕ) : Type 0 where
   pub holds : Holds table t

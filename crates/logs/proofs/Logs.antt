@@ -17,19 +17,19 @@ use Rattle.model.specs.Tables.{writtenPlaces}
 use Rattle.model.proofs.Collecting.{Reasoned, additions-reasoned, each-collect, logAt-suc}
 use Rattle.model.proofs.Groups.{at-merge}
 use Rattle.model.proofs.Limit.{each-transitionsAt, length-suc}
-use Rattle.model.proofs.Lists.{each-any, each-append, each-both, each-get, each-less, each-map, each-of-map, getD-mem, mem-each}
+use Rattle.model.proofs.Lists.{each-append, each-both, each-get, each-less, each-map, each-of-map, getD-mem, mem-each}
 use Rattle.model.proofs.LogPaths.{IsPath, paths-sound}
 use Rattle.model.proofs.Paths.{Inside}
 use Rattle.model.proofs.Reasons.{path-length}
 use Rattle.model.proofs.Skipping.{freshIn, skip-law}
 use Rattle.model.proofs.Soundness.{transitionsAt}
 use Rattle.model.proofs.Tests.{by-test}
-use Rattle.table.specs.declared.Table.{Table}
 use Rattle.automaton.specs.StateNumbers.{Over}
 use Rattle.records.specs.Entries.{Fits}
+use Rattle.table.specs.declared.Table.{Table}
 use Rattle.table.specs.Reading.{Holds, ruleIn, systemIn}
-use Rattle.logs.proofs.Rules.{each-by-elem, over-restrict, rule-elem, rule-number, rule-over, rule-written, transition-number, transition-over}
 use Rattle.table.proofs.Layouts.{rule-letter-in, table-modest, transition-letter-in, written-few}
+use Rattle.logs.proofs.Rules.{each-by-elem, over-restrict, rule-elem, rule-number, rule-over, rule-written, transition-number, transition-over}
 
 -- ---- groups
 pub merge-over : (L M : Processes) (x g : Group) → Within M L → Over M x → Over L g → Over L (merge M x g)

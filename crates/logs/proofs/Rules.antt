@@ -1,5 +1,4 @@
 -- The rules and transitions of an accepted table: where they stand in its system, and that their states are of their letter's processes.
-use Rattle.table.proofs.Readings.{holds-complete}
 use mathlib.Core.Path.{_≡_, refl, ap, sym, subst, _∙_}
 use mathlib.Core.Bool.{true, true≢false}
 use mathlib.Core.Logic.{⊎-elim}
@@ -28,6 +27,7 @@ use Rattle.model.proofs.Tests.{by-test, and-both}
 use Rattle.automaton.specs.StateNumbers.{Over}
 use Rattle.table.specs.declared.Table.{Table}
 use Rattle.table.specs.Reading.{Holds, itemsIn, systemIn, ruleIn, transitionIn}
+use Rattle.table.proofs.Readings.{holds-complete}
 use Rattle.table.proofs.Layouts.{body-in, body-size, count-in, rule-letter-in, rules-count, transition-letter-in, transitions-count, written-letter-in}
 use Rattle.shapes.proofs.Ranges.{each-place, each-by-place}
 use Rattle.shapes.proofs.Shapes.{loc-within, over-fits, bound-at}

@@ -6,7 +6,7 @@ use Prim.Native.Nat.{ℕ}
 use lib.Dec.{eqb}
 use borrow.Author.Tests.{eq-eqb, eqb-true}
 use Rattle.model.specs.declared.Group.{Group}
-use Rattle.model.specs.Groups.{Apart, Processes, at, every, has, restrict, sameGroup}
+use Rattle.model.specs.Groups.{Apart, Processes, apartTest, at, every, has, restrict, sameGroup}
 use Rattle.model.specs.Words.{Located, removeFirst, tops}
 use Rattle.model.proofs.Groups.{agree-at, agree-of, sameGroup-of, sameGroup-true}
 use Rattle.model.proofs.Tests.{and-left, and-right, by-test, every-at, every-of, implied, implies, not-true, same-test}
@@ -25,9 +25,6 @@ match-is L g b nb = same-test (matchAt L g b) (sameGroup (restrict L g) b)
     (λ m. eq-eqb (at g i) (at b i) (agree-at L g b (sameGroup-true (restrict L g) b e ∙ sym nb) i m))))
 
 -- ---- the letter that tops
-abbrev pub apartTest : Processes → Processes → Bool
-apartTest L M = every (λ i. not (has L i) || not (has M i))
-
 pub apart-true : (L M : Processes) → apartTest L M ≡ true → Apart L M
 apart-true L M e i m = not-true (has M i) (implies (has L i) (not (has M i)) (every-at (λ i. not (has L i) || not (has M i)) e i) m)
 

@@ -1,5 +1,5 @@
 -- What check 5 shows of the items of each kind: their letters and groups fit the processes and letters of the table.
-use mathlib.Core.Path.{_≡_, sym}
+use mathlib.Core.Path.{_≡_}
 use mathlib.Core.Bool.{_&&_, cond, false, true}
 use mathlib.Core.Logic.{_≢_}
 use mathlib.Core.List.{List, [], _∷_}
@@ -10,11 +10,10 @@ use lib.ListN.{drop, getD, length}
 use borrow.Author.Tests.{eq-eqb, eqb-false, eqb-true, leb-true, ltb-true}
 use Rattle.model.specs.declared.Group.{Group}
 use Rattle.model.specs.Automata.{Transition}
-use Rattle.model.specs.Groups.{Process, Processes, at, has, p0, p1, p2, p3, processesOf, restrict}
+use Rattle.model.specs.Groups.{Process, Processes, at, has, p0, p1, p2, p3, processesOf}
 use Rattle.model.specs.Lists.{Each}
 use Rattle.model.specs.Tables.{Item, absent, bodies, byteOf, controlsOf, cooperates, groupFits, groupOf, leavesControl, locOf, numberOf, present, ruleOf, statesOf, transitionFits, transitionOf, valueFits, writtenFit}
 use Rattle.model.specs.Words.{Located}
-use Rattle.model.proofs.Groups.{at-restrict, ext}
 use Rattle.model.proofs.Limit.{ByteGroup}
 use Rattle.model.proofs.Lists.{each-map}
 use Rattle.model.proofs.Tests.{and-left, and-right, by-test, every-at, not-false}

@@ -1,5 +1,5 @@
 -- The theorems about the definitions of specs/, for the crates above. Main has the mission's demands, Theorems what docs/PROOFS.md names besides; the
--- files before them lead there; GreedyPath to Bounds join the definitions with the way the code computes them.
+-- files before them lead there; GreedyPath to CodeTests join the definitions with the way the code computes them.
 pub mod Tests
 pub mod Lists
 pub mod Groups
@@ -40,4 +40,3 @@ pub mod RoundHeads
 pub mod Skipping
 pub mod FreshPaths
 pub mod CodeTests
-pub mod Bounds

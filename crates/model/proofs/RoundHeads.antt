@@ -13,11 +13,12 @@ use borrow.Author.Tests.{eq-eqb, eqb-true}
 use Rattle.model.specs.declared.Group.{Group}
 use Rattle.model.specs.Automata.{Transition}
 use Rattle.model.specs.Groups.{Processes, at, sameGroup}
-use Rattle.model.specs.Lists.{Each}
+use Rattle.model.specs.Lists.{Each, filter}
 use Rattle.model.specs.Log.{Candidate, Path, Record, additions, candidate, candidates, collect, inLog, keyLess, lexLess, paths, sameKey}
 use Rattle.model.specs.Saturation.{added}
 use Rattle.model.specs.Systems.{Rule, System}
 use Rattle.model.specs.Tables.{absent}
+use Rattle.model.specs.Searches.{candidatesOf, headOf, isHead, ruleHead}
 use Rattle.model.proofs.Collecting.{each-collect, sameKey-true}
 use Rattle.model.proofs.FirstCandidates.{first-both, firstOf, orElse}
 use Rattle.model.proofs.Groups.{sameGroup-of, sameGroup-true}
@@ -37,15 +38,7 @@ afterDigits t = t .after .s0 ∷ t .after .s1 ∷ t .after .s2 ∷ t .after .s3 
 abbrev pub upTo : List ℕ → Candidate → Bool
 upTo h c = not (lexLess h (headDigits (c .key)))
 
-abbrev pub filter : {A : Type 0} → (A → Bool) → List A → List A
-filter f [] = []
-filter f (x ∷ xs) = cond (f x) (x ∷ filter f xs) (filter f xs)
-
 -- ---- the candidates of some rules
-abbrev pub candidatesOf : (ℕ → Processes) → List Record → (Rule → Bool) → List Rule → ℕ → List Candidate
-candidatesOf loc log ok [] n = []
-candidatesOf loc log ok (r ∷ rs) n = cond (ok r) (map (candidate loc r n) (paths loc log (r .written) (r .after))) [] ++ candidatesOf loc log ok rs (suc n)
-
 -- rules without a candidate for a key do not matter for it
 pub first-chosen : (loc : ℕ → Processes) (log : List Record) (ok : Rule → Bool) (k : Transition) (rs : List Rule) (n : ℕ)
     → Each (λ (r : Rule). ok r ≡ false → (m : ℕ) → firstOf k (map (candidate loc r m) (paths loc log (r .written) (r .after))) ≡ none) rs
@@ -126,15 +119,6 @@ first-filter f k (c ∷ cs) = by-test (sameKey (c .key) k)
     (λ n. rw (n, m) (first-filter f k cs)))
 
 -- ---- a rule's candidates
-abbrev pub headOf : ℕ → Group → List ℕ
-headOf a b = a ∷ b .s0 ∷ b .s1 ∷ b .s2 ∷ b .s3 ∷ []
-
-abbrev pub ruleHead : Rule → List ℕ
-ruleHead r = headOf (r .letter) (r .before)
-
-unfoldable pub isHead : ℕ → Group → Rule → Bool
-isHead a b r = eqb (r .letter) a && sameGroup (r .before) b
-
 pub isHead-true : (a : ℕ) (b : Group) (r : Rule) → isHead a b r ≡ true → ruleHead r ≡ headOf a b
 unfolding isHead
 isHead-true a b r e =

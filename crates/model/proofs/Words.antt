@@ -86,17 +86,8 @@ keep-cancel false a r s e = e
 pub equivalent-cancel : (loc : ℕ → Processes) (a : ℕ) (x y : List ℕ) → Equivalent loc (a ∷ x) (a ∷ y) → Equivalent loc x y
 equivalent-cancel loc a x y s i = keep-cancel (has (loc a) i) a (project loc i x) (project loc i y) (s i)
 
-pub equivalent-cons : (loc : ℕ → Processes) (a : ℕ) (x y : List ℕ) → Equivalent loc x y → Equivalent loc (a ∷ x) (a ∷ y)
-equivalent-cons loc a x y s i = ap (keep (has (loc a) i) a) (s i)
-
 pub equivalent-append : (loc : ℕ → Processes) (u v x y : List ℕ) → Equivalent loc u v → Equivalent loc x y → Equivalent loc (u ++ x) (v ++ y)
 equivalent-append loc u v x y p q i = project-append loc i u x ∙ ap₂ _++_ (p i) (q i) ∙ sym (project-append loc i v y)
-
-pub equivalent-sym : (loc : ℕ → Processes) (w v : List ℕ) → Equivalent loc w v → Equivalent loc v w
-equivalent-sym loc w v s i = sym (s i)
-
-pub equivalent-trans : (loc : ℕ → Processes) (w v u : List ℕ) → Equivalent loc w v → Equivalent loc v u → Equivalent loc w u
-equivalent-trans loc w v u s t i = s i ∙ t i
 
 pub equivalent-nil : (loc : ℕ → Processes) → Located loc → (w : List ℕ) → Equivalent loc w [] → w ≡ []
 equivalent-nil loc ne [] s = refl

@@ -1,6 +1,6 @@
 -- Section 2 of the paper: processes, tuples of local states, their restriction to a set of processes, and the joint tuple.
 use mathlib.Core.Path.{_≡_}
-use mathlib.Core.Bool.{Bool, true, false, cond, _&&_}
+use mathlib.Core.Bool.{Bool, _&&_, _||_, cond, false, not, true}
 use Prim.Native.Nat.{ℕ, _/_, _%_}
 use lib.Dec.{eqb}
 use Rattle.model.specs.declared.Group.{Group}
@@ -46,6 +46,10 @@ processesOf bits = record { b0 = eqb (bits % 2) 1; b1 = eqb (bits / 2 % 2) 1; b2
 -- no process is in both sets; each process of M is in L
 abbrev pub Apart : Processes → Processes → Type 0
 Apart L M = (i : Process) → has L i ≡ true → has M i ≡ false
+
+-- the same as a test
+abbrev pub apartTest : Processes → Processes → Bool
+apartTest L M = every (λ i. not (has L i) || not (has M i))
 
 abbrev pub Within : Processes → Processes → Type 0
 Within M L = (i : Process) → has M i ≡ true → has L i ≡ true

@@ -1,6 +1,6 @@
 -- The definitions that the contracts cite: what a reader has to believe.
 -- The paper: Groups, Words, Automata, Systems, Saturation. Document 01: Tables, Log, Unfolding, Records, Calls, and SmallTables with its examples.
--- The claim: Demands.
+-- The claim: Demands. How rounds are searched, for the crates that saturate: Searches.
 pub mod Lists
 pub mod Groups
 pub mod Words
@@ -10,6 +10,7 @@ pub mod Saturation
 pub mod Tables
 pub mod Log
 pub mod Unfolding
+pub mod Searches
 pub mod Records
 pub mod Calls
 pub mod Demands

@@ -1,5 +1,5 @@
 -- Small functions on lists that the definitions use.
-use mathlib.Core.Bool.{Bool, true, false, _&&_, _||_}
+use mathlib.Core.Bool.{Bool, true, false, cond, _&&_, _||_}
 use mathlib.Core.Option.{Option, none, some}
 use mathlib.Core.List.{List, [], _∷_, _++_}
 use Prim.Native.Nat.{ℕ, _+_}
@@ -17,6 +17,11 @@ allOf f (x ∷ xs) = f x && allOf f xs
 abbrev pub anyOf : {A : Type 0} → (A → Bool) → List A → Bool
 anyOf f [] = false
 anyOf f (x ∷ xs) = f x || anyOf f xs
+
+-- the elements of which the test holds
+abbrev pub filter : {A : Type 0} → (A → Bool) → List A → List A
+filter f [] = []
+filter f (x ∷ xs) = cond (f x) (x ∷ filter f xs) (filter f xs)
 
 -- what f gives for each element, one after the other; summed up
 abbrev pub concatMap : {A B : Type 0} → (A → List B) → List A → List B

@@ -9,7 +9,6 @@ use Rattle.model.specs.Systems.{enabled, fire}
 use Rattle.model.specs.Tables.{isOutOfTurn, groupFits, transitionFits, writtenFit, valueFits, cooperates, leavesControl, isTwin, refusal, readFrom, read, systemOf}
 use Rattle.model.specs.Log.{readsAt, keyLess, sameKey, additions, logAt, firstSaturated, saturatedAt}
 use Rattle.model.specs.Unfolding.{acceptingPath, emittedBy}
-use Rattle.model.specs.Lists.{valueOr}
 use Rattle.model.specs.Records.{recordBytes}
 use Rattle.model.specs.Calls.{recordsOf, runOf, logAfter, pageAfter, answerGiven, answerCall, runCall, walkCall, answerFigures, runGiven, runFigures, walkGiven, walkFigures}
 

@@ -8,7 +8,7 @@ use Rattle.model.specs.declared.Group.{Group}
 use Rattle.model.specs.Lists.{allOf, anyOf}
 use Rattle.model.specs.Groups.{Process, p0, p1, p2, p3, every, at, Processes, has, processesOf}
 use Rattle.model.specs.Automata.{Transition}
-use Rattle.model.specs.Systems.{Rule, Configuration, System}
+use Rattle.model.specs.Systems.{Rule, System}
 
 -- ---- items
 -- one byte of kind, then a body whose length the kind fixes

@@ -10,28 +10,28 @@ use lib.ListN.{drop, getD, length, take}
 use lib.Seq.{getD-set-other}
 use borrow.Author.Tests.{eq-eqb, eqb-false, eqb-true, ne-eqb}
 use Rattle.model.specs.declared.Group.{Group}
-use Rattle.model.specs.Lists.{Each}
+use Rattle.model.specs.Lists.{Each, filter}
 use Rattle.model.specs.Log.{Candidate, Path, Record, paths, addedRecord, noNumber}
-use Rattle.model.proofs.FreshPaths.{fresh-paths, freshPaths, found-paths, pathFresh}
-use Rattle.model.proofs.Lists.{each-map}
-use Rattle.model.proofs.RoundHeads.{filter}
-use Rattle.model.proofs.Tests.{by-test}
-use Rattle.automaton.specs.StateNumbers.{Over, stateCount, stateNumber}
-use Rattle.automaton.specs.StateSets.{inserted, member}
-use Rattle.automaton.proofs.StateNumbers.{number-injective, stateNumber-below}
-use Rattle.automaton.proofs.StateSets.{length-inserted, member-inserted}
-use Rattle.scratch.specs.Regions.{passedAt, passedBit, seenAt, seenBit, setBytes}
-use Rattle.paths.specs.declared.Job.{Job}
-use Rattle.paths.specs.Arrivals.{endNumber, stored, taken}
-use Rattle.paths.specs.Jobs.{PassedRight, isPassed, jobLoc, jobProcesses, jobWord, made, offers, seenIn, withPassed, Searchable, Searched, Standing, arrivals, endEntry, glances, storedEnd}
 use Rattle.model.specs.Groups.{restrict}
 use Rattle.model.specs.Records.{recordLength}
 use Rattle.model.specs.Tables.{writtenPlaces}
+use Rattle.model.specs.Searches.{freshPaths}
+use Rattle.model.proofs.FreshPaths.{fresh-paths, found-paths, pathFresh}
+use Rattle.model.proofs.Lists.{each-map}
+use Rattle.model.proofs.Tests.{by-test}
+use Rattle.automaton.specs.StateNumbers.{Over, stateCount, stateNumber}
+use Rattle.automaton.specs.StateSets.{inserted, member, setLength}
+use Rattle.automaton.proofs.StateNumbers.{number-injective, stateNumber-below}
+use Rattle.automaton.proofs.StateSets.{length-inserted, member-inserted}
+use Rattle.scratch.specs.Regions.{passedAt, passedBit, seenAt, seenBit}
 use Rattle.records.specs.declared.Entry.{Entry}
 use Rattle.records.specs.Entries.{padded, recordEntry, withEntry}
 use Rattle.packs.specs.Packs.{packNumber, restrictedBits, unpacked}
 use Rattle.packs.proofs.Unpacked.{number-unpacked, restrict-below, restrict-unpacked}
+use Rattle.paths.specs.declared.Job.{Job}
 use Rattle.paths.specs.declared.Trail.{Trail}
+use Rattle.paths.specs.Arrivals.{endNumber, stored, taken}
+use Rattle.paths.specs.Jobs.{PassedRight, isPassed, jobLoc, jobProcesses, jobWord, made, offers, seenIn, withPassed, Searchable, Searched, Standing, arrivals, endEntry, glances, storedEnd}
 use Rattle.paths.proofs.Arrivals.{hit-seen, or-false, or-true, stored-length, taken-none}
 
 -- ---- one bit more
@@ -40,14 +40,14 @@ unfolding inserted
 byte-kept s n i ne = getD-set-other s (n / 8) i _ 0 ne
 
 -- an end more, where bits are set below the states passed
-module _ (s : List ℕ) (x : ℕ) (small : x < stateCount) (room : passedAt + 12 * setBytes ≤ length s) where
+module _ (s : List ℕ) (x : ℕ) (small : x < stateCount) (room : passedAt + 12 * setLength ≤ length s) where
   pub seen-more : (y : ℕ) → seenIn (inserted s (seenBit x)) y ≡ (eqb y x || seenIn s y)
   seen-more y = member-inserted s (seenBit x) (seenBit y) (omega arith) ∙ ap (λ (b : Bool). b || seenIn s y) same
     where
       same : eqb (seenBit y) (seenBit x) ≡ eqb y x
       same = by-test (eqb y x) (λ t. eq-eqb (seenBit y) (seenBit x) (ap seenBit (eqb-true y x t)) ∙ sym t) (λ f. ne-eqb (seenBit y) (seenBit x) (λ e. eqb-false y x f (omega arith)) ∙ sym f)
 
-  pub seen-bytes : (i : ℕ) → seenAt + setBytes ≤ i → getD (inserted s (seenBit x)) i 0 ≡ getD s i 0
+  pub seen-bytes : (i : ℕ) → seenAt + setLength ≤ i → getD (inserted s (seenBit x)) i 0 ≡ getD s i 0
   seen-bytes i h = byte-kept s (seenBit x) i (λ e. omega arith)
 
   pub seen-passed : (level : ℕ) (found : Bool) (m : ℕ) → member (inserted s (seenBit x)) (passedBit level found m) ≡ member s (passedBit level found m)
@@ -69,20 +69,20 @@ bit-other level level′ m m′ false false h k e = (omega arith, refl, omega ar
 bit-other level level′ m m′ true false h k e = absurd (omega arith)
 bit-other level level′ m m′ false true h k e = absurd (omega arith)
 
-bit-inside : (level m : ℕ) (found : Bool) → level < 6 → m < stateCount → (8 * passedAt + 8192 * level ≤ passedBit level found m) × (passedBit level found m < 8 * (passedAt + 12 * setBytes))
+bit-inside : (level m : ℕ) (found : Bool) → level < 6 → m < stateCount → (8 * passedAt + 8192 * level ≤ passedBit level found m) × (passedBit level found m < 8 * (passedAt + 12 * setLength))
 bit-inside level m true l h = (omega arith, omega arith)
 bit-inside level m false l h = (omega arith, omega arith)
 
 -- what noting a state leaves
-module _ (s : List ℕ) (level : ℕ) (found : Bool) (m : ℕ) (l : level < 6) (small : m < stateCount) (room : passedAt + 12 * setBytes ≤ length s) where
+module _ (s : List ℕ) (level : ℕ) (found : Bool) (m : ℕ) (l : level < 6) (small : m < stateCount) (room : passedAt + 12 * setLength ≤ length s) where
   pub pass-length : length (withPassed s level found m) ≡ length s
   unfolding withPassed
   pass-length = by-test (eqb level 0) (λ y. rw y refl) (λ n. rw n (length-inserted s (passedBit level found m)))
 
-  pub pass-bytes : (i : ℕ) → (i < passedAt + 2 * setBytes) ⊎ (passedAt + 12 * setBytes ≤ i) → getD (withPassed s level found m) i 0 ≡ getD s i 0
+  pub pass-bytes : (i : ℕ) → (i < passedAt + 2 * setLength) ⊎ (passedAt + 12 * setLength ≤ i) → getD (withPassed s level found m) i 0 ≡ getD s i 0
   unfolding withPassed
   pass-bytes i h = by-test (eqb level 0) (λ y. rw y refl)
-      (λ n. rw n (byte-kept s (passedBit level found m) i (λ e. let high : level ≢ 0 = eqb-false level 0 n in let b = bit-inside level m found l small in ⊎-elim (λ (q : i < passedAt + 2 * setBytes). omega (arith, b .0)) (λ (q : passedAt + 12 * setBytes ≤ i). omega (arith, b .1)) h)))
+      (λ n. rw n (byte-kept s (passedBit level found m) i (λ e. let high : level ≢ 0 = eqb-false level 0 n in let b = bit-inside level m found l small in ⊎-elim (λ (q : i < passedAt + 2 * setLength). omega (arith, b .0)) (λ (q : passedAt + 12 * setLength ≤ i). omega (arith, b .1)) h)))
 
   pub pass-seen : (x : ℕ) → x < stateCount → seenIn (withPassed s level found m) x ≡ seenIn s x
   unfolding withPassed
@@ -103,7 +103,7 @@ each-joined job Q pre pre′ [] e = tt
 each-joined job Q pre pre′ (p ∷ ps) e = (e .0, each-joined job Q pre pre′ ps (e .1))
 
 -- a state all of whose ends were seen may be noted
-pub passed-more : (job : Job) (log : List Record) (s : List ℕ) (level : ℕ) (found : Bool) (g : Group) (pre : List ℕ) → level < job .count → job .count ≤ 6 → passedAt + 12 * setBytes ≤ length s → Over (jobProcesses job) g
+pub passed-more : (job : Job) (log : List Record) (s : List ℕ) (level : ℕ) (found : Bool) (g : Group) (pre : List ℕ) → level < job .count → job .count ≤ 6 → passedAt + 12 * setLength ≤ length s → Over (jobProcesses job) g
     → Each (λ (c : Candidate). seenIn s (endNumber c) ≡ true) (offers job log level found g pre) → PassedRight job log s → PassedRight job log (withPassed s level found (stateNumber g))
 passed-more job log s level found g pre l few room over all right k b j h small y g′ o e =
     each-map (λ (c : Candidate). seenIn s (endNumber c) ≡ true) (λ (c : Candidate). seenIn (withPassed s level found (stateNumber g)) (endNumber c) ≡ true)
@@ -227,7 +227,7 @@ module _ {job : Job} {log s : List ℕ} {state : ℕ} {trail : Trail} (ready : S
         small : x < stateCount
         small = rw (e ∙ end-is) (stateNumber-below (new .key .after))
 
-        room : passedAt + 12 * setBytes ≤ length s
+        room : passedAt + 12 * setLength ≤ length s
         room = omega (arith, ready .room .room)
 
         one : taken (seenIn s) (new ∷ []) ≡ new ∷ []

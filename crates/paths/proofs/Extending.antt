@@ -12,7 +12,7 @@ use Rattle.model.specs.declared.Group.{Group}
 use Rattle.model.specs.Automata.{move}
 use Rattle.model.specs.Groups.{Processes}
 use Rattle.model.specs.Log.{Path, Record, noRecord, push, readsAt, recordAt}
-use Rattle.model.proofs.FreshPaths.{extendFresh}
+use Rattle.model.specs.Searches.{extendFresh}
 use Rattle.model.proofs.Tests.{by-test}
 use Rattle.automaton.specs.StateSets.{firstFrom}
 

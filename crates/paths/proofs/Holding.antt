@@ -8,12 +8,12 @@ use native.Mathlib.Omega.{arith}
 use lib.Dec.{eqb}
 use lib.ListN.{getD, length}
 use Rattle.automaton.specs.StateNumbers.{stateCount}
-use Rattle.automaton.specs.StateSets.{firstFrom, inserted}
+use Rattle.automaton.specs.StateSets.{firstFrom, inserted, setLength}
 use Rattle.automaton.proofs.StateSets.{first-at, length-inserted}
+use Rattle.scratch.specs.Regions.{passedAt, ringsAt, seenBit}
 use Rattle.packs.specs.Packs.{packNumber, packedAfter}
 use Rattle.rings.specs.Rings.{RingRoom, Ringed, recordReads}
 use Rattle.rings.proofs.Keeping.{ringed-scratch}
-use Rattle.scratch.specs.Regions.{passedAt, ringsAt, seenBit, setBytes}
 use Rattle.paths.specs.Held.{HeldSeen, heldBelow}
 use Rattle.paths.specs.Jobs.{seenIn}
 use Rattle.paths.proofs.Arrivals.{or-false, or-true}
@@ -64,7 +64,7 @@ module _ {log : List ℕ} {n base letter g : ℕ} {s₀ : List ℕ} where
     small : x < stateCount
     small = x-is .1
 
-    size : passedAt + 12 * setBytes ≤ length s
+    size : passedAt + 12 * setLength ≤ length s
     size = omega (arith, o .room .room)
 
     noted : HeldSeen log (suc r) letter g s₀ s′

@@ -10,16 +10,16 @@ use lib.Dec.{leb}
 use lib.ListN.{getD, length, take}
 use Rattle.model.specs.Log.{Candidate, stepsCap}
 use Rattle.model.specs.Tables.{writtenPlaces}
-use Rattle.model.proofs.FreshPaths.{freshPaths}
+use Rattle.model.specs.Searches.{freshPaths}
 use Rattle.model.proofs.Tests.{by-test}
 use Rattle.automaton.specs.StateNumbers.{stateCount, stateNumber}
-use Rattle.automaton.specs.StateSets.{firstFrom}
+use Rattle.automaton.specs.StateSets.{firstFrom, setLength}
 use Rattle.automaton.proofs.StateNumbers.{stateNumber-below}
+use Rattle.scratch.specs.Regions.{passedAt, ringsAt}
 use Rattle.records.specs.Entries.{HasRecord}
 use Rattle.packs.specs.Packs.{mergedBits, packNumber, packedAfter, restrictedBits, unpacked}
 use Rattle.packs.proofs.Unpacked.{number-unpacked}
 use Rattle.rings.specs.Rings.{RingRoom, Ringed, recordReads}
-use Rattle.scratch.specs.Regions.{passedAt, ringsAt, setBytes}
 use Rattle.paths.specs.declared.Job.{Job}
 use Rattle.paths.specs.declared.Trail.{Trail}
 use Rattle.paths.specs.Jobs.{Searchable, Searched, Standing, arrivals, firstTried, glances, isPassed, jobLoc, longerTrail, made, offers, withPassed}
@@ -101,7 +101,7 @@ module _ {log₀ s₀ : List ℕ} {job : Job} {level state : ℕ} {found : Bool}
   pub looping-log : length log ≡ length log₀
   looping-log = log-size job level state found trail count log₀ s₀ (o .ready) (o .stands) (o .more) (o .low) log s total r (o .going)
 
-  pub looping-pass : (level < 6) × (x < stateCount) × (passedAt + 12 * setBytes ≤ length s)
+  pub looping-pass : (level < 6) × (x < stateCount) × (passedAt + 12 * setLength ≤ length s)
   looping-pass = (omega (arith, o .more, o .ready .few), rw (o .is-number) (stateNumber-below (unpacked state)), omega (arith, looping-ready .room .room))
 
   pub looping-scratch : {s′ : List ℕ} → s′ ≡ withPassed s level found x → length s′ ≡ length s₀
@@ -188,7 +188,7 @@ module _ {log₀ s₀ : List ℕ} {job : Job} {level state : ℕ} {found : Bool}
   looping-end h e =
       let stop : job .base ≤ r = omega (arith, o .is-base) in
       let few : level < 6 = omega (arith, o .more, o .ready .few) in
-      let room : passedAt + 12 * setBytes ≤ length s = omega (arith, looping-ready .room .room) in
+      let room : passedAt + 12 * setLength ≤ length s = omega (arith, looping-ready .room .room) in
       let small = stateNumber-below (unpacked state) in
       subst (λ (y : List ℕ). Explored job level state found trail count log₀ s₀ total log y) (sym (e ∙ ap (withPassed s level found) (o .is-number)))
       (going-end job level state found trail count log₀ s₀ (o .ready) (o .stands) (o .more) (o .low) log s total r (o .going) stop (withPassed s level found (stateNumber (unpacked state)))

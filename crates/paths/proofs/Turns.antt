@@ -16,18 +16,19 @@ use Rattle.model.specs.Groups.{merge, restrict, sameGroup}
 use Rattle.model.specs.Lists.{Each, sumOver}
 use Rattle.model.specs.Log.{Candidate, Path, Record, addedRecord, noNumber, push, readsAt, recordAt, stepsCap}
 use Rattle.model.specs.Records.{letterAt, recordLength, stepsAt}
-use Rattle.model.proofs.FreshPaths.{Stale, extendFresh, freshPaths, stale-paths}
+use Rattle.model.specs.Searches.{extendFresh, freshPaths}
+use Rattle.model.proofs.FreshPaths.{Stale, stale-paths}
 use Rattle.model.proofs.Lists.{each-append, each-map, map-append}
 use Rattle.model.proofs.Tests.{and-left, by-test}
 use Rattle.automaton.specs.StateNumbers.{stateCount}
-use Rattle.automaton.specs.StateSets.{firstFrom}
+use Rattle.automaton.specs.StateSets.{firstFrom, setLength}
 use Rattle.automaton.proofs.StateNumbers.{stateNumber-below}
 use Rattle.automaton.proofs.StateSets.{first-at}
+use Rattle.scratch.specs.Regions.{passedAt, ringsAt, seenAt}
 use Rattle.packs.specs.Packs.{maskOf, mergedBits, packedAfter, packedBefore, restrictedBits, unpacked}
 use Rattle.packs.proofs.Unpacked.{merge-below, merge-unpacked, restrict-below, restrict-unpacked, same-unpacked}
 use Rattle.rings.specs.Rings.{recordReads}
 use Rattle.rings.proofs.Keeping.{freshened-log, freshened-scratch, ringed-log, ringed-scratch}
-use Rattle.scratch.specs.Regions.{passedAt, ringsAt, seenAt, setBytes}
 use Rattle.paths.specs.declared.Job.{Job}
 use Rattle.paths.specs.declared.Trail.{Trail}
 use Rattle.paths.specs.Arrivals.{endNumber, hit, stored, taken}
@@ -81,7 +82,7 @@ capped-sum t a b c d p q e = omega arith
 
 -- ---- buffers in which the search may go on
 pub searchable-kept : (job : Job) (log s log′ s′ : List ℕ) → Searchable job log s → take (job .base * recordLength) log′ ≡ take (job .base * recordLength) log → length log′ ≡ length log → length s′ ≡ length s
-    → ((i : ℕ) → passedAt + 12 * setBytes ≤ i → getD s′ i 0 ≡ getD s i 0) → PassedRight job (glances log (job .base)) s′ → Searchable job log′ s′
+    → ((i : ℕ) → passedAt + 12 * setLength ≤ i → getD s′ i 0 ≡ getD s i 0) → PassedRight job (glances log (job .base)) s′ → Searchable job log′ s′
 searchable-kept job log s log′ s′ w same size-log size-s outside right =
     let letters = letter-same log log′ (job .base) same in
     let befores = before-same log log′ (job .base) same in
@@ -179,8 +180,8 @@ module _ (job : Job) (level state : ℕ) (found : Bool) (trail : Trail) (count :
     pub counted : total ≡ min (count + length got) (job .n + 1)
     pub written : log ≡ stored (job .n) log₀ count (records got)
     pub scratch-length : length s ≡ length s₀
-    pub kept : (i : ℕ) → seenAt + setBytes ≤ i → i < passedAt + 2 * setBytes → getD s i 0 ≡ getD s₀ i 0
-    pub outside : (i : ℕ) → passedAt + 12 * setBytes ≤ i → getD s i 0 ≡ getD s₀ i 0
+    pub kept : (i : ℕ) → seenAt + setLength ≤ i → i < passedAt + 2 * setLength → getD s i 0 ≡ getD s₀ i 0
+    pub outside : (i : ℕ) → passedAt + 12 * setLength ≤ i → getD s i 0 ≡ getD s₀ i 0
     pub below : r ≤ job .base
     pub reads : r < job .base → recordReads log₀ a key r ≡ true
     pub passed : PassedRight job A s
@@ -328,8 +329,8 @@ module _ (job : Job) (level state : ℕ) (found : Bool) (trail : Trail) (count :
           next-are = remaining-first (suc r) (job .base - suc r) (omega arith) ∙ ap remaining (sym q₀)
 
     -- ---- no record is left
-    pub going-end : job .base ≤ r → (s′ : List ℕ) → length s′ ≡ length s → ((x : ℕ) → x < stateCount → seenIn s′ x ≡ seenIn s x) → ((i : ℕ) → seenAt + setBytes ≤ i → i < passedAt + 2 * setBytes → getD s′ i 0 ≡ getD s i 0)
-        → ((i : ℕ) → passedAt + 12 * setBytes ≤ i → getD s′ i 0 ≡ getD s i 0) → PassedRight job A s′ → Searched job all count log₀ s₀ total log s′
+    pub going-end : job .base ≤ r → (s′ : List ℕ) → length s′ ≡ length s → ((x : ℕ) → x < stateCount → seenIn s′ x ≡ seenIn s x) → ((i : ℕ) → seenAt + setLength ≤ i → i < passedAt + 2 * setLength → getD s′ i 0 ≡ getD s i 0)
+        → ((i : ℕ) → passedAt + 12 * setLength ≤ i → getD s′ i 0 ≡ getD s i 0) → PassedRight job A s′ → Searched job all count log₀ s₀ total log s′
     going-end h s′ size seen kept outside right =
         let none : remaining r ≡ [] = ap (map (joined job pre)) (extend-end (jobLoc job) (job .lo) found a g onward A r (rw (length-glances log₀ 0 (job .base)) h)) in
         let got-is : taken (seenIn s₀) all ≡ o .got = o .taking ∙ ap (λ (cs : List Candidate). o .got ++ taken (seenIn s) cs) none ∙ append-nil (o .got) in

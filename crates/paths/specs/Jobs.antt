@@ -3,7 +3,7 @@ use mathlib.Core.Path.{_≡_}
 use mathlib.Core.Bool.{Bool, true, cond, _||_}
 use mathlib.Core.List.{List, [], _∷_, _++_, map}
 use Prim.Native.Nat.{ℕ, zero, suc, _+_, _*_, _<_, _≤_, min}
-use lib.Dec.{eqb, leb, ltb}
+use lib.Dec.{eqb, ltb}
 use lib.ListN.{length, getD, set, take, drop}
 use Rattle.model.specs.declared.Group.{Group}
 use Rattle.model.specs.Lists.{Each, sumOver}
@@ -11,14 +11,14 @@ use Rattle.model.specs.Groups.{Processes, restrict, merge}
 use Rattle.model.specs.Tables.{writtenPlaces}
 use Rattle.model.specs.Log.{Record, Path, Candidate, addedRecord, noNumber, recordAt, stepsCap}
 use Rattle.model.specs.Records.{recordLength, letterAt, stepsAt}
-use Rattle.model.proofs.FreshPaths.{freshPaths}
+use Rattle.model.specs.Searches.{freshPaths}
 use Rattle.automaton.specs.StateNumbers.{stateCount, stateNumber, Over}
-use Rattle.automaton.specs.StateSets.{member, inserted}
+use Rattle.automaton.specs.StateSets.{member, inserted, setLength}
+use Rattle.scratch.specs.Regions.{passedAt, passedBit, ringsAt, seenAt, seenBit}
 use Rattle.records.specs.declared.Entry.{Entry}
 use Rattle.records.specs.Entries.{withEntry}
 use Rattle.packs.specs.Packs.{maskOf, packedAfter, packedBefore, processesIn, unpacked}
 use Rattle.rings.specs.Rings.{RingRoom, Ringed, Freshened}
-use Rattle.scratch.specs.Regions.{passedAt, passedBit, ringsAt, seenAt, seenBit, setBytes}
 use Rattle.paths.specs.declared.Job.{Job}
 use Rattle.paths.specs.declared.Trail.{Trail}
 use Rattle.paths.specs.Arrivals.{endNumber, hit, stored, taken}
@@ -122,8 +122,8 @@ pub record Searched (job : Job) (cs : List Candidate) (count : ℕ) (log s : Lis
   pub seen : (x : ℕ) → x < stateCount → seenIn s′ x ≡ (seenIn s x || hit cs x)
   pub scratch-length : length s′ ≡ length s
   -- of the scratch only the ends seen and the states passed behind the first letter change
-  pub kept : (i : ℕ) → seenAt + setBytes ≤ i → i < passedAt + 2 * setBytes → getD s′ i 0 ≡ getD s i 0
-  pub outside : (i : ℕ) → passedAt + 12 * setBytes ≤ i → getD s′ i 0 ≡ getD s i 0
+  pub kept : (i : ℕ) → seenAt + setLength ≤ i → i < passedAt + 2 * setLength → getD s′ i 0 ≡ getD s i 0
+  pub outside : (i : ℕ) → passedAt + 12 * setLength ≤ i → getD s′ i 0 ≡ getD s i 0
   pub passed : PassedRight job (glances log (job .base)) s′
 
 -- ---- the path so far

@@ -27,11 +27,11 @@ ghost use Rattle.model.specs.Log.{stepsCap};
 ghost use Rattle.model.specs.Records.{recordLength, stepsAt};
 ghost use Rattle.model.specs.Tables.{writtenPlaces};
 ghost use Rattle.automaton.specs.StateNumbers.{stateCount};
-ghost use Rattle.automaton.specs.StateSets.{firstFrom, member};
+ghost use Rattle.automaton.specs.StateSets.{firstFrom, member, setLength};
 ghost use Rattle.records.specs.Entries.{HasRecord};
 ghost use Rattle.rings.specs.Rings.{recordReads, RingRoom, Ringed, Freshened};
 ghost use Rattle.packs.specs.Packs.{unpacked};
-ghost use Rattle.scratch.specs.Regions.{passedAt, passedBit, ringsAt, seenBit, setBytes};
+ghost use Rattle.scratch.specs.Regions.{passedAt, passedBit, ringsAt, seenBit};
 ghost use Rattle.paths.specs.Jobs.{Searchable, Searched, Standing, firstTried, isPassed, longerTrail, glances, offers, storedEnd, withPassed, arrivals};
 
 pub mod held;
@@ -131,7 +131,7 @@ fn first_try(
 
 fn slot(level: usize, found: bool) -> usize
     requires { ⌜ level < 6 ⌝ }
-    ensures { λ r. ⌜ (r ≡ 8 * passedAt + (2 * level + cond found 1 0) * 4096) × (r + 4096 ≤ 8 * (passedAt + 12 * setBytes)) ⌝ }
+    ensures { λ r. ⌜ (r ≡ 8 * passedAt + (2 * level + cond found 1 0) * 4096) × (r + 4096 ≤ 8 * (passedAt + 12 * setLength)) ⌝ }
 {
     if found {
         return 8 * PASSED + (2 * level + 1) * STATES;
@@ -141,7 +141,7 @@ fn slot(level: usize, found: bool) -> usize
 
 // Whether the search has come by the state at this depth, so that it leads to nothing new.
 fn is_passed(scratch: &[u8], level: usize, found: bool, x: usize) -> bool
-    requires { ⌜ (level < 6) × (x < stateCount) × (passedAt + 12 * setBytes ≤ length (now scratch)) ⌝ }
+    requires { ⌜ (level < 6) × (x < stateCount) × (passedAt + 12 * setLength ≤ length (now scratch)) ⌝ }
     ensures { λ r. ⌜ r ≡ isPassed (now (scratch .entry)) level found x ⌝ }
 {
     if sets::contains(scratch, slot(level, true) + x) {
@@ -152,7 +152,7 @@ fn is_passed(scratch: &[u8], level: usize, found: bool, x: usize) -> bool
 
 // Notes that the search has come by the state. The first depth is come by once only.
 fn pass(scratch: &mut [u8], level: usize, found: bool, x: usize)
-    requires { ⌜ (level < 6) × (x < stateCount) × (passedAt + 12 * setBytes ≤ length (now scratch)) ⌝ }
+    requires { ⌜ (level < 6) × (x < stateCount) × (passedAt + 12 * setLength ≤ length (now scratch)) ⌝ }
     ensures { λ _. ⌜ now (scratch .exit) ≡ withPassed (now (scratch .entry)) level found x ⌝ }
 {
     if level == 0 {

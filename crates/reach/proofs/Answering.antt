@@ -23,8 +23,8 @@ use Rattle.table.specs.declared.Parsed.{Parsed}
 use Rattle.table.specs.declared.Table.{Table}
 use Rattle.table.specs.Reading.{Holds, parsed, systemIn}
 use Rattle.table.proofs.Readings.{holds-read, refused-reading}
-use Rattle.reach.specs.Outcomes.{Answers, LimitLeft, NoneLeft, Runs}
 use Rattle.verdict.specs.Verdicts.{RunLeft, startRun}
+use Rattle.reach.specs.Outcomes.{Answers, LimitLeft, NoneLeft, Runs}
 
 -- what a call that gives this number leaves in the log and the scratch
 abbrev Left : List ℕ → List ℕ → List ℕ → ℕ → List ℕ → List ℕ → Type 0

@@ -1,5 +1,4 @@
 -- The log that saturation leaves, as answer and run hand it on.
-use Rattle.model.proofs.Closing.{zeros-same}
 use mathlib.Core.Path.{_∙_, _≡_, ap, ap₂, sym}
 use mathlib.Core.List.{List, _++_}
 use Prim.Native.Nat.{_*_, _-_, _≤_, ℕ}
@@ -9,14 +8,15 @@ use Rattle.model.specs.Calls.{zeros}
 use Rattle.model.specs.Log.{limit, saturatedAt}
 use Rattle.model.specs.Records.{logBytes, recordLength}
 use Rattle.model.specs.Systems.{System}
+use Rattle.model.proofs.Closing.{zeros-same}
 use Rattle.model.proofs.Rounds.{rounds-limit, rounds-short}
-use Rattle.table.specs.declared.Table.{Table}
-use Rattle.reach.specs.Outcomes.{LimitLeft, NoneLeft, Roomy}
-use Rattle.saturate.specs.Limits.{SaturatedFull, SaturatedLimit}
-use Rattle.table.specs.Reading.{Holds, systemIn}
-use Rattle.verdict.proofs.Clearing.{linked-cleared}
-use Rattle.logs.proofs.Logs.{log-fits}
 use Rattle.model.proofs.RecordBytes.{length-log}
+use Rattle.table.specs.declared.Table.{Table}
+use Rattle.table.specs.Reading.{Holds, systemIn}
+use Rattle.logs.proofs.Logs.{log-fits}
+use Rattle.saturate.specs.Limits.{SaturatedFull, SaturatedLimit}
+use Rattle.verdict.proofs.Clearing.{linked-cleared}
+use Rattle.reach.specs.Outcomes.{LimitLeft, NoneLeft, Roomy}
 
 pub none-left : {table : List ℕ} {n : ℕ} {log scratch log₁ scratch₁ log₂ scratch₂ : List ℕ} → SaturatedFull table n log scratch log₁ scratch₁ → log₂ ≡ zeros log₁ → scratch₂ ≡ zeros scratch₁
     → NoneLeft table n log scratch log₂ scratch₂

@@ -10,9 +10,9 @@ use Rattle.model.specs.Tables.{writtenPlaces}
 use Rattle.model.specs.Log.{Record, recordAt, noNumber}
 use Rattle.model.specs.Records.{recordLength, littleEndian, pathBytes, recordBytes, logBytes, numberAt, ruleAt, placeAt, stepsAt}
 use Rattle.model.proofs.RecordBytes.{length-path, length-log, log-around, number-drop, number-behind, number-cons, number-back, from-number, from-letter, from-before, from-after, from-round, record-from}
+use Rattle.numbers.specs.NumberBytes.{withNumber}
 use Rattle.records.specs.declared.Entry.{Entry}
 use Rattle.records.specs.Entries.{padded, pathPlace, recordEntry, entryBytes, HasRecord, withEntry, Fits, Reads}
-use Rattle.numbers.specs.NumberBytes.{withNumber}
 use Rattle.records.proofs.Parts.{Front, front-number, part-back, part-rest}
 
 -- ---- the bytes of an entry are those of its record

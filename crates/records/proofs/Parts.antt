@@ -4,10 +4,10 @@ use mathlib.Core.List.{List, [], _++_, append-nil, append-assoc}
 use Prim.Native.Nat.{ℕ, _+_, _-_, _≤_}
 use native.Mathlib.Omega.{arith}
 use lib.ListN.{length, take, drop, length-append, length-drop, drop-of-length-le}
+use lib.Seq.{sets, sets-eq, take-at, drop-at, drop-drop, take-all}
 use Rattle.model.specs.Records.{littleEndian}
 use Rattle.numbers.specs.NumberBytes.{withNumber}
 use Rattle.numbers.proofs.NumberBytes.{length-little}
-use lib.Seq.{sets, sets-eq, take-at, drop-at, drop-drop, take-all}
 
 -- stores at 0, 1, .. to the end of a list are the list of what is stored
 pub all-set : (vs l : List ℕ) → length l ≡ length vs → sets l 0 vs ≡ vs

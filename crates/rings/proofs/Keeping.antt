@@ -6,10 +6,10 @@ use Prim.Native.Nat.{ℕ, suc, _+_, _-_, _*_, _<_, _≤_}
 use native.Mathlib.Omega.{arith}
 use lib.Dec.{eqb}
 use lib.ListN.{getD}
-use Rattle.automaton.proofs.StateSets.{first-at, first-is}
 use Rattle.model.specs.Records.{letterAt}
-use Rattle.packs.specs.Packs.{packedBefore}
 use Rattle.numbers.proofs.NumberBytes.{number-same}
+use Rattle.automaton.proofs.StateSets.{first-at, first-is}
+use Rattle.packs.specs.Packs.{packedBefore}
 use Rattle.rings.specs.Rings.{recordBucket, inBucket, linkPlace, linkAt, NoneIn, NoTail, Greatest, Ahead, Around, Ringed, Freshened}
 
 -- tails and next links decide

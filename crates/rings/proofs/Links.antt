@@ -10,11 +10,11 @@ use native.Mathlib.Omega.{arith}
 use lib.Dec.{eqb}
 use lib.ListN.{length}
 use borrow.Author.Tests.{eq-eqb, eqb-true, ne-eqb}
-use Rattle.model.proofs.Tests.{and-left, and-right}
 use Rattle.model.specs.Records.{letterAt}
-use Rattle.packs.specs.Packs.{packedBefore}
+use Rattle.model.proofs.Tests.{and-left, and-right}
 use Rattle.numbers.specs.NumberBytes.{withNumber}
 use Rattle.numbers.proofs.NumberBytes.{byte-kept, length-number, number-kept, number-written}
+use Rattle.packs.specs.Packs.{packedBefore}
 use Rattle.rings.specs.Rings.{bucketOf, recordBucket, inBucket, recordReads, noLink, linkPlace, linkAt, Ringed, OutsideSame, withLink}
 
 -- ---- links

@@ -8,10 +8,9 @@ use mathlib.Core.List.{List}
 use Prim.Native.Nat.{ℕ, suc, _+_, _-_, _*_, _/_, _%_, _<_, _≤_}
 use lib.Dec.{eqb, ltb}
 use lib.ListN.{length, getD}
-use Rattle.automaton.specs.StateSets.{firstFrom}
-use Rattle.model.specs.Records.{recordLength, letterAt}
-use Rattle.model.specs.Records.{numberAt}
+use Rattle.model.specs.Records.{recordLength, letterAt, numberAt}
 use Rattle.numbers.specs.NumberBytes.{withNumber}
+use Rattle.automaton.specs.StateSets.{firstFrom}
 use Rattle.packs.specs.Packs.{packedBefore}
 
 -- ---- buckets

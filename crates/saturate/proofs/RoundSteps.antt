@@ -9,27 +9,28 @@ use native.Mathlib.Omega.{arith}
 use lib.Dec.{eqb, leb, ltb}
 use lib.ListN.{getD, length, length-append, length-map, take}
 use borrow.Author.Tests.{eq-eqb, eqb-true, le-leb, leb-true, lt-ltb, ltb-false, ltb-true}
-use Rattle.model.specs.Lists.{Each, anyOf}
+use Rattle.model.specs.Lists.{Each, anyOf, filter}
 use Rattle.model.specs.Log.{Candidate, Path, Record, addedRecord, additions, inLog, lexLess, logAt, noRecord, paths, recordAt}
 use Rattle.model.specs.Records.{letterAt, logBytes, recordLength}
 use Rattle.model.specs.Saturation.{added}
 use Rattle.model.specs.Systems.{Rule, System}
+use Rattle.model.specs.Searches.{ruleHead}
 use Rattle.model.proofs.Collecting.{logAt-suc}
 use Rattle.model.proofs.FreshPaths.{last-round}
 use Rattle.model.proofs.Lists.{any-of, any-true, each-any, each-map, map-append}
 use Rattle.model.proofs.Order.{lex-irrefl, lex-total, sameDigits}
 use Rattle.model.proofs.RecordBytes.{log-append}
-use Rattle.model.proofs.RoundHeads.{filter, last-head, next-head, no-head, ruleHead, upTo}
+use Rattle.model.proofs.RoundHeads.{last-head, next-head, no-head, upTo}
 use Rattle.model.proofs.Skipping.{freshIn}
 use Rattle.model.proofs.Tests.{and-both, and-left, and-right, by-test, or-right}
 use Rattle.automaton.specs.StateSets.{firstFrom}
 use Rattle.automaton.proofs.StateSets.{first-at}
+use Rattle.scratch.specs.Regions.{activeAt}
 use Rattle.table.specs.declared.Table.{Table}
 use Rattle.table.specs.Reading.{Holds, ruleIn, systemIn}
 use Rattle.table.proofs.Layouts.{table-modest}
 use Rattle.logs.proofs.Logs.{skip-stale}
 use Rattle.logs.proofs.Rules.{each-by-elem, rule-number}
-use Rattle.scratch.specs.Regions.{activeAt}
 use Rattle.rules.specs.Regions.{inSet, positionCeiling}
 use Rattle.rules.specs.Rules.{Ordered, hasLetter, orderedRule}
 use Rattle.rules.proofs.RuleOrder.{heads-rise, same-between}

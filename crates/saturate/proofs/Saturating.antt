@@ -1,5 +1,4 @@
 -- Rounds until one adds nothing: the limit.
-use Rattle.model.proofs.Lists.{length-zero}
 use mathlib.Core.Path.{_∙_, _≡_, ap, refl, subst, sym}
 use mathlib.Core.Bool.{Bool, _&&_, false, not, true}
 use mathlib.Core.List.{List, _++_, append-nil, map}
@@ -14,26 +13,27 @@ use borrow.Author.Tests.{le-leb, leb-true, ltb-false, ltb-true}
 use Rattle.model.specs.Log.{Candidate, Record, addedRecord, additions, limit, logAt, saturatedAt}
 use Rattle.model.specs.Records.{logBytes, recordLength}
 use Rattle.model.specs.Systems.{System}
+use Rattle.model.proofs.Lists.{length-zero}
 use Rattle.model.proofs.Collecting.{logAt-suc}
 use Rattle.model.proofs.Limit.{ByteSystem, length-suc, limit-saturated}
 use Rattle.model.proofs.Rounds.{before-saturated, limit-longest, rounds-limit}
 use Rattle.model.proofs.AcceptedTables.{accepted-bytes}
 use Rattle.model.proofs.Tests.{and-left, and-right, not-false, not-true}
-use Rattle.saturate.specs.declared.Saturated.{Saturated}
-use Rattle.saturate.specs.declared.Saturated.the-variants.{Limit, Full}
-use Rattle.table.specs.declared.Table.{Table}
-use Rattle.scratch.specs.Regions.{ringsAt, transitionCodesAt}
-use Rattle.rings.specs.Rings.{Ringed}
-use Rattle.saturate.specs.Limits.{SaturatedDone, SaturatedFull, SaturatedLimit}
-use Rattle.saturate.specs.Rounds.{Logged, RoundAdded, RoundBegins, ScratchReady}
-use Rattle.sorting.specs.Sorting.{keyPlace}
-use Rattle.initial.specs.Initial.{initialLog}
-use Rattle.table.specs.Reading.{Holds, itemsIn, systemIn}
-use Rattle.logs.proofs.Rules.{transitions-distinct}
 use Rattle.model.proofs.RecordBytes.{length-log}
-use Rattle.initial.proofs.RoundZero.{initial-length}
+use Rattle.scratch.specs.Regions.{ringsAt, transitionCodesAt}
+use Rattle.sorting.specs.Sorting.{keyPlace}
+use Rattle.rings.specs.Rings.{Ringed}
+use Rattle.table.specs.declared.Table.{Table}
+use Rattle.table.specs.Reading.{Holds, itemsIn, systemIn}
 use Rattle.table.proofs.Readings.{holds-complete}
 use Rattle.table.proofs.Layouts.{table-modest, transitions-count}
+use Rattle.logs.proofs.Rules.{transitions-distinct}
+use Rattle.initial.specs.Initial.{initialLog}
+use Rattle.initial.proofs.RoundZero.{initial-length}
+use Rattle.saturate.specs.declared.Saturated.{Saturated}
+use Rattle.saturate.specs.declared.Saturated.the-variants.{Limit, Full}
+use Rattle.saturate.specs.Limits.{SaturatedDone, SaturatedFull, SaturatedLimit}
+use Rattle.saturate.specs.Rounds.{Logged, RoundAdded, RoundBegins, ScratchReady}
 
 holds-bytes : (bytes : List ℕ) (t : Table) → Holds bytes t → ByteSystem (systemIn bytes)
 unfolding systemIn

@@ -17,14 +17,14 @@ use Rattle.model.specs.Records.{letterAt, logBytes, recordLength}
 use Rattle.model.proofs.Lists.{each-get, getD-mem}
 use Rattle.model.proofs.RecordBytes.{from-letter, record-from}
 use Rattle.model.proofs.Tests.{by-test}
-use Rattle.automaton.specs.StateSets.{Cleared}
+use Rattle.automaton.specs.StateSets.{Cleared, setLength}
+use Rattle.scratch.specs.Regions.{activeAt, orderAt, passedAt, ringsAt, writersAt}
+use Rattle.rings.specs.Rings.{Freshened, OutsideSame, Ringed}
+use Rattle.rings.proofs.Keeping.{freshened-scratch, ringed-scratch}
 use Rattle.table.specs.declared.Table.{Table}
 use Rattle.table.specs.Reading.{Holds, ruleIn}
 use Rattle.table.proofs.Layouts.{table-modest}
 use Rattle.logs.proofs.Logs.{Keyed, log-over}
-use Rattle.scratch.specs.Regions.{activeAt, orderAt, passedAt, ringsAt, setBytes, writersAt}
-use Rattle.rings.specs.Rings.{Freshened, OutsideSame, Ringed}
-use Rattle.rings.proofs.Keeping.{freshened-scratch, ringed-scratch}
 use Rattle.rules.specs.Regions.{inSet, positionCeiling}
 use Rattle.rules.specs.Rules.{RulesOrdered, Writers, WritersMarked, hasLetter, letterCeiling, orderedRule, writersOf, writesLetter}
 use Rattle.rules.proofs.ActivePositions.{gathered-active}
@@ -52,7 +52,7 @@ module _ (table : List ℕ) (t : Table) (holds : Holds table t) (s s′ : List �
   }
 
   -- the active positions, which stand between the order and the sets of writers, may change
-  prepared-kept : SameIn orderAt activeAt s s′ → SameIn writersAt (passedAt + 2 * setBytes) s s′ → Prepared table t s → Prepared table t s′
+  prepared-kept : SameIn orderAt activeAt s s′ → SameIn writersAt (passedAt + 2 * setLength) s s′ → Prepared table t s → Prepared table t s′
   prepared-kept order rest p = record {
     ordered = ordered-same table (t .rules) s s′ (order-kept order) (p .ordered);
     writers = writers-kept order (λ i a b. rest i a (omega arith)) (p .writers);

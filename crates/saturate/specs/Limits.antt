@@ -4,9 +4,9 @@ use mathlib.Core.List.{List}
 use Prim.Native.Nat.{ℕ, _<_, _≤_}
 use lib.ListN.{length}
 use Rattle.model.specs.Log.{limit, rounds}
-use Rattle.table.specs.Reading.{systemIn}
 use Rattle.scratch.specs.Regions.{ringsAt}
 use Rattle.rings.specs.Rings.{RingRoom, Ringed}
+use Rattle.table.specs.Reading.{systemIn}
 use Rattle.saturate.specs.declared.Saturated.{Saturated}
 use Rattle.saturate.specs.declared.Saturated.the-variants.{Limit, Full}
 use Rattle.saturate.specs.Rounds.{Logged}

@@ -6,10 +6,10 @@ use Prim.Native.Nat.{ℕ, _+_, _-_, _*_, _%_, _<_, _≤_}
 use lib.ListN.{length, take}
 use Rattle.model.specs.Log.{Record, logAt}
 use Rattle.model.specs.Records.{letterAt, logBytes, recordLength}
-use Rattle.table.specs.declared.Table.{Table}
-use Rattle.table.specs.Reading.{Holds, systemIn}
 use Rattle.scratch.specs.Regions.{activeAt, ringsAt}
 use Rattle.rings.specs.Rings.{Ringed}
+use Rattle.table.specs.declared.Table.{Table}
+use Rattle.table.specs.Reading.{Holds, systemIn}
 use Rattle.rules.specs.Regions.{KeptOutside, positionBytes}
 use Rattle.rules.specs.Rules.{AllActive, Gathered, hasLetter, letterCeiling}
 use Rattle.heads.specs.Rounds.{Prepared, earlierLog}

@@ -2,13 +2,8 @@
 use mathlib.Core.Bool.{Bool, cond}
 use mathlib.Core.List.{List, [], _∷_}
 use Prim.Native.Nat.{ℕ, _+_, _*_, _≤_}
-
--- how many bytes and numbers a set has
-abbrev pub setBytes : ℕ
-setBytes = 512
-
-abbrev pub setNumbers : ℕ
-setNumbers = 4096
+use Rattle.automaton.specs.StateNumbers.{stateCount}
+use Rattle.automaton.specs.StateSets.{setLength}
 
 -- ---- round 0
 -- the codes of the transitions
@@ -25,7 +20,7 @@ seenBit x = 8 * seenAt + x
 
 -- the set of a head's new ends, behind it the counts, and the first byte behind these
 abbrev pub newAt : ℕ
-newAt = 512
+newAt = setLength
 
 -- the bit of the new end x
 abbrev pub newBit : ℕ → ℕ
@@ -55,7 +50,7 @@ passedAt = 2424
 
 -- the bit of the state m at a depth, come by with a record of the last round or without one
 abbrev pub passedBit : ℕ → Bool → ℕ → ℕ
-passedBit level found m = 8 * passedAt + (2 * level + cond found 1 0) * setNumbers + m
+passedBit level found m = 8 * passedAt + (2 * level + cond found 1 0) * stateCount + m
 
 abbrev pub ruleCodesAt : ℕ
 ruleCodesAt = 2424
@@ -79,7 +74,7 @@ abbrev pub hereAt : ℕ
 hereAt = 0
 
 abbrev pub thereAt : ℕ
-thereAt = 512
+thereAt = setLength
 
 -- ---- regions that do not meet
 -- a region: its first byte and its length
@@ -103,13 +98,13 @@ ruleRegions = region orderAt 200 ∷ region activeAt 32 ∷ region writersAt (32
 -- in a round; what saturation uses beside the rings ends before byte 9,000
 abbrev pub roundRegions : List Region
 roundRegions =
-    region seenAt setBytes ∷ region newAt setBytes ∷ region countsAt 128 ∷ region orderAt 200 ∷ region activeAt 32 ∷ region writersAt (32 * 32)
-    ∷ region passedAt (12 * setBytes) ∷ []
+    region seenAt setLength ∷ region newAt setLength ∷ region countsAt 128 ∷ region orderAt 200 ∷ region activeAt 32 ∷ region writersAt (32 * 32)
+    ∷ region passedAt (12 * setLength) ∷ []
 
 -- while the start's path is looked for, in a log of n records
 abbrev pub startRegions : ℕ → List Region
-startRegions n = region setsAt (65 * setBytes) ∷ region stackAt 128 ∷ region ringsAt (6 * n) ∷ []
+startRegions n = region setsAt (65 * setLength) ∷ region stackAt 128 ∷ region ringsAt (6 * n) ∷ []
 
 -- while a walk tells whether a configuration is accepted
 abbrev pub walkRegions : List Region
-walkRegions = region hereAt setBytes ∷ region thereAt setBytes ∷ []
+walkRegions = region hereAt setLength ∷ region thereAt setLength ∷ []

@@ -1,8 +1,9 @@
 // Where everything stands in the scratch, phase by phase. Saturation uses the first 9,000 bytes and the rings; the start's path 65 sets, the stack and the
 // rings. specs/Regions.antt has the same regions for proofs, and the law that those of one phase do not meet.
+use automaton::states::STATES;
 
 // The bytes of a set of state numbers.
-pub const SET_BYTES: usize = 512;
+pub const SET_BYTES: usize = STATES / 8;
 
 // ---- what is asked of the scratch (document 01, check 15): so many bytes and more for each record that the log can hold; so many for a walk
 pub const NEEDED: usize = 34000;
@@ -20,9 +21,9 @@ pub const TRANSITION_CODES: usize = 0;
 pub const SEEN: usize = 0;
 
 // The ends of a head's new records, a set too, and for each 64 numbers of it a count of 16 bits.
-pub const NEW: usize = 512;
+pub const NEW: usize = SET_BYTES;
 
-pub const COUNTS: usize = 1024;
+pub const COUNTS: usize = 2 * SET_BYTES;
 
 // The rule numbers in the order of their heads, one byte for each of 200.
 pub const ORDER: usize = 1168;
@@ -52,6 +53,6 @@ pub const STACK: usize = 33872;
 // The states that the letters read so far lead to, and those that one letter more leads to: two sets.
 pub const HERE: usize = 0;
 
-pub const THERE: usize = 512;
+pub const THERE: usize = SET_BYTES;
 
-pub const THERE_END: usize = 1024;
+pub const THERE_END: usize = 2 * SET_BYTES;

@@ -1,6 +1,5 @@
 -- What an accepted table gives to those who step through its configurations: each letter has a process of the table, states are below 8 at the
 -- table's processes and 255 elsewhere, words have letters of the table; and every step keeps it so.
-use Rattle.table.proofs.Readings.{holds-complete}
 use mathlib.Core.Path.{_≡_, refl, ap, sym, subst, _∙_}
 use mathlib.Core.Bool.{true, not, _&&_, _||_, true≢false}
 use mathlib.Core.List.{List, [], _∷_, _++_}
@@ -26,6 +25,7 @@ use Rattle.automaton.specs.StateNumbers.{Over}
 use Rattle.table.specs.declared.Table.{Table}
 use Rattle.table.specs.Places.{bodyOf, counts}
 use Rattle.table.specs.Reading.{Holds, itemsIn, systemIn, ruleIn, transitionIn}
+use Rattle.table.proofs.Readings.{holds-complete}
 use Rattle.table.proofs.Layouts.{table-modest, count-in, loc-in, bits-in, bits-small, pile-count, pile-letter-in, written-letter-in}
 use Rattle.shapes.specs.Shapes.{processesBelow, presentIn}
 use Rattle.shapes.proofs.Ranges.{allBelow, all-below, each-place, each-by-place}

@@ -5,35 +5,35 @@ use mathlib.Core.Bool.{true, false, _&&_}
 use mathlib.Core.Option.{some}
 use mathlib.Core.List.{List, List·Memᴰ, [], _∷_}
 use Prim.Native.Nat.{ℕ, _<_, _≤_}
+use native.Mathlib.Omega.{arith}
 use lib.ListN.{getElem?, length, getD, drop, List·getD-eq-default}
+use lib.Dec.{leb}
+use borrow.Author.Tests.{ltb-true, ltb-false, leb-true}
 use Rattle.model.specs.declared.Group.{Group}
 use Rattle.model.specs.Automata.{Along, Transition, move}
 use Rattle.model.specs.Groups.{Process, Processes, at, has, Within}
 use Rattle.model.specs.Lists.{Each}
 use Rattle.model.specs.Log.{Record, keys, logAt, recordAt}
 use Rattle.model.specs.Systems.{InAutomaton, Rule, System, accepts}
+use Rattle.model.specs.Tables.{Item, bodies, byteOf, numberOf, absent, controlsOf, statesOf, present, locOf, ruleOf, transitionOf, groupOf, groupFits, valueFits, systemOf}
 use Rattle.model.proofs.Acceptance.{accepts-true}
 use Rattle.model.proofs.Groups.{at-merge, at-restrict}
 use Rattle.model.proofs.Lists.{each-get, each-map, each-of-map, each-elem}
 use Rattle.model.proofs.Soundness.{ControlOn}
 use Rattle.model.proofs.Tests.{by-test, and-left, and-right}
-use Rattle.logs.proofs.Logs.{each-round, Keyed, merge-over, log-over}
-use native.Mathlib.Omega.{arith}
-use lib.Dec.{leb}
-use borrow.Author.Tests.{ltb-true, ltb-false, leb-true}
-use Rattle.model.specs.Tables.{Item, bodies, byteOf, numberOf, absent, controlsOf, statesOf, present, locOf, ruleOf, transitionOf, groupOf, groupFits, valueFits, systemOf}
 use Rattle.model.proofs.CheckedItems.{Complete, Passes, each-of-kind}
 use Rattle.model.proofs.FittingItems.{Fitting, RuleFits, TransitionFits, fits-at, fits-outside, rules-fit, transitions-fit, accepting-fit}
 use Rattle.model.proofs.Validity.{each-at}
 use Rattle.automaton.specs.StateNumbers.{Over}
+use Rattle.wordsets.proofs.States.{each-process}
 use Rattle.table.specs.declared.Table.{Table}
 use Rattle.table.specs.Reading.{Holds, itemsIn, systemIn, pileIn, statesIn}
 use Rattle.table.proofs.Layouts.{count-in, pile-letter-in}
 use Rattle.table.proofs.Readings.{holds-complete}
-use Rattle.wordsets.proofs.States.{each-process}
 use Rattle.shapes.specs.Shapes.{processesBelow}
 use Rattle.shapes.proofs.Ranges.{each-place}
 use Rattle.shapes.proofs.Shapes.{over-fits, loc-within, start-over}
+use Rattle.logs.proofs.Logs.{each-round, Keyed, merge-over, log-over}
 use Rattle.start.specs.RestSets.{firstProcesses, processesOfTable, acceptsFrom}
 
 -- the transition's states before are below q at its letter's processes

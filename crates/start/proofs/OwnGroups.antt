@@ -5,23 +5,23 @@ use mathlib.Core.List.{List}
 use Prim.Native.Nat.{ℕ, _+_, _*_, _/_, _%_, _<_, _≤_}
 use native.Mathlib.Omega.{arith}
 use lib.ListN.{getD}
+use lib.Dec.{eqb}
+use borrow.Author.Tests.{eqb-true, eqb-false}
 use Rattle.model.specs.declared.Group.{Group}
 use Rattle.model.specs.Groups.{Process, Processes, p0, p1, p2, p3, at, has, restrict, merge}
+use Rattle.model.specs.Records.{recordLength, groupAt, afterAt}
 use Rattle.model.proofs.Groups.{ext, at-merge, at-restrict}
 use Rattle.model.proofs.Tests.{by-test}
-use Rattle.model.specs.Records.{recordLength, groupAt, afterAt}
+use Rattle.automaton.specs.StateNumbers.{stateCount, stateNumber, digit, groupNumbered}
+use Rattle.automaton.proofs.StateNumbers.{stateNumber-below, digit-number, digits-number, at-numbered}
 use Rattle.packs.specs.Packs.{packed, Bytes, maskOf, mergedBits, packNumber, packedAfter}
 use Rattle.packs.proofs.Packs.{bytes-of, merge-bits, pack-group, pack-number}
 use Rattle.packs.proofs.Unpacked.{merge-bytes}
-use Rattle.automaton.specs.StateNumbers.{stateCount, stateNumber, digit, groupNumbered}
-use Rattle.automaton.proofs.StateNumbers.{stateNumber-below, digit-number, digits-number, at-numbered}
 use Rattle.wordsets.specs.WordSets.{hasBit, inSet, gains, inBlock, BlockFits, RestBits}
 use Rattle.wordsets.proofs.States.{each-process, stated, plus, rest-has, Offset, adds-like, added-offsets}
 use Rattle.start.specs.declared.Frame.{Frame}
 use Rattle.start.specs.RestSets.{noStates, ownNumber}
 use Rattle.start.specs.OwnGroups.{Under, extent, Framed, Numbered, InFrame, FrameTo}
-use lib.Dec.{eqb}
-use borrow.Author.Tests.{eqb-true, eqb-false}
 
 -- ---- digits
 pub digit-small : (x : ℕ) (i : Process) → digit x i < 8

@@ -2,51 +2,60 @@
 use mathlib.Core.Path.{_≡_, ap, sym, subst, _∙_, refl, ap₂}
 use mathlib.Core.Bool.{Bool, _||_, true, false, _&&_, true≢false}
 use mathlib.Core.List.{List, [], _∷_, map}
+use mathlib.Core.Logic.{_⊎_, inr, ⊎-elim}
 use Prim.Native.Nat.{ℕ, suc, _+_, _-_, _<_, _≤_, zero, _*_, _%_}
 use native.Mathlib.Omega.{arith}
+use native.Mathlib.Decide.{decLt}
+use native.Mathlib.Numerals.{add-one}
 use lib.Dec.{eqb, ltb}
 use lib.ListN.{length, drop, drop-of-length-le, getD}
 use lib.Seq.{drop-cons}
+use borrow.Author.Tests.{eq-eqb, eqb-true, lt-ltb, le-ltb}
 use Rattle.model.specs.declared.Group.{Group}
 use Rattle.model.specs.Tables.{groupOf}
-use Rattle.automaton.specs.StateNumbers.{stateCount, stateNumber, digit, Over}
-use Rattle.automaton.specs.StateSets.{setLength, member, firstFrom}
-use Rattle.automaton.proofs.StateSets.{member-inserted, first-of}
-use Rattle.table.specs.declared.Table.{Table}
-use Rattle.table.specs.Reading.{Holds, systemIn, acceptingIn, pileIn, statesIn}
-use Rattle.table.proofs.Layouts.{table-modest, accepting-count, pile-count}
-use Rattle.scratch.specs.Regions.{ringsAt}
-use Rattle.start.specs.Regions.{setPlace, setAt, withState, OnlySet, Linked, SameBut}
-use Rattle.start.specs.RestSets.{processesOfTable, ownNumber, EmptySet, Filled, isNumberOf, noStates, plainGroup, LetterAt, leads, firstLead, someLead, acceptsFrom, SetRight, RightForLog}
-use Rattle.start.proofs.ScratchRegions.{same-none, same-join, length-set-at, set-state, only-state, linked-same, set-same}
-use Rattle.start.proofs.OwnGroups.{own-below, own-digit}
-use mathlib.Core.Logic.{_⊎_, inr, ⊎-elim}
-use native.Mathlib.Decide.{decLt}
-use native.Mathlib.Numerals.{add-one}
-use borrow.Author.Tests.{eq-eqb, eqb-true, lt-ltb, le-ltb}
 use Rattle.model.specs.Automata.{Transition, move}
 use Rattle.model.specs.Groups.{Process, Processes, at, has, build, processesOf, sameGroup, Within, restrict, merge}
 use Rattle.model.specs.Lists.{Each, anyOf}
 use Rattle.model.specs.Log.{Record, recordAt, noRecord, readsAt, keys, logAt}
 use Rattle.model.specs.Systems.{System, accepts}
+use Rattle.model.specs.Records.{recordLength, beforeAt, afterAt}
 use Rattle.model.proofs.Groups.{ext, at-build, at-merge, restrict-merge, restrict-within, merge-within, sameGroup-true, sameGroup-of}
 use Rattle.model.proofs.Lists.{any-of, each-map, getD-mem}
 use Rattle.model.proofs.LogPaths.{reads-letter}
 use Rattle.model.proofs.Tests.{by-test, same-test}
-use Rattle.model.specs.Records.{recordLength, beforeAt, afterAt}
+use Rattle.automaton.specs.StateNumbers.{stateCount, stateNumber, digit, Over}
+use Rattle.automaton.specs.StateSets.{setLength, member, firstFrom}
+use Rattle.automaton.proofs.StateSets.{member-inserted, first-of}
+use Rattle.scratch.specs.Regions.{ringsAt}
 use Rattle.records.specs.Entries.{Fits, Reads}
 use Rattle.packs.specs.Packs.{packed, Bytes, packedBefore}
 use Rattle.packs.proofs.Packs.{pack-group, packed-same}
 use Rattle.packs.proofs.Unpacked.{restrict-bytes}
 use Rattle.rings.specs.Rings.{recordReads}
+use Rattle.table.specs.declared.Table.{Table}
+use Rattle.table.specs.Reading.{Holds, systemIn, acceptingIn, pileIn, statesIn}
+use Rattle.table.proofs.Layouts.{table-modest, accepting-count, pile-count}
 use Rattle.logs.proofs.Logs.{over-byte}
 use Rattle.stack.specs.RoundLogs.{RoundLog, SomeRound}
 use Rattle.stack.proofs.RoundLogs.{round-fits, round-reads}
 use Rattle.start.specs.declared.Letter.{Letter}
-use Rattle.start.specs.OwnGroups.{lastStates, Numbered, FrameTo, Added}
 use Rattle.start.specs.declared.Frame.{Frame}
+use Rattle.start.specs.Regions.{setPlace, setAt, withState, OnlySet, Linked, SameBut}
+use Rattle.start.specs.RestSets.{processesOfTable, ownNumber, EmptySet, noStates, plainGroup, LetterAt, leads, firstLead, someLead, acceptsFrom, SetRight, RightForLog}
+use Rattle.start.specs.OwnGroups.{lastStates, Numbered, FrameTo, Added}
+use Rattle.start.proofs.ScratchRegions.{same-none, same-join, length-set-at, set-state, only-state, linked-same, set-same}
+use Rattle.start.proofs.OwnGroups.{own-below, own-digit}
 use Rattle.start.proofs.Leading.{lead-not, lead-reads}
 use Rattle.start.proofs.Grounds.{Grounds, grounds}
+
+-- set k has the states that pass the test, and nothing else has changed
+record Filled (test : ℕ → Bool) (k : ℕ) (s t : List ℕ) : Type 0 where
+  pub same : OnlySet k s t
+  pub members : (x : ℕ) → x < stateCount → member (setAt t k) x ≡ test x
+
+-- x is the number of one of the groups at the processes L
+unfoldable isNumberOf : Processes → List Group → ℕ → Bool
+isNumberOf L groups x = anyOf (λ (g : Group). eqb x (ownNumber L g)) groups
 
 -- a state put into set k
 member-state : (s : List ℕ) (k x y : ℕ) → setPlace k + setLength ≤ length s → x < stateCount → member (setAt (withState s k x) k) y ≡ eqb y x || member (setAt s k) y

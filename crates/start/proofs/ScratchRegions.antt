@@ -9,8 +9,8 @@ use lib.Seq.{length-take-le, take-at, drop-at, getD-take, getD-drop, getD-append
 use Rattle.model.specs.Calls.{zeros}
 use Rattle.automaton.specs.StateSets.{setLength, member, inserted}
 use Rattle.automaton.proofs.StateSets.{length-inserted, member-zeros}
-use Rattle.rings.proofs.Keeping.{ringed-scratch}
 use Rattle.scratch.specs.Regions.{ringsAt}
+use Rattle.rings.proofs.Keeping.{ringed-scratch}
 use Rattle.start.specs.Regions.{setPlace, setAt, withSet, withState, Linked, SameBut, OnlySet}
 use Rattle.start.specs.RestSets.{EmptySet}
 

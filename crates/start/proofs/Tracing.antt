@@ -19,13 +19,14 @@ use Rattle.model.specs.Lists.{sumOver}
 use Rattle.model.specs.Log.{Record, Path, push, recordAt, readsAt, keys, stepsCap, logAt}
 use Rattle.model.specs.Systems.{System, accepts, isAccepting}
 use Rattle.model.specs.Unfolding.{acceptingPath, pathSteps}
+use Rattle.model.specs.Records.{afterAt, stepsAt}
 use Rattle.model.proofs.GreedyPath.{pickFrom, greedy, isSome, accepts-is, accepting-path-greedy}
 use Rattle.model.proofs.Tests.{and-left, and-right}
-use Rattle.automaton.specs.StateNumbers.{Over}
-use Rattle.automaton.proofs.StateSets.{First, first-at}
-use Rattle.model.specs.Records.{afterAt, stepsAt}
 use Rattle.numbers.specs.NumberBytes.{withNumber}
 use Rattle.numbers.proofs.NumberBytes.{byte-kept, length-number}
+use Rattle.automaton.specs.StateNumbers.{Over}
+use Rattle.automaton.proofs.StateSets.{First, first-at}
+use Rattle.scratch.specs.Regions.{ringsAt, stackAt}
 use Rattle.table.specs.declared.Table.{Table}
 use Rattle.table.specs.Reading.{Holds, systemIn, pileIn}
 use Rattle.table.proofs.Layouts.{table-modest, pile-count}
@@ -36,7 +37,6 @@ use Rattle.stack.proofs.RoundLogs.{round-fits, round-reads}
 use Rattle.start.specs.declared.Letter.{Letter}
 use Rattle.start.specs.declared.StartPath.the-variants.{NoPath, Found}
 use Rattle.start.specs.declared.Trace.{Trace}
-use Rattle.scratch.specs.Regions.{ringsAt, stackAt}
 use Rattle.start.specs.Regions.{setAt, SameBut}
 use Rattle.start.specs.RestSets.{processesOfTable, plainGroup, LetterAt, firstLead, acceptsFrom, SetRight, RightForLog, SetsReady, startIn}
 use Rattle.start.specs.Search.{pathFrom, roundPath, OnPath, Underway, Advanced, PathWritten, startFound, Sought}

@@ -6,9 +6,9 @@ use mathlib.Core.List.{List}
 use Prim.Native.Nat.{ℕ, _-_, _%_, _<_, _≤_}
 use Rattle.model.specs.declared.Group.{Group}
 use Rattle.model.specs.Groups.{Process, Processes, p0, p1, p2, p3, at, has, build, processesOf}
+use Rattle.model.specs.Records.{afterAt}
 use Rattle.automaton.specs.StateNumbers.{stateCount, stateNumber, digit}
 use Rattle.automaton.specs.StateSets.{member}
-use Rattle.model.specs.Records.{afterAt}
 use Rattle.packs.specs.Packs.{maskOf}
 use Rattle.wordsets.specs.WordSets.{hasBit, RestBits}
 use Rattle.table.specs.declared.Table.{Table}

@@ -4,8 +4,8 @@ use mathlib.Core.List.{List, _++_}
 use Prim.Native.Nat.{ℕ, _+_, _*_, _<_, _≤_}
 use lib.ListN.{length, getD, take, drop}
 use Rattle.automaton.specs.StateSets.{setLength, inserted}
-use Rattle.rings.specs.Rings.{RingRoom, Ringed}
 use Rattle.scratch.specs.Regions.{ringsAt}
+use Rattle.rings.specs.Rings.{RingRoom, Ringed}
 
 -- where set k begins
 abbrev pub setPlace : ℕ → ℕ

@@ -2,24 +2,23 @@
 use mathlib.Core.Path.{_≡_}
 use mathlib.Core.Bool.{Bool, false, _&&_}
 use mathlib.Core.List.{List}
-use Prim.Native.Nat.{ℕ, _<_, _≤_}
-use lib.Dec.{eqb, ltb}
+use Prim.Native.Nat.{ℕ, _≤_}
+use lib.Dec.{ltb}
 use lib.ListN.{drop}
 use Rattle.model.specs.declared.Group.{Group}
 use Rattle.model.specs.Groups.{Processes, build, processesOf, restrict, merge}
-use Rattle.model.specs.Lists.{anyOf}
 use Rattle.model.specs.Log.{keys, logAt}
 use Rattle.model.specs.Systems.{accepts}
-use Rattle.automaton.specs.StateNumbers.{stateCount, stateNumber, Over}
-use Rattle.automaton.specs.StateSets.{member, firstFrom}
 use Rattle.model.specs.Records.{afterAt}
+use Rattle.automaton.specs.StateNumbers.{stateNumber, Over}
+use Rattle.automaton.specs.StateSets.{member, firstFrom}
 use Rattle.packs.specs.Packs.{packed}
 use Rattle.rings.specs.Rings.{recordReads}
 use Rattle.table.specs.declared.Table.{Table}
 use Rattle.table.specs.Reading.{systemIn, pileIn, BitsOf}
 use Rattle.stack.specs.RoundLogs.{EachRound}
 use Rattle.start.specs.declared.Letter.{Letter}
-use Rattle.start.specs.Regions.{setAt, Linked, OnlySet}
+use Rattle.start.specs.Regions.{setAt, Linked}
 
 -- the first n processes, and those of the table
 abbrev pub firstProcesses : ℕ → Processes
@@ -60,15 +59,6 @@ someLead log count members a g = ltb (firstLead log count members a g) count
 -- set k has no state
 abbrev pub EmptySet : List ℕ → ℕ → Type 0
 EmptySet s k = (x : ℕ) → member (setAt s k) x ≡ false
-
--- set k has the states that pass the test, and nothing else has changed
-pub record Filled (test : ℕ → Bool) (k : ℕ) (s t : List ℕ) : Type 0 where
-  pub same : OnlySet k s t
-  pub members : (x : ℕ) → x < stateCount → member (setAt t k) x ≡ test x
-
--- x is the number of one of the groups at the processes L
-unfoldable pub isNumberOf : Processes → List Group → ℕ → Bool
-isNumberOf L groups x = anyOf (λ (g : Group). eqb x (ownNumber L g)) groups
 
 -- ---- what a set means
 -- the records up to a round accept the start word from letter k on from the state g

@@ -8,8 +8,8 @@ use lib.ListN.{drop}
 use Rattle.model.specs.declared.Group.{Group}
 use Rattle.model.specs.Log.{Record, Path, push, recordAt, stepsCap, logAt}
 use Rattle.model.specs.Unfolding.{acceptingPath, pathSteps}
-use Rattle.automaton.specs.StateNumbers.{Over}
 use Rattle.numbers.specs.NumberBytes.{withNumber}
+use Rattle.automaton.specs.StateNumbers.{Over}
 use Rattle.table.specs.declared.Table.{Table}
 use Rattle.table.specs.Reading.{systemIn}
 use Rattle.stack.specs.RoundLogs.{SomeRound, EachRound}

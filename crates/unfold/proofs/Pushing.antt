@@ -10,12 +10,12 @@ use lib.Seq.{drop-cons}
 use borrow.Author.Tests.{eq-eqb, ne-eqb}
 use Rattle.model.specs.Lists.{Each}
 use Rattle.model.specs.Log.{noNumber}
-use Rattle.model.proofs.Lists.{each-get, getD-mem}
 use Rattle.model.specs.Records.{placeAt}
-use Rattle.records.specs.Entries.{pathPlace}
+use Rattle.model.proofs.Lists.{each-get, getD-mem}
 use Rattle.numbers.specs.NumberBytes.{withNumber}
 use Rattle.numbers.proofs.NumberBytes.{length-number}
 use Rattle.scratch.specs.Regions.{stackAt}
+use Rattle.records.specs.Entries.{pathPlace}
 use Rattle.stack.specs.StackNumbers.{stackPlace, stackOf}
 use Rattle.stack.proofs.Numbers.{length-down, stack-push}
 use Rattle.unfold.specs.Turns.{placed, placesFrom, places, StackRoom, Pushed}

@@ -12,16 +12,16 @@ use Rattle.model.specs.Lists.{Each}
 use Rattle.model.specs.Systems.{System}
 use Rattle.model.specs.Unfolding.{emitted, pathSteps}
 use Rattle.model.specs.Words.{Located}
+use Rattle.model.specs.Records.{roundAt}
 use Rattle.model.proofs.EmissionStack.{InLog, emitted-skip, emitted-replace, Low, low-start, low-replace, low-height}
 use Rattle.model.proofs.Lists.{each-append, each-map}
 use Rattle.model.proofs.Reachability.{accepting-path-found, answer-yes, answer-steps}
 use Rattle.model.proofs.Reasons.{path-length}
-use Rattle.model.specs.Records.{roundAt}
+use Rattle.scratch.specs.Regions.{stackAt}
 use Rattle.records.specs.Entries.{HasRecord, Reads}
 use Rattle.table.specs.declared.Table.{Table}
 use Rattle.table.specs.Reading.{Holds, systemIn, ruleIn}
 use Rattle.table.proofs.Layouts.{table-modest, rules-count, pile-count, written-few}
-use Rattle.scratch.specs.Regions.{stackAt}
 use Rattle.stack.specs.StackNumbers.{numbersDown, stackOf}
 use Rattle.stack.specs.RoundLogs.{LimitLog}
 use Rattle.stack.proofs.Numbers.{length-down, stack-top}

@@ -7,11 +7,10 @@ use lib.Dec.{eqb}
 use lib.ListN.{length, set}
 use Rattle.model.specs.Log.{noNumber}
 use Rattle.model.specs.Tables.{writtenPlaces}
-use Rattle.model.specs.Records.{roundAt, ruleAt, placeAt}
+use Rattle.model.specs.Records.{roundAt, ruleAt, placeAt, numberAt}
 use Rattle.records.specs.Entries.{HasRecord}
 use Rattle.table.specs.declared.Table.{Table}
 use Rattle.table.specs.Reading.{Holds, ruleIn}
-use Rattle.model.specs.Records.{numberAt}
 use Rattle.stack.specs.StackNumbers.{stackPlace, stackOf}
 use Rattle.unfold.specs.declared.Work.{Work}
 

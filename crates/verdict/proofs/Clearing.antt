@@ -8,10 +8,10 @@ use lib.Seq.{getD-take, length-take-le}
 use Rattle.model.specs.Calls.{zeros}
 use Rattle.model.specs.Records.{recordLength, letterAt}
 use Rattle.numbers.proofs.NumberBytes.{number-same}
-use Rattle.packs.specs.Packs.{packedBefore}
-use Rattle.records.proofs.Parts.{part-back, part-rest}
-use Rattle.rings.proofs.Keeping.{ringed-log}
 use Rattle.scratch.specs.Regions.{ringsAt}
+use Rattle.records.proofs.Parts.{part-back, part-rest}
+use Rattle.packs.specs.Packs.{packedBefore}
+use Rattle.rings.proofs.Keeping.{ringed-log}
 use Rattle.start.specs.Regions.{Linked}
 
 pub zeros-behind : (l ys : List ℕ) (a : ℕ) → ys ≡ zeros (take (length l - a) (drop a l))

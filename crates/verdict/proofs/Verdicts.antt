@@ -1,5 +1,4 @@
 -- From what the search and the unfolding give to the verdict and the run.
-use Rattle.model.proofs.Closing.{zeros-same}
 use mathlib.Core.Path.{_≡_, refl, ap, ap₂, sym, subst, _∙_}
 use mathlib.Core.Bool.{true, false}
 use mathlib.Core.Option.{Option, none, some}
@@ -14,6 +13,7 @@ use Rattle.model.specs.declared.Ran.{Ran}
 use Rattle.model.specs.Calls.{zeros, filled, verdict, startPath, isLong, pageAfter}
 use Rattle.model.specs.Log.{Record, Path, limit, rounds, saturatedAt}
 use Rattle.model.specs.Unfolding.{emitted, pathSteps}
+use Rattle.model.proofs.Closing.{zeros-same}
 use Rattle.model.proofs.Reachability.{answer-steps}
 use Rattle.model.proofs.Tests.{or-left, or-right}
 use Rattle.table.specs.declared.Table.{Table}

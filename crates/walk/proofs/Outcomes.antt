@@ -1,6 +1,4 @@
 -- The outcome of the walk call, by the way that it ended.
-use Rattle.model.proofs.Closing.{refusal-changes-nothing}
-use Rattle.table.proofs.Readings.{holds-read, refused-reading}
 use mathlib.Core.Path.{_≡_, refl, ap, ap₂, sym, subst, _∙_}
 use mathlib.Core.Bool.{Bool, true, false, cond}
 use mathlib.Core.List.{List, _++_}
@@ -14,11 +12,13 @@ use Rattle.model.specs.Calls.{Halt, WalkOutcome, changesNothing, filled, haltBe
 use Rattle.model.specs.Lists.{Each, valueOr}
 use Rattle.model.specs.Systems.{System, Configuration}
 use Rattle.model.specs.Tables.{Reading, refused, read}
+use Rattle.model.proofs.Closing.{refusal-changes-nothing}
 use Rattle.model.proofs.Tests.{by-test}
 use Rattle.automaton.specs.StateNumbers.{Over}
 use Rattle.table.specs.declared.Table.{Table}
 use Rattle.table.specs.declared.Parsed.the-variants.{Refused}
 use Rattle.table.specs.Reading.{Holds, parsed, systemIn}
+use Rattle.table.proofs.Readings.{holds-read, refused-reading}
 use Rattle.table.proofs.Layouts.{pile-count}
 use Rattle.shapes.specs.Shapes.{presentIn}
 use Rattle.shapes.proofs.Shapes.{start-over, start-lettered}

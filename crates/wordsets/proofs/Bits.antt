@@ -14,9 +14,9 @@ use lib.ListN.{length, getD, set, length-set}
 use lib.Seq.{getD-set-same}
 use borrow.Author.Tests.{eqb-true, eqb-false, le-leb, lt-leb}
 use Rattle.model.specs.Records.{numberAt}
+use Rattle.model.proofs.Tests.{by-test}
 use Rattle.numbers.specs.NumberBytes.{withNumber}
 use Rattle.numbers.proofs.NumberBytes.{AllBytes, byte-kept, with-suc}
-use Rattle.model.proofs.Tests.{by-test}
 use Rattle.wordsets.specs.WordSets.{hasBit, inSet, wordSum}
 
 -- ---- one number

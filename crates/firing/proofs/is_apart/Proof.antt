@@ -1,7 +1,6 @@
 -- Two sets of bits share no process where no bit is in both (Scans).
 use mathlib.Core.Path.{_∙_, ap}
-use Rattle.model.specs.Groups.{processesOf}
-use Rattle.model.proofs.CodeTests.{apartTest}
+use Rattle.model.specs.Groups.{apartTest, processesOf}
 use Rattle.table.specs.Reading.{systemIn}
 use Rattle.firing.proofs.Scans.{apart-bits}
 use borrow.Author.Needs.{needs}

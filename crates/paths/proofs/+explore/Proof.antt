@@ -1,7 +1,7 @@
 -- The search from a state: at the word's end it arrives, a state that was passed is left, else it goes on by each record in turn.
 use mathlib.Core.Path.{refl, sym, _∙_}
 use mathlib.Core.Logic.{⊎-elim}
-use Prim.Native.Nat.{ℕ, _<_, _-_}
+use Prim.Native.Nat.{ℕ, _-_, _<_}
 use native.Mathlib.Omega.{arith}
 use Rattle.automaton.proofs.StateSets.{first-at}
 use Rattle.paths.proofs.Arriving.{searched-log}
