@@ -1,6 +1,6 @@
 -- Laws of sets of states that a word is read with.
 use mathlib.Core.Path.{_≡_, refl, ap, ap₂, sym, subst, _∙_}
-use mathlib.Core.Bool.{Bool, true, false, _&&_, _||_, true≢false}
+use mathlib.Core.Bool.{Bool, true, false, _&&_, _||_, true≢false, or-assoc, or-false}
 use mathlib.Core.List.{List, [], _∷_, _++_}
 use Prim.Native.Nat.{ℕ, zero, suc, _+_, _-_, _<_, _≤_}
 use native.Mathlib.Decide.{ℕ-discrete}
@@ -23,9 +23,9 @@ use Rattle.automaton.proofs.StateSets.{member-inserted, member-zeros, next-at}
 use Rattle.acceptance.specs.Sets.{someBelow, acceptsFrom, memberAccepts, someAccepts, leads, Extends}
 
 -- ---- some number below a bound
-or-true : (a b : Bool) {C : Type 0} → (a ≡ true → C) → (b ≡ true → C) → (a || b) ≡ true → C
-or-true true b f g e = f refl
-or-true false b f g e = g e
+by-either : (a b : Bool) {C : Type 0} → (a ≡ true → C) → (b ≡ true → C) → (a || b) ≡ true → C
+by-either true b f g e = f refl
+by-either false b f g e = g e
 
 or-left : (a b : Bool) → a ≡ true → (a || b) ≡ true
 or-left a b e = rw e refl
@@ -34,18 +34,10 @@ or-of-right : (a b : Bool) → b ≡ true → (a || b) ≡ true
 or-of-right true b e = refl
 or-of-right false b e = e
 
-or-assoc : (a b c : Bool) → ((a || b) || c) ≡ (a || (b || c))
-or-assoc true b c = refl
-or-assoc false b c = refl
-
-or-false : (a : Bool) → a ≡ (a || false)
-or-false true = refl
-or-false false = refl
-
 some-true : (f : ℕ → Bool) (n : ℕ) → someBelow f n ≡ true → (m : ℕ) × (m < n) × (f m ≡ true)
 unfolding someBelow
 some-true f zero e = absurd (true≢false (sym e))
-some-true f (suc n) e = or-true (someBelow f n) (f n) (λ y. let r = some-true f n y in (r .0, omega (arith, r .1), r .2)) (λ y. (n, omega arith, y)) e
+some-true f (suc n) e = by-either (someBelow f n) (f n) (λ y. let r = some-true f n y in (r .0, omega (arith, r .1), r .2)) (λ y. (n, omega arith, y)) e
 
 some-of : (f : ℕ → Bool) (n m : ℕ) → m < n → f m ≡ true → someBelow f n ≡ true
 unfolding someBelow
@@ -61,7 +53,7 @@ unfolding someBelow
 some-still f n zero h = let z : n + 0 ≡ n = omega arith in ap (someBelow f) z
 some-still f n (suc d) h =
     let z : n + suc d ≡ suc (n + d) = omega arith in
-    ap (someBelow f) z ∙ ap₂ (λ (a b : Bool). a || b) (some-still f n d (λ j l q. h j l (omega arith))) (h (n + d) (omega arith) (omega arith)) ∙ sym (or-false (someBelow f n))
+    ap (someBelow f) z ∙ ap₂ (λ (a b : Bool). a || b) (some-still f n d (λ j l q. h j l (omega arith))) (h (n + d) (omega arith) (omega arith)) ∙ or-false (someBelow f n)
 
 some-next : (f : ℕ → Bool) (n r : ℕ) → n ≤ r → ((j : ℕ) → n ≤ j → j < r → f j ≡ false) → someBelow f r ≡ someBelow f n
 some-next f n r h q =
@@ -100,13 +92,13 @@ module _ (sys : System) (L : Processes) where
           let r = some-true (memberAccepts sys L (inserted members k) w) stateCount e in
           let a : acceptsFrom sys w (groupNumbered L (r .0)) ≡ true = and-right (member (inserted members k) (r .0)) (acceptsFrom sys w (groupNumbered L (r .0))) (r .2) in
           let i : (eqb (r .0) k || member members (r .0)) ≡ true = sym (held (r .0)) ∙ and-left (member (inserted members k) (r .0)) (acceptsFrom sys w (groupNumbered L (r .0))) (r .2) in
-          or-true (eqb (r .0) k) (member members (r .0))
+          by-either (eqb (r .0) k) (member members (r .0))
           (λ y. or-of-right (someBelow (memberAccepts sys L members w) stateCount) (acceptsFrom sys w (groupNumbered L k)) (subst (λ (j : ℕ). acceptsFrom sys w (groupNumbered L j) ≡ true) (eqb-true (r .0) k y) a))
           (λ y. or-left (someBelow (memberAccepts sys L members w) stateCount) (acceptsFrom sys w (groupNumbered L k))
           (some-of (memberAccepts sys L members w) stateCount (r .0) (r .1) (and-both (member members (r .0)) (acceptsFrom sys w (groupNumbered L (r .0))) y a))) i
 
       back : (someBelow (memberAccepts sys L members w) stateCount || acceptsFrom sys w (groupNumbered L k)) ≡ true → someBelow (memberAccepts sys L (inserted members k) w) stateCount ≡ true
-      back e = or-true (someBelow (memberAccepts sys L members w) stateCount) (acceptsFrom sys w (groupNumbered L k))
+      back e = by-either (someBelow (memberAccepts sys L members w) stateCount) (acceptsFrom sys w (groupNumbered L k))
           (λ y. let r = some-true (memberAccepts sys L members w) stateCount y in
           some-of (memberAccepts sys L (inserted members k) w) stateCount (r .0) (r .1)
           (and-both (member (inserted members k) (r .0)) (acceptsFrom sys w (groupNumbered L (r .0)))
@@ -139,10 +131,10 @@ module _ (sys : System) (L : Processes) where
   pub follow-out : (members : List ℕ) (a : ℕ) (g : Group) (t : Transition) → (eqb (t .letter) a && sameGroup (restrict (sys .loc a) g) (t .before)) ≡ false
       → Extends sys L members members (λ (w : List ℕ). leads sys a g w t)
   unfolding leads
-  follow-out members a g t n = record { words = λ w. rw n (or-false (someAccepts sys L members w)) }
+  follow-out members a g t n = record { words = λ w. rw n (sym (or-false (someAccepts sys L members w))) }
 
   any-snoc : (f : Transition → Bool) (ts : List Transition) (t : Transition) → anyOf f (ts ++ (t ∷ [])) ≡ (anyOf f ts || f t)
-  any-snoc f [] t = sym (or-false (f t))
+  any-snoc f [] t = or-false (f t)
   any-snoc f (u ∷ ts) t = ap (λ (b : Bool). f u || b) (any-snoc f ts t) ∙ sym (or-assoc (f u) (anyOf f ts) (f t))
 
   -- the first k transitions were followed
@@ -151,7 +143,7 @@ module _ (sys : System) (L : Processes) where
     pub words : Extends sys L members members′ (λ (w : List ℕ). anyOf (leads sys a g w) (take k (sys .transitions)))
 
   pub following-start : (a : ℕ) (g : Group) (members : List ℕ) → Following a g members members 0
-  following-start a g members = record { size = refl; words = record { words = λ w. or-false (someAccepts sys L members w) } }
+  following-start a g members = record { size = refl; words = record { words = λ w. sym (or-false (someAccepts sys L members w)) } }
 
   pub following-turn : (a : ℕ) (g : Group) (members members′ members″ : List ℕ) (k : ℕ) (d : Transition) → k < length (sys .transitions) → length members″ ≡ length members′ → Following a g members members′ k
       → Extends sys L members′ members″ (λ (w : List ℕ). leads sys a g w (getD (sys .transitions) k d)) → Following a g members members″ (k + 1)
@@ -208,7 +200,7 @@ module _ (sys : System) (L : Processes) where
   unfolding someBelow
   collected-start a members next n e =
       let x = next-of members 0 n (omega arith) e in
-      record { at = x .at; words = record { words = λ w. or-false (someAccepts sys L next w) ∙ ap (λ (b : Bool). someAccepts sys L next w || b) (sym (x .same (a ∷ w))) } }
+      record { at = x .at; words = record { words = λ w. sym (or-false (someAccepts sys L next w)) ∙ ap (λ (b : Bool). someAccepts sys L next w || b) (sym (x .same (a ∷ w))) } }
 
   pub collected-turn : (a : ℕ) (members next next′ next″ : List ℕ) (n r : ℕ) → n < stateCount → Collected a members next next′ n → r ≡ nextMember members (n + 1)
       → Extends sys L next′ next″ (λ (w : List ℕ). acceptsFrom sys (a ∷ w) (groupNumbered L n)) → Collected a members next next″ r

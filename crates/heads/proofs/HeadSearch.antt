@@ -1,6 +1,6 @@
 -- The search of a head: its active rules one after the other, from its first active position on.
 use mathlib.Core.Path.{_∙_, _≡_, ap, ap₂, refl, subst, sym}
-use mathlib.Core.Bool.{Bool, _&&_, _||_, false, true, true≢false}
+use mathlib.Core.Bool.{Bool, _&&_, _||_, false, true, true≢false, or-assoc, or-false}
 use mathlib.Core.List.{List, [], _++_, append-assoc, append-nil, map}
 use Prim.Native.Nat.{_*_, _+_, _-_, _<_, _≤_, suc, zero, ℕ}
 use native.Mathlib.Decide.{decLt, ℕ-discrete}
@@ -37,7 +37,7 @@ use Rattle.rules.proofs.HeadRuns.{head-candidates, offersOf, runOffers}
 use Rattle.rules.proofs.RuleOrder.{same-between}
 use Rattle.paths.specs.Arrivals.{hit, stored, taken}
 use Rattle.paths.specs.Jobs.{seenIn}
-use Rattle.paths.proofs.Arrivals.{hit-append, or-assoc, or-false, stored-append, stored-capped, stored-earlier, stored-length, taken-append, taken-same}
+use Rattle.paths.proofs.Arrivals.{hit-append, stored-append, stored-capped, stored-earlier, stored-length, taken-append, taken-same}
 use Rattle.heads.specs.declared.Head.{Head}
 use Rattle.heads.specs.declared.Round.{Round}
 use Rattle.heads.specs.Heads.{Arrived, HeadSearched, Leading, beforeOf, letterOf}

@@ -8,12 +8,12 @@ use native.Mathlib.Omega.{arith}
 use native.Mathlib.Nat.{le-refl}
 use lib.Dec.{eqb, leb, ltb}
 use lib.ListN.{drop, length, length-append, take}
-use borrow.Author.Tests.{eq-eqb, eqb-true, leb-false, ltb-false, ne-eqb}
+use borrow.Author.Tests.{eq-eqb, eqb-true, leb-false, ltb-false, ne-eqb, not-false}
 use Rattle.model.specs.Groups.{at}
 use Rattle.model.specs.Lists.{Each}
 use Rattle.model.specs.Tables.{Item, Reading, accepted, bodies, bodyLength, ceiling, controlsOf, cooperates, count, ending, isOutOfTurn, isStranger, isTwin, lastKind, leavesControl, locOf, read, readFrom, refusal, ruleOf, transitionOf, unlessRefused, valueFits}
 use Rattle.model.proofs.Lists.{each-append, each-map}
-use Rattle.model.proofs.Tests.{by-test, not-false}
+use Rattle.model.proofs.Tests.{by-test}
 
 -- the checks of refusal 2 to 8, none of which holds
 pub record Passes (items : List Item) (k : ℕ) (body : List ℕ) : Type 0 where

@@ -4,12 +4,12 @@ use mathlib.Core.Bool.{Bool, _&&_, _||_, cond, false, false≢true, not, true}
 use mathlib.Core.List.{List, [], _∷_}
 use Prim.Native.Nat.{ℕ}
 use lib.Dec.{eqb}
-use borrow.Author.Tests.{eq-eqb, eqb-true}
+use borrow.Author.Tests.{eq-eqb, eqb-true, not-true}
 use Rattle.model.specs.declared.Group.{Group}
 use Rattle.model.specs.Groups.{Apart, Processes, apartTest, at, every, has, restrict, sameGroup}
 use Rattle.model.specs.Words.{Located, removeFirst, tops}
 use Rattle.model.proofs.Groups.{agree-at, agree-of, sameGroup-of, sameGroup-true}
-use Rattle.model.proofs.Tests.{and-left, and-right, by-test, every-at, every-of, implied, implies, not-true, same-test}
+use Rattle.model.proofs.Tests.{and-left, and-right, by-test, every-at, every-of, implied, implies, same-test}
 use Rattle.model.proofs.Words.{Pick, here, pick-tops, there, tops-of, tops-pick, tops-true}
 
 -- ---- states

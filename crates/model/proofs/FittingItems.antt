@@ -7,7 +7,7 @@ use Prim.Native.Nat.{_%_, _/_, _<_, _^_, _≤_, suc, zero, ℕ}
 use native.Mathlib.Omega.{arith}
 use lib.Dec.{eqb, leb, ltb}
 use lib.ListN.{drop, getD, length}
-use borrow.Author.Tests.{eq-eqb, eqb-false, eqb-true, leb-true, ltb-true}
+use borrow.Author.Tests.{eq-eqb, eqb-false, eqb-true, leb-true, ltb-true, not-false}
 use Rattle.model.specs.declared.Group.{Group}
 use Rattle.model.specs.Automata.{Transition}
 use Rattle.model.specs.Groups.{Process, Processes, at, has, p0, p1, p2, p3, processesOf}
@@ -16,7 +16,7 @@ use Rattle.model.specs.Tables.{Item, absent, bodies, byteOf, controlsOf,
 use Rattle.model.specs.Words.{Located}
 use Rattle.model.proofs.Limit.{ByteGroup}
 use Rattle.model.proofs.Lists.{each-map}
-use Rattle.model.proofs.Tests.{and-left, and-right, by-test, every-at, not-false}
+use Rattle.model.proofs.Tests.{and-left, and-right, by-test, every-at}
 use Rattle.model.proofs.CheckedItems.{Checked, Passes, bodies-later, each-of-kind, shown-of-kind}
 
 process-fits : {items : List Item} → Checked items → Each (λ (body : List ℕ). byteOf body 0 ≤ 8 × byteOf body 1 ≤ 8) (bodies 1 items)

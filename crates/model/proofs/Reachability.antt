@@ -39,9 +39,6 @@ pub limit-suc : (sys : System) (k : ℕ) → Saturated sys k → logAt sys (suc 
 limit-suc sys k e = logAt-suc sys k ∙ ap (λ (cs : List Candidate). logAt sys k ++ map (addedRecord (suc k) (logAt sys k)) cs) e ∙ append-nil (logAt sys k)
 
 -- once a round adds nothing, none does
-pub limit-stays : (sys : System) (k : ℕ) → Saturated sys k → Saturated sys (suc k)
-limit-stays sys k e = ap (additions sys) (limit-suc sys k e) ∙ e
-
 pub limit-log : (sys : System) (k d : ℕ) → Saturated sys k → logAt sys (d + k) ≡ logAt sys k
 limit-log sys k zero e = ap (logAt sys) (omega arith)
 limit-log sys k (suc d) e = ap (logAt sys) (omega arith) ∙ limit-suc sys (d + k) (ap (additions sys) (limit-log sys k d e) ∙ e) ∙ limit-log sys k d e

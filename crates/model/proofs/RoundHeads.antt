@@ -9,7 +9,7 @@ use Prim.Native.Nat.{suc, ℕ}
 use native.Mathlib.Omega.{arith}
 use lib.Dec.{eqb}
 use lib.ListN.{length}
-use borrow.Author.Tests.{eq-eqb, eqb-true}
+use borrow.Author.Tests.{eq-eqb, eqb-true, not-true}
 use Rattle.model.specs.declared.Group.{Group}
 use Rattle.model.specs.Automata.{Transition}
 use Rattle.model.specs.Groups.{Processes, at, sameGroup}
@@ -24,7 +24,7 @@ use Rattle.model.proofs.FirstCandidates.{first-both, firstOf, orElse}
 use Rattle.model.proofs.Groups.{sameGroup-of, sameGroup-true}
 use Rattle.model.proofs.Lists.{each-any, each-append, each-map, each-of-map, mem-each}
 use Rattle.model.proofs.Order.{Less, Sorted, additions-sorted, collect-sorted, lex-cases, lex-eq, lex-irrefl, lex-lt, lex-total, lex-trans, sameDigits}
-use Rattle.model.proofs.Tests.{and-both, and-left, and-right, by-test, not-true}
+use Rattle.model.proofs.Tests.{and-both, and-left, and-right, by-test}
 use Rattle.model.proofs.UniqueRound.{collect-chosen, sorted-ext}
 
 -- ---- heads: letter and before states

@@ -44,14 +44,6 @@ pub implied : (a b : Bool) → (a ≡ true → b ≡ true) → (not a || b) ≡ 
 implied true b f = f refl
 implied false b f = refl
 
-pub not-true : (b : Bool) → not b ≡ true → b ≡ false
-not-true true e = absurd (false≢true e)
-not-true false e = refl
-
-pub not-false : (b : Bool) → not b ≡ false → b ≡ true
-not-false true e = refl
-not-false false e = absurd (true≢false e)
-
 pub cond-less : (b : Bool) (x y n : ℕ) → (b ≡ true → x < n) → y < n → cond b x y < n
 cond-less true x y n p q = p refl
 cond-less false x y n p q = q

@@ -1,6 +1,6 @@
 -- What is taken of candidates that arrive one after the other, and what the log is then.
 use mathlib.Core.Path.{_≡_, refl, ap, ap₂, sym, subst, _∙_}
-use mathlib.Core.Bool.{Bool, true, false, cond, _||_, true≢false}
+use mathlib.Core.Bool.{Bool, true, false, cond, _||_, true≢false, or-assoc, or-false, or-true}
 use mathlib.Core.List.{List, [], _∷_, _++_}
 use Prim.Native.Nat.{ℕ, suc, _+_, _*_, _<_, _≤_, min}
 use native.Mathlib.Decide.{decLt}
@@ -21,18 +21,6 @@ use Rattle.records.proofs.Entries.{length-with}
 use Rattle.paths.specs.Arrivals.{endNumber, hit, stored, taken}
 
 -- ---- hits
-pub or-assoc : (a b c : Bool) → ((a || b) || c) ≡ (a || (b || c))
-or-assoc true b c = refl
-or-assoc false b c = refl
-
-pub or-false : (a : Bool) → (a || false) ≡ a
-or-false true = refl
-or-false false = refl
-
-pub or-true : (a : Bool) → (a || true) ≡ true
-or-true true = refl
-or-true false = refl
-
 pub hit-append : (xs ys : List Candidate) (x : ℕ) → hit (xs ++ ys) x ≡ (hit xs x || hit ys x)
 hit-append [] ys x = refl
 hit-append (c ∷ xs) ys x = ap (λ (b : Bool). eqb x (endNumber c) || b) (hit-append xs ys x) ∙ sym (or-assoc (eqb x (endNumber c)) (hit xs x) (hit ys x))

@@ -1,6 +1,6 @@
 -- Bits of the scratch during a search, the ends seen and the states passed, and an arrival at an end: nothing where it adds nothing, else one end and one record more.
 use mathlib.Core.Path.{_≡_, refl, ap, sym, subst, _∙_, ap₂}
-use mathlib.Core.Bool.{Bool, true, false, _||_, cond}
+use mathlib.Core.Bool.{Bool, true, false, _||_, cond, or-false, or-true}
 use mathlib.Core.Logic.{_≢_, _⊎_, inl, inr, ⊎-elim}
 use mathlib.Core.List.{List, [], _∷_, _++_, map}
 use Prim.Native.Nat.{ℕ, _+_, _*_, _/_, _<_, _≤_, zero, suc, min}
@@ -32,7 +32,7 @@ use Rattle.paths.specs.declared.Job.{Job}
 use Rattle.paths.specs.declared.Trail.{Trail}
 use Rattle.paths.specs.Arrivals.{endNumber, stored, taken}
 use Rattle.paths.specs.Jobs.{PassedRight, isPassed, jobLoc, jobProcesses, jobWord, made, offers, seenIn, withPassed, Searchable, Searched, Standing, arrivals, endEntry, glances, storedEnd}
-use Rattle.paths.proofs.Arrivals.{hit-seen, or-false, or-true, stored-length, taken-none}
+use Rattle.paths.proofs.Arrivals.{hit-seen, stored-length, taken-none}
 
 -- ---- one bit more
 byte-kept : (s : List ℕ) (n i : ℕ) → (i ≡ n / 8 → ⊥) → getD (inserted s n) i 0 ≡ getD s i 0

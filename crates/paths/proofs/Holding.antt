@@ -1,6 +1,6 @@
 -- The walk through a head's ring: the ends of the records that it has come by are noted.
 use mathlib.Core.Path.{_≡_, refl, ap, ap₂, sym, _∙_}
-use mathlib.Core.Bool.{Bool, true, false, _&&_, _||_}
+use mathlib.Core.Bool.{Bool, true, false, _&&_, _||_, or-false, or-true}
 use mathlib.Core.List.{List}
 use Prim.Native.Nat.{ℕ, zero, suc, _+_, _-_, _*_, _<_, _≤_}
 use native.Mathlib.Numerals.{add-one}
@@ -16,7 +16,6 @@ use Rattle.rings.specs.Rings.{RingRoom, Ringed, recordReads}
 use Rattle.rings.proofs.Keeping.{ringed-scratch}
 use Rattle.paths.specs.Held.{HeldSeen, heldBelow}
 use Rattle.paths.specs.Jobs.{seenIn}
-use Rattle.paths.proofs.Arrivals.{or-false, or-true}
 use Rattle.paths.proofs.Arriving.{seen-bytes, seen-more}
 
 -- records that do not read them change nothing

@@ -1,6 +1,6 @@
 -- The loop of the search: the records that read a letter, one after the other.
 use mathlib.Core.Path.{_∙_, _≡_, ap, ap₂, refl, sym}
-use mathlib.Core.Bool.{Bool, _&&_, _||_, cond, false, true}
+use mathlib.Core.Bool.{Bool, _&&_, _||_, cond, false, true, or-assoc, or-false, or-true}
 use mathlib.Core.Logic.{⊎-elim}
 use mathlib.Core.List.{List, List·Memᴰ, List·Memᴰ·cases-cons, List·Memᴰ·not-nil, [], _++_, _∷_, append-assoc, append-nil, map}
 use Prim.Native.Nat.{_*_, _+_, _-_, _<_, _≤_, min, suc, zero, ℕ}
@@ -33,7 +33,7 @@ use Rattle.paths.specs.declared.Job.{Job}
 use Rattle.paths.specs.declared.Trail.{Trail}
 use Rattle.paths.specs.Arrivals.{endNumber, hit, stored, taken}
 use Rattle.paths.specs.Jobs.{PassedRight, Searchable, Searched, Standing, firstTried, glances, jobLoc, jobWord, laterFresh, longerTrail, made, offers, seenIn}
-use Rattle.paths.proofs.Arrivals.{hit-append, hit-own, or-assoc, or-false, or-true, stored-append, stored-capped, stored-earlier, stored-length, taken-append, taken-same}
+use Rattle.paths.proofs.Arrivals.{hit-append, hit-own, stored-append, stored-capped, stored-earlier, stored-length, taken-append, taken-same}
 use Rattle.paths.proofs.Extending.{extend-end, extend-first, extend-hit, extend-late}
 use Rattle.paths.proofs.Glances.{after-same, before-same, glances-at, glances-same, length-glances, letter-same, reads-same}
 

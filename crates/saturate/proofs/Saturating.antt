@@ -9,7 +9,7 @@ use native.Mathlib.Nat.{not-suc-le-zero}
 use lib.Dec.{leb, ltb}
 use lib.ListN.{drop, length, length-append, length-drop, take}
 use lib.Seq.{take-at}
-use borrow.Author.Tests.{le-leb, leb-true, ltb-false, ltb-true}
+use borrow.Author.Tests.{le-leb, leb-true, ltb-false, ltb-true, not-false, not-true}
 use Rattle.model.specs.Log.{Candidate, Record, addedRecord, additions, limit, logAt, saturatedAt}
 use Rattle.model.specs.Records.{logBytes, recordLength}
 use Rattle.model.specs.Systems.{System}
@@ -18,7 +18,7 @@ use Rattle.model.proofs.Collecting.{logAt-suc}
 use Rattle.model.proofs.Limit.{ByteSystem, length-suc, limit-saturated}
 use Rattle.model.proofs.Rounds.{before-saturated, limit-longest, rounds-limit}
 use Rattle.model.proofs.AcceptedTables.{accepted-bytes}
-use Rattle.model.proofs.Tests.{and-left, and-right, not-false, not-true}
+use Rattle.model.proofs.Tests.{and-left, and-right}
 use Rattle.model.proofs.RecordBytes.{length-log}
 use Rattle.scratch.specs.Regions.{ringsAt, transitionCodesAt}
 use Rattle.sorting.specs.Sorting.{keyPlace}

@@ -1,5 +1,5 @@
 -- Laws for the loops that test a part of the bytes one after the other.
-use mathlib.Core.Bool.{Bool, true, false, _&&_, true≢false}
+use mathlib.Core.Bool.{Bool, true, false, _&&_, and-false, true≢false}
 use mathlib.Core.List.{List, [], _∷_, _++_}
 use mathlib.Core.Path.{_≡_, refl, sym, ap, ap₂, _∙_}
 use Prim.Native.Nat.{ℕ, zero, suc, _+_, _-_, _<_, _≤_}
@@ -15,10 +15,6 @@ use Rattle.model.specs.Records.{numberAt}
 use Rattle.model.specs.Lists.{allOf}
 use Rattle.model.specs.Tables.{sameBytes}
 use Rattle.numbers.proofs.NumberBytes.{AllBytes, number-test}
-
-and-false : (b : Bool) → (b && false) ≡ false
-and-false true = refl
-and-false false = refl
 
 -- ---- all of a list
 all-append : {A : Type 0} (f : A → Bool) (xs ys : List A) → allOf f (xs ++ ys) ≡ (allOf f xs && allOf f ys)

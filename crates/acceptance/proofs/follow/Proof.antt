@@ -6,11 +6,9 @@ use Rattle.acceptance.proofs.Sets.{follow-in, follow-out}
 use Rattle.acceptance.proofs.follow.Statement.{statement}
 use Rattle.acceptance.proofs.follow.Tie as tie
 
-returns : tie.Need-returns
-returns c =
-    let h = c .before .before .before .before .before .before .before .before .before .pre in
-    rw (c .before .before .insert .ensures) (follow-in _ _ _ _ _ _ _ (h .3) (move-over _ _ (h .0) _ _ (h .1) (h .2)) (c .before .before .before .target .ensures .0) (sym (c .before .before .before .before .before .before .is-read .ensures) ∙ c .before .before .before .before .before .if1 .taken))
-
 pub follow-spec : {M : Type 1} → statement M
-follow-spec = tie.close (tie.spec (λ c κs. search needs) (λ c κs. search needs) (λ c κs. search needs) (λ c. search needs) returns
+follow-spec = tie.close (tie.spec (λ c κs. search needs) (λ c κs. search needs) (λ c κs. search needs) (λ c. search needs)
+    (λ c.
+    let h = c .before .before .before .before .before .before .before .before .before .pre in
+    rw (c .before .before .insert .ensures) (follow-in _ _ _ _ _ _ _ (h .3) (move-over _ _ (h .0) _ _ (h .1) (h .2)) (c .before .before .before .target .ensures .0) (sym (c .before .before .before .before .before .before .is-read .ensures) ∙ c .before .before .before .before .before .if1 .taken)))
     (λ c. follow-out _ _ _ _ _ _ (sym (c .before .is-read .ensures) ∙ c .if1 .left)))

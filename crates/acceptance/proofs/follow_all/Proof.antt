@@ -17,15 +17,10 @@ Inv-loop table t letter g next₀ k₀ next k = Following (systemIn table) (pres
 abbrev μ-loop : tie.MeasureT-loop
 μ-loop table t letter g next₀ k₀ next k = t .transitions - k
 
-follow-requires : tie.Need-follow-requires Inv-loop μ-loop
-follow-requires c κs = (c .before .before .before .before .before .before .pre .0, omega arith, c .before .before .before .before .before .before .pre .1, c .before .before .before .loop .inv .size ∙ c .before .before .before .before .before .before .pre .2)
-
-loop-again : tie.Need-loop-again Inv-loop μ-loop
-loop-again c = following-turn _ _ _ _ _ _ _ (c .before .before .before .before .before .before .loop .k) (transitionOf []) (omega (arith, transitions-count _ _ (c .before .before .before .before .before .before .before .before .before .pre .0))) (c .before .before .follow .kept .1 .1 .1 .1 .1 .0) (c .before .before .before .before .before .before .loop .inv) (c .before .before .follow .ensures)
-
-returns : tie.Need-returns Inv-loop μ-loop
-returns c = following-end _ _ _ _ _ _ (c .before .before .loop .k) (omega (arith, transitions-count _ _ (c .before .before .before .before .before .pre .0), c .if1 .left)) (c .before .before .loop .inv)
-
 pub follow-all-spec : {M : Type 1} → statement M
-follow-all-spec = tie.close (tie.spec Inv-loop μ-loop (λ c. following-start _ _ _ _ _) follow-requires (λ c. omega arith) (λ c. omega arith) loop-again
-    (λ c. c .before .before .loop .inv .size) returns)
+follow-all-spec = tie.close (tie.spec Inv-loop μ-loop (λ c. following-start _ _ _ _ _)
+    (λ c κs. (c .before .before .before .before .before .before .pre .0, omega arith, c .before .before .before .before .before .before .pre .1, c .before .before .before .loop .inv .size ∙ c .before .before .before .before .before .before .pre .2))
+    (λ c. omega arith) (λ c. omega arith)
+    (λ c. following-turn _ _ _ _ _ _ _ (c .before .before .before .before .before .before .loop .k) (transitionOf []) (omega (arith, transitions-count _ _ (c .before .before .before .before .before .before .before .before .before .pre .0))) (c .before .before .follow .kept .1 .1 .1 .1 .1 .0) (c .before .before .before .before .before .before .loop .inv) (c .before .before .follow .ensures))
+    (λ c. c .before .before .loop .inv .size)
+    (λ c. following-end _ _ _ _ _ _ (c .before .before .loop .k) (omega (arith, transitions-count _ _ (c .before .before .before .before .before .pre .0), c .if1 .left)) (c .before .before .loop .inv)))

@@ -19,17 +19,13 @@ Inv-loop table t letter scratch₀ n₀ scratch n = (length scratch ≡ length s
 abbrev μ-loop : tie.MeasureT-loop
 μ-loop table t letter scratch₀ n₀ scratch n = stateCount - n
 
-read-member-requires : tie.Need-read-member-requires Inv-loop μ-loop
-read-member-requires c κs = (c .before .before .before .before .before .before .before .before .pre .0, c .before .loop-test .taken, omega (arith, c .before .before .loop .inv .0, c .before .before .before .before .before .before .before .before .pre .1))
-
-loop-again : tie.Need-loop-again Inv-loop μ-loop
-loop-again c =
-    let m = c .before .before .before .before .before .loop in
-    let e = c .before .before .read-member .ensures in
-    (c .before .before .read-member .kept .1 .1 .1 .1 .0 ∙ m .inv .0, e .0 ∙ m .inv .1, collected-turn _ _ _ _ _ _ _ _ _ (c .before .before .before .before .loop-test .taken) (m .inv .2) (rw (m .inv .1) at (e .1)) (e .2))
-
 pub read-members-spec : {M : Type 1} → statement M
 read-members-spec = tie.close (tie.spec Inv-loop μ-loop (λ c. omega arith) (λ c. omega arith) (λ c. omega arith) (λ c κs. search needs)
-    (λ c. (refl, refl, collected-start _ _ _ _ _ _ (c .next-member .ensures))) read-member-requires
-    (λ c. omega (arith, next-at _ _ _ (c .before .before .read-member .ensures .1) .low)) loop-again (λ c. c .before .loop .inv .0)
-    (λ c. collected-end _ _ _ _ _ _ _ (c .loop-test .left) (c .before .loop .inv .2)))
+    (λ c. (refl, refl, collected-start _ _ _ _ _ _ (c .next-member .ensures)))
+    (λ c κs. (c .before .before .before .before .before .before .before .before .pre .0, c .before .loop-test .taken, omega (arith, c .before .before .loop .inv .0, c .before .before .before .before .before .before .before .before .pre .1)))
+    (λ c. omega (arith, next-at _ _ _ (c .before .before .read-member .ensures .1) .low))
+    (λ c.
+    let m = c .before .before .before .before .before .loop in
+    let e = c .before .before .read-member .ensures in
+    (c .before .before .read-member .kept .1 .1 .1 .1 .0 ∙ m .inv .0, e .0 ∙ m .inv .1, collected-turn _ _ _ _ _ _ _ _ _ (c .before .before .before .before .loop-test .taken) (m .inv .2) (rw (m .inv .1) at (e .1)) (e .2)))
+    (λ c. c .before .loop .inv .0) (λ c. collected-end _ _ _ _ _ _ _ (c .loop-test .left) (c .before .loop .inv .2)))

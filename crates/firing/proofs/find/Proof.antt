@@ -15,17 +15,12 @@ Inv-loop table t pile top a bits p₀ p = Finding (systemIn table .loc) a pile t
 abbrev μ-loop : tie.MeasureT-loop
 μ-loop table t pile top a bits p₀ p = length pile - p
 
-is-apart-requires : tie.Need-is-apart-requires Inv-loop μ-loop
-is-apart-requires c κs = (c .before .before .before .before .before .before .before .before .before .pre .0, c .before .before .before .before .before .before .before .before .before .pre .3 _ (c .before .before .before .before .loop .inv .low) (c .before .before .before .loop-test .taken), c .before .before .before .before .before .letter-bits .ensures .small)
-
-returns-2 : tie.Need-returns-2 Inv-loop μ-loop
-returns-2 c = finding-blocked _ _ _ _ _ (c .before .before .before .before .before .before .loop .inv) (c .before .before .before .before .before .loop-test .taken) (c .before .before .before .if1 .left) (rw (← (c .before .before .before .before .before .before .before .before .wide .ensures .0), ← (c .before .before .before .before .before .before .before .letter-bits .ensures .same)) (sym (c .before .is-apart .ensures) ∙ c .if2 .left))
-
-loop-again : tie.Need-loop-again Inv-loop μ-loop
-loop-again c = finding-turn _ _ _ _ _ (c .before .before .before .before .before .before .loop .inv) (c .before .before .before .before .before .loop-test .taken) (c .before .before .before .if1 .left) (rw (← (c .before .before .before .before .before .before .before .before .wide .ensures .0), ← (c .before .before .before .before .before .before .before .letter-bits .ensures .same)) (sym (c .before .is-apart .ensures) ∙ c .if2 .taken))
-
 pub find-spec : {M : Type 1} → statement M
 find-spec = tie.close (tie.spec Inv-loop μ-loop (λ c κs. search needs) (λ c κs. search needs)
     (λ c. finding-start _ _ _ _ (c .before .before .before .before .pre .2)) (λ c. omega arith)
     (λ c. finding-here _ _ _ _ _ (c .before .before .before .loop .inv) (c .before .before .loop-test .taken) (c .if1 .taken)) (λ c. omega arith)
-    is-apart-requires returns-2 (λ c. omega arith) (λ c. omega arith) loop-again (λ c. finding-end _ _ _ _ _ (c .before .loop .inv) (c .loop-test .left)))
+    (λ c κs. (c .before .before .before .before .before .before .before .before .before .pre .0, c .before .before .before .before .before .before .before .before .before .pre .3 _ (c .before .before .before .before .loop .inv .low) (c .before .before .before .loop-test .taken), c .before .before .before .before .before .letter-bits .ensures .small))
+    (λ c. finding-blocked _ _ _ _ _ (c .before .before .before .before .before .before .loop .inv) (c .before .before .before .before .before .loop-test .taken) (c .before .before .before .if1 .left) (rw (← (c .before .before .before .before .before .before .before .before .wide .ensures .0), ← (c .before .before .before .before .before .before .before .letter-bits .ensures .same)) (sym (c .before .is-apart .ensures) ∙ c .if2 .left)))
+    (λ c. omega arith) (λ c. omega arith)
+    (λ c. finding-turn _ _ _ _ _ (c .before .before .before .before .before .before .loop .inv) (c .before .before .before .before .before .loop-test .taken) (c .before .before .before .if1 .left) (rw (← (c .before .before .before .before .before .before .before .before .wide .ensures .0), ← (c .before .before .before .before .before .before .before .letter-bits .ensures .same)) (sym (c .before .is-apart .ensures) ∙ c .if2 .taken)))
+    (λ c. finding-end _ _ _ _ _ (c .before .loop .inv) (c .loop-test .left)))

@@ -11,24 +11,17 @@ use Rattle.firing.proofs.Firings.{fires-idle, fires-full, fires-done}
 use Rattle.firing.proofs.fire.Statement.{statement}
 use Rattle.firing.proofs.fire.Tie as tie
 
-returns : tie.Need-returns
-returns c = fires-idle _ (located _ _ (c .before .before .before .before .before .pre .0)) _ _ _ (c .before .before .before .before .before .pre .2 .inside) (omega (arith, c .before .firing-place .ensures, c .if1 .taken))
-
-returns-2 : tie.Need-returns-2
-returns-2 c = fires-full _ (located _ _ (c .before .before .before .before .before .before .before .pre .0)) _ _ _ (c .before .before .before .before .before .before .before .pre .2 .inside) (omega (arith, c .before .before .before .firing-place .ensures, c .before .before .if1 .left)) (omega (arith, c .before .written-count .ensures, c .if2 .taken))
-
-rewrite-requires : tie.Need-rewrite-requires
-rewrite-requires c κs =
+pub fire-spec : {M : Type 1} → statement M
+fire-spec = tie.close (tie.spec (λ c κs. search needs) (λ c. search needs)
+    (λ c. fires-idle _ (located _ _ (c .before .before .before .before .before .pre .0)) _ _ _ (c .before .before .before .before .before .pre .2 .inside) (omega (arith, c .before .firing-place .ensures, c .if1 .taken)))
+    (λ c κs. search needs) (λ c. search needs) (λ c. search needs)
+    (λ c. fires-full _ (located _ _ (c .before .before .before .before .before .before .before .pre .0)) _ _ _ (c .before .before .before .before .before .before .before .pre .2 .inside) (omega (arith, c .before .before .before .firing-place .ensures, c .before .before .if1 .left)) (omega (arith, c .before .written-count .ensures, c .if2 .taken)))
+    (λ c κs.
     let a = c .before .before .before .before .before .before .before .before .args in
     let low = place-rest (systemIn (a .table .now) .loc) (located _ _ (c .before .before .before .before .before .before .before .before .pre .0)) (ruleIn (a .table .now) (a .k)) (a .pile .now) (a .c) (c .before .before .before .before .before .before .before .before .pre .2 .inside) (omega (arith, c .before .before .before .before .firing-place .ensures, c .before .before .before .if1 .left)) .0 in
-    (c .before .before .before .before .before .before .before .before .pre .0, c .before .before .before .before .before .before .before .before .pre .1, omega (arith, c .before .before .before .before .firing-place .ensures), c .before .before .before .if1 .left, omega (arith, c .before .before .written-count .ensures, c .before .if2 .left))
-
-returns-3 : tie.Need-returns-3
-returns-3 c =
+    (c .before .before .before .before .before .before .before .before .pre .0, c .before .before .before .before .before .before .before .before .pre .1, omega (arith, c .before .before .before .before .firing-place .ensures), c .before .before .before .if1 .left, omega (arith, c .before .before .written-count .ensures, c .before .if2 .left)))
+    (λ c κs. search needs) (λ c. search needs) (λ c. search needs) (λ c. search needs)
+    (λ c.
     let a = c .before .before .before .before .before .before .before .before .before .before .before .before .args in
     fires-done _ (located _ _ (c .before .before .before .before .before .before .before .before .before .before .before .before .pre .0)) _ _ _ (c .before .before .before .before .before .before .before .before .before .before .before .before .pre .2 .inside) (omega (arith, c .before .before .before .before .before .before .before .before .firing-place .ensures, c .before .before .before .before .before .before .before .if1 .left)) _ _ _ (omega (arith, c .before .before .before .before .before .before .written-count .ensures, c .before .before .before .before .before .if2 .left)) (c .states-after .ensures)
-    (ap (λ (n : ℕ). a .c .top + 1 - n) (c .before .before .before .before .before .before .written-count .ensures)) (c .before .before .before .rewrite .ensures ∙ ap (λ (n : ℕ). rewritten (a .pile .now) (a .c .top) n (ruleIn (a .table .now) (a .k) .written)) (c .before .before .before .before .before .before .before .before .firing-place .ensures))
-
-pub fire-spec : {M : Type 1} → statement M
-fire-spec = tie.close (tie.spec (λ c κs. search needs) (λ c. search needs) returns (λ c κs. search needs) (λ c. search needs) (λ c. search needs) returns-2
-    rewrite-requires (λ c κs. search needs) (λ c. search needs) (λ c. search needs) (λ c. search needs) returns-3)
+    (ap (λ (n : ℕ). a .c .top + 1 - n) (c .before .before .before .before .before .before .written-count .ensures)) (c .before .before .before .rewrite .ensures ∙ ap (λ (n : ℕ). rewritten (a .pile .now) (a .c .top) n (ruleIn (a .table .now) (a .k) .written)) (c .before .before .before .before .before .before .before .before .firing-place .ensures))))

@@ -11,16 +11,6 @@ use borrow.Author.Needs.{needs}
 use Rattle.listing.proofs.put_ran.Statement.{statement}
 use Rattle.listing.proofs.put_ran.Tie as tie
 
-part-put-run-end : tie.Need-part-put-run-end
-part-put-run-end c =
-    let g = c .before .before .before .before .before .before .before .ran .given in
-    let e : c .before .before .before .before .before .before .before .before .before .before .before .args .ran ≡ Ran.Reached (g .0 .0) (g .0 .1 .0) (g .0 .1 .1 .0) (g .0 .1 .1 .1 .0) = g .1 in
-    omega (arith, ap listed e, c .before .before .before .before .before .before .before .before .before .before .before .pre .0)
-
-put-run-requires : tie.Need-put-run-requires
-put-run-requires c κs =
-    omega (arith, length-take (c .before .before .before .before .before .before .before .before .ran .given .0 .1 .1 .0 - 0) (c .before .before .before .before .before .before .before .before .before .before .before .before .args .page .now), c .before .before .before .before .before .before .before .before .before .before .before .before .pre .1)
-
 returns : tie.Need-returns
 unfolding runLines
 returns c =
@@ -40,6 +30,11 @@ returns-2 c =
     (puts-within (6 * length (a .page .now) + 64) (c .before .before .put-line2 .ensures) (omega arith))
 
 pub put-ran-spec : {M : Type 1} → statement M
-put-ran-spec = tie.close (tie.spec (λ c. search needs) (λ c. search needs) (λ c. search needs) (λ c κs. search needs) (λ c. search needs) (λ c. search needs)
-    (λ c. search needs) part-put-run-end put-run-requires (λ c. search needs) returns (λ c. search needs) (λ c. search needs) (λ c. search needs) (λ c κs. search needs)
-    (λ c. search needs) returns-2)
+put-ran-spec = tie.close (tie.spec (λ c. search needs) (λ c. search needs) (λ c. search needs) (λ c κs. search needs) (λ c. search needs)
+    (λ c. search needs) (λ c. search needs)
+    (λ c.
+    let g = c .before .before .before .before .before .before .before .ran .given in
+    let e : c .before .before .before .before .before .before .before .before .before .before .before .args .ran ≡ Ran.Reached (g .0 .0) (g .0 .1 .0) (g .0 .1 .1 .0) (g .0 .1 .1 .1 .0) = g .1 in
+    omega (arith, ap listed e, c .before .before .before .before .before .before .before .before .before .before .before .pre .0))
+    (λ c κs. omega (arith, length-take (c .before .before .before .before .before .before .before .before .ran .given .0 .1 .1 .0 - 0) (c .before .before .before .before .before .before .before .before .before .before .before .before .args .page .now), c .before .before .before .before .before .before .before .before .before .before .before .before .pre .1))
+    (λ c. search needs) returns (λ c. search needs) (λ c. search needs) (λ c. search needs) (λ c κs. search needs) (λ c. search needs) returns-2)

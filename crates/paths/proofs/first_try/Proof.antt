@@ -12,9 +12,8 @@ use Rattle.paths.proofs.first_try.Tie as tie
 from-zero : (test : ℕ → Bool) (base : ℕ) → firstFrom test 0 base ≡ firstFrom test 0 (base - 0)
 from-zero test base = ap (firstFrom test 0) (omega arith)
 
-returns-2 : tie.Need-returns-2
-returns-2 c = rw (c .before .before .before .if1 .left, lt-ltb _ _ (c .before .if2 .taken)) (c .first-match2 .ensures ∙ from-zero _ _)
-
 pub first-try-spec : {M : Type 1} → statement M
-first-try-spec = tie.close (tie.spec (λ c κs. search needs) (λ c. rw (c .before .if1 .taken) (c .first-match .ensures ∙ from-zero _ _)) (λ c κs. search needs) returns-2
+first-try-spec = tie.close (tie.spec (λ c κs. search needs) (λ c. rw (c .before .if1 .taken) (c .first-match .ensures ∙ from-zero _ _))
+    (λ c κs. search needs)
+    (λ c. rw (c .before .before .before .if1 .left, lt-ltb _ _ (c .before .if2 .taken)) (c .first-match2 .ensures ∙ from-zero _ _))
     (λ c κs. search needs) (λ c. rw (c .before .before .before .if1 .left, le-ltb _ _ (c .before .if2 .left)) (c .first-fresh .ensures)))

@@ -6,12 +6,9 @@ use borrow.Author.Needs.{needs}
 use Rattle.walk.proofs.place_start.Statement.{statement}
 use Rattle.walk.proofs.place_start.Tie as tie
 
-returns : tie.Need-returns
-returns c =
+pub place-start-spec : {M : Type 1} → statement M
+place-start-spec = tie.close (tie.spec (λ c κs. search needs) (λ c. search needs) (λ c κs. search needs) (λ c. search needs)
+    (λ c.
     let s = c .before .before .before .before .before .before .before in
     let a = s .args in
-    placed-start (a .pile .now) (systemIn (a .table .now) .start) (a .t .pile) (c .before .before .before .before .start-group .result) (c .before .before .write-start .last .1 .1 .0) (pile-count (a .table .now) (a .t) (s .pre .0)) (s .pre .1) (c .before .before .before .before .start-group .ensures) (c .before .before .write-start .ensures)
-
-pub place-start-spec : {M : Type 1} → statement M
-place-start-spec =
-    tie.close (tie.spec (λ c κs. search needs) (λ c. search needs) (λ c κs. search needs) (λ c. search needs) returns)
+    placed-start (a .pile .now) (systemIn (a .table .now) .start) (a .t .pile) (c .before .before .before .before .start-group .result) (c .before .before .write-start .last .1 .1 .0) (pile-count (a .table .now) (a .t) (s .pre .0)) (s .pre .1) (c .before .before .before .before .start-group .ensures) (c .before .before .write-start .ensures)))

@@ -4,9 +4,7 @@ use borrow.Author.Needs.{needs}
 use Rattle.walk.proofs.settle.Statement.{statement}
 use Rattle.walk.proofs.settle.Tie as tie
 
-returns : tie.Need-returns
-returns c = settled (c .before .before .before .before .before .before .before .before .before .args .pile .now) (c .before .before .before .before .before .before .before .before .before .args .top) (c .before .before .before .before .before .before .move-front .last .0) (c .before .before .clear .last .0) (c .before .before .before .before .before .before .before .before .before .pre) (c .before .before .before .before .before .before .move-front .ensures) (c .before .before .clear .ensures)
-
 pub settle-spec : {M : Type 1} → statement M
-settle-spec = tie.close (tie.spec (λ c. search needs) (λ c κs. search needs) (λ c. search needs) (λ c. search needs) (λ c. search needs) (λ c κs. search needs)
-    (λ c. search needs) returns)
+settle-spec = tie.close (tie.spec (λ c. search needs) (λ c κs. search needs) (λ c. search needs) (λ c. search needs) (λ c. search needs)
+    (λ c κs. search needs) (λ c. search needs)
+    (λ c. settled (c .before .before .before .before .before .before .before .before .before .args .pile .now) (c .before .before .before .before .before .before .before .before .before .args .top) (c .before .before .before .before .before .before .move-front .last .0) (c .before .before .clear .last .0) (c .before .before .before .before .before .before .before .before .before .pre) (c .before .before .before .before .before .before .move-front .ensures) (c .before .before .clear .ensures)))

@@ -7,27 +7,21 @@ use borrow.Author.Needs.{needs}
 use Rattle.walk.proofs.take_step.Statement.{statement}
 use Rattle.walk.proofs.take_step.Tie as tie
 
-returns : tie.Need-returns
-returns c = step-none (c .before .before .before .args .table .now) (c .before .before .before .args .t) (c .before .before .before .pre .0) (c .before .before .before .args .n) (c .before .before .before .args .pile .now) (c .before .before .before .args .c) (c .if1 .taken)
-
-returns-2 : tie.Need-returns-2
-returns-2 c =
+pub take-step-spec : {M : Type 1} → statement M
+take-step-spec = tie.close (tie.spec
+    (λ c. step-none (c .before .before .before .args .table .now) (c .before .before .before .args .t) (c .before .before .before .pre .0) (c .before .before .before .args .n) (c .before .before .before .args .pile .now) (c .before .before .before .args .c) (c .if1 .taken))
+    (λ c κs. search needs) (λ c. search needs) (λ c. search needs)
+    (λ c.
     let a = c .before .before .before .before .before .before .before .before .before .args in
     let e : c .before .before .before .before .fire .result ≡ Idle = c .enum-told .given .1 in
-    step-idle (a .table .now) (a .t) (c .before .before .before .before .before .before .before .before .before .pre .0) (a .n) (a .pile .now) (a .c) (omega arith) (c .before .before .before .before .fire .last .1 .1 .1 .0) (rw e at (c .before .before .before .before .fire .ensures))
-
-returns-3 : tie.Need-returns-3
-returns-3 c =
+    step-idle (a .table .now) (a .t) (c .before .before .before .before .before .before .before .before .before .pre .0) (a .n) (a .pile .now) (a .c) (omega arith) (c .before .before .before .before .fire .last .1 .1 .1 .0) (rw e at (c .before .before .before .before .fire .ensures)))
+    (λ c. search needs) (λ c. search needs)
+    (λ c.
     let a = c .before .before .before .before .before .before .before .before .before .args in
     let e : c .before .before .before .before .fire .result ≡ Full = c .enum-told2 .given .1 in
-    step-full (a .table .now) (a .t) (c .before .before .before .before .before .before .before .before .before .pre .0) (a .n) (a .pile .now) (a .c) (omega arith) (c .before .before .before .before .fire .last .1 .1 .1 .0) (rw e at (c .before .before .before .before .fire .ensures))
-
-returns-4 : tie.Need-returns-4
-returns-4 c =
+    step-full (a .table .now) (a .t) (c .before .before .before .before .before .before .before .before .before .pre .0) (a .n) (a .pile .now) (a .c) (omega arith) (c .before .before .before .before .fire .last .1 .1 .1 .0) (rw e at (c .before .before .before .before .fire .ensures)))
+    (λ c. search needs) (λ c. search needs)
+    (λ c.
     let a = c .before .before .before .before .before .before .before .before .before .before .args in
     let e : c .before .before .before .before .before .fire .result ≡ Done (c .before .d .given .0 .0) = c .before .d .given .1 in
-    step-done (a .table .now) (a .t) (c .before .before .before .before .before .before .before .before .before .before .pre .0) (a .n) (a .pile .now) (a .c) (omega arith) (c .before .before .before .before .before .fire .last .1 .1 .1 .0) (c .before .d .given .0 .0) (c .before .before .before .before .before .before .before .before .before .before .pre .1) (rw e at (c .before .before .before .before .before .fire .ensures))
-
-pub take-step-spec : {M : Type 1} → statement M
-take-step-spec = tie.close (tie.spec returns (λ c κs. search needs) (λ c. search needs) (λ c. search needs) returns-2 (λ c. search needs) (λ c. search needs) returns-3
-    (λ c. search needs) (λ c. search needs) returns-4)
+    step-done (a .table .now) (a .t) (c .before .before .before .before .before .before .before .before .before .before .pre .0) (a .n) (a .pile .now) (a .c) (omega arith) (c .before .before .before .before .before .fire .last .1 .1 .1 .0) (c .before .d .given .0 .0) (c .before .before .before .before .before .before .before .before .before .before .pre .1) (rw e at (c .before .before .before .before .before .fire .ensures))))

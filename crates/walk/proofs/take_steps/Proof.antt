@@ -16,23 +16,6 @@ Inv-loop table t list pile₀ c₀ k₀ pile c k = Going table t list pile₀ c�
 abbrev μ-loop : tie.MeasureT-loop
 μ-loop table t list pile₀ c₀ k₀ pile c k = length list - k
 
-loop-holds : tie.Need-loop-holds Inv-loop μ-loop
-loop-holds c =
-    let entry = c .before .before .before in
-    let a = entry .args in going-start (a .table .now) (a .t) (a .list .now) (a .pile .now) (a .start) (entry .pre .1)
-
-take-step-requires : tie.Need-take-step-requires Inv-loop μ-loop
-take-step-requires c κs =
-    let at-loop = c .before .before .before .before in
-    let entry = at-loop .before .before .before .before in
-    (entry .pre .0, at-loop .loop .inv .shape)
-
-same-length : tie.Need-same-length Inv-loop μ-loop
-same-length c =
-    let at-take-step = c .before .before .before .before .before in
-    let at-loop = at-take-step .before .before .before .before .before in
-    at-take-step .take-step .kept .1 .1 .1 .0 ∙ at-loop .loop .inv .size
-
 returns : tie.Need-returns Inv-loop μ-loop
 returns c =
     let at-number = c .before in
@@ -61,13 +44,24 @@ loop-again c =
     going-turn (a .table .now) (a .t) (a .list .now) (a .pile .now) (a .start) (m .pile) (at-take-step .take-step .last .1 .1 .1 .0) (m .c) (at-d .d .given .0 .0) (m .k) (at-wide-two .wide-two .result)
     (at-loop-test .loop-test .taken) (at-take-step .take-step .kept .1 .1 .1 .0) (at-wide-two .wide-two .ensures .0) (m .inv) (subst (StepTo (a .table .now) (a .t) (at-wide-two .wide-two .result) (m .c) (m .pile) (at-take-step .take-step .last .1 .1 .1 .0)) e (at-take-step .take-step .ensures))
 
-returns-2 : tie.Need-returns-2 Inv-loop μ-loop
-returns-2 c =
+pub take-steps-spec : {M : Type 1} → statement M
+take-steps-spec = tie.close (tie.spec Inv-loop μ-loop
+    (λ c.
+    let entry = c .before .before .before in
+    let a = entry .args in going-start (a .table .now) (a .t) (a .list .now) (a .pile .now) (a .start) (entry .pre .1))
+    (λ c. omega arith) (λ c. omega arith) (λ c κs. search needs)
+    (λ c κs.
+    let at-loop = c .before .before .before .before in
+    let entry = at-loop .before .before .before .before in
+    (entry .pre .0, at-loop .loop .inv .shape))
+    (λ c. search needs)
+    (λ c.
+    let at-take-step = c .before .before .before .before .before in
+    let at-loop = at-take-step .before .before .before .before .before in
+    at-take-step .take-step .kept .1 .1 .1 .0 ∙ at-loop .loop .inv .size)
+    returns (λ c. search needs) (λ c. omega arith) (λ c. omega arith) loop-again (λ c. c .before .loop .inv .size)
+    (λ c.
     let at-loop = c .before in
     let entry = at-loop .before .before .before .before in
     let a = entry .args in
-    going-end (a .table .now) (a .t) (a .list .now) (a .pile .now) (a .start) (at-loop .loop .pile) (at-loop .loop .c) (at-loop .loop .k) (c .loop-test .left) (at-loop .loop .inv)
-
-pub take-steps-spec : {M : Type 1} → statement M
-take-steps-spec = tie.close (tie.spec Inv-loop μ-loop loop-holds (λ c. omega arith) (λ c. omega arith) (λ c κs. search needs) take-step-requires (λ c. search needs)
-    same-length returns (λ c. search needs) (λ c. omega arith) (λ c. omega arith) loop-again (λ c. c .before .loop .inv .size) returns-2)
+    going-end (a .table .now) (a .t) (a .list .now) (a .pile .now) (a .start) (at-loop .loop .pile) (at-loop .loop .c) (at-loop .loop .k) (c .loop-test .left) (at-loop .loop .inv)))

@@ -16,9 +16,6 @@ Inv-loop table t pile₀ at count j₀ pile j = (j ≤ count) × Pasting pile₀
 abbrev μ-loop : tie.MeasureT-loop
 μ-loop table t pile₀ at count j₀ pile j = count - j
 
-loop-holds : tie.Need-loop-holds Inv-loop μ-loop
-loop-holds c = (omega arith, pasting-start (c .before .before .args .pile .now) (systemIn (c .before .before .args .table .now) .start .word) (c .before .before .args .at))
-
 loop-again : tie.Need-loop-again Inv-loop μ-loop
 loop-again c =
     let s = c .before .before .before .before .before in
@@ -28,12 +25,11 @@ loop-again c =
           (omega (arith, pile-count (s .args .table .now) (s .args .t) (s .pre .0))) (c .pile-letter .ensures),
     )
 
-returns : tie.Need-returns Inv-loop μ-loop
-returns c =
+pub write-start-spec : {M : Type 1} → statement M
+write-start-spec = tie.close (tie.spec Inv-loop μ-loop
+    (λ c. (omega arith, pasting-start (c .before .before .args .pile .now) (systemIn (c .before .before .args .table .now) .start .word) (c .before .before .args .at)))
+    (λ c κs. search needs) (λ c. omega arith) (λ c. omega arith) (λ c. omega arith) (λ c. omega arith) loop-again (λ c. c .before .loop .inv .1 .size)
+    (λ c.
     let a = c .before .before .before .before .args in
     let e : c .before .loop .j ≡ a .t .pile = omega arith in
-    c .before .loop .inv .1 .is ∙ ap (paste (a .pile .now) (a .at) (systemIn (a .table .now) .start .word)) e
-
-pub write-start-spec : {M : Type 1} → statement M
-write-start-spec = tie.close (tie.spec Inv-loop μ-loop loop-holds (λ c κs. search needs) (λ c. omega arith) (λ c. omega arith) (λ c. omega arith) (λ c. omega arith)
-    loop-again (λ c. c .before .loop .inv .1 .size) returns)
+    c .before .loop .inv .1 .is ∙ ap (paste (a .pile .now) (a .at) (systemIn (a .table .now) .start .word)) e))

@@ -8,10 +8,6 @@ use Rattle.table.proofs.Layouts.{table-modest}
 use Rattle.heads.proofs.jobs.job_of.Statement.{statement}
 use Rattle.heads.proofs.jobs.job_of.Tie as tie
 
-cast-t11 : tie.Need-cast-t11
-cast-t11 c =
-    let start = c .before .before .before .before .before .before in omega (arith, start .pre .1, table-modest (start .args .table .now) (start .args .t) (start .pre .0) .rules)
-
 returns : tie.Need-returns
 returns c =
     let at-mask = c .before in
@@ -32,4 +28,6 @@ returns c =
     }
 
 pub job-of-spec : {M : Type 1} → statement M
-job-of-spec = tie.close (tie.spec (λ c κs. search needs) (λ c κs. search needs) (λ c κs. search needs) cast-t11 (λ c κs. search needs) returns)
+job-of-spec = tie.close (tie.spec (λ c κs. search needs) (λ c κs. search needs) (λ c κs. search needs)
+    (λ c. let start = c .before .before .before .before .before .before in omega (arith, start .pre .1, table-modest (start .args .table .now) (start .args .t) (start .pre .0) .rules))
+    (λ c κs. search needs) returns)

@@ -26,12 +26,6 @@ module _ (c : tie.After-written-letter) where
   few : entry .args .j < writtenPlaces
   few = let a = entry .args in omega (arith, entry .pre .2, written-few (a .table .now) (a .t) (entry .pre .0) (a .k) (entry .pre .1))
 
-last-fresh-requires : tie.Need-last-fresh-requires
-last-fresh-requires c κs =
-    let at-letter = c .before .before .before .before in
-    let start = entry at-letter in
-    omega (arith, c .wide2 .ensures .0, small at-letter, table-modest (start .args .table .now) (start .args .t) (start .pre .0) .letters)
-
 returns : tie.Need-returns
 returns c =
     let at-last = c .before in
@@ -52,4 +46,8 @@ returns c =
 pub read-letter-spec : {M : Type 1} → statement M
 read-letter-spec = tie.close (tie.spec (λ c κs. search needs) (λ c κs. search needs)
     (λ c κs. (entry (c .before) .pre .0, omega (arith, c .wide .ensures .0, small (c .before)))) (λ c κs. search needs) (λ c κs. search needs)
-    last-fresh-requires (λ c κs. few (c .before .before .before .before .before)) returns)
+    (λ c κs.
+    let at-letter = c .before .before .before .before in
+    let start = entry at-letter in
+    omega (arith, c .wide2 .ensures .0, small at-letter, table-modest (start .args .table .now) (start .args .t) (start .pre .0) .letters))
+    (λ c κs. few (c .before .before .before .before .before)) returns)

@@ -14,24 +14,18 @@ Inv-loop log scratch₀ n count k a f x₀ scratch x = Going log count (setAt sc
 abbrev μ-loop : tie.MeasureT-loop
 μ-loop log scratch₀ n count k a f x₀ scratch x = stateCount - x
 
-add-group-requires : tie.Need-add-group-requires Inv-loop μ-loop
-add-group-requires c κs =
+pub add-groups-spec : {M : Type 1} → statement M
+add-groups-spec = tie.close (tie.spec Inv-loop μ-loop (λ c. going-start _)
+    (λ c κs.
     let inv = c .before .before .loop .inv in
     let p = c .before .before .before .before .before .pre in
     let less = c .before .loop-test .taken in
-    (linked-same (omega (arith, p .1)) (inv .added .same) (p .0), p .1, p .2, less, inv .under less)
-
-next-under-requires : tie.Need-next-under-requires Inv-loop μ-loop
-next-under-requires c κs = let test = c .before .before .before .before in (test .loop-test .taken, test .before .loop .inv .under (test .loop-test .taken))
-
-loop-again : tie.Need-loop-again Inv-loop μ-loop
-loop-again c =
+    (linked-same (omega (arith, p .1)) (inv .added .same) (p .0), p .1, p .2, less, inv .under less))
+    (λ c κs. let test = c .before .before .before .before in (test .loop-test .taken, test .before .loop .inv .under (test .loop-test .taken)))
+    (λ c. omega (arith, c .next-under .ensures .later, c .before .before .before .before .before .loop-test .taken))
+    (λ c.
     let at-add-group = c .before .before .before in
     let at-loop = at-add-group .before .before .before in
     let p = at-loop .before .before .before .pre in
-    going-turn (p .0) (p .1) (at-loop .loop .inv) (at-add-group .add-group .ensures) (c .next-under .ensures)
-
-pub add-groups-spec : {M : Type 1} → statement M
-add-groups-spec = tie.close (tie.spec Inv-loop μ-loop (λ c. going-start _) add-group-requires next-under-requires
-    (λ c. omega (arith, c .next-under .ensures .later, c .before .before .before .before .before .loop-test .taken)) loop-again
+    going-turn (p .0) (p .1) (at-loop .loop .inv) (at-add-group .add-group .ensures) (c .next-under .ensures))
     (λ c. c .before .loop .inv .added .same .size) (λ c. going-end (c .loop-test .left) (c .before .loop .inv)))

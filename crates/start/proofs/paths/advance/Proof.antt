@@ -26,15 +26,6 @@ module _ (c : tie.After-first-lead) where
   inside : c .first-lead .result < entry .args .count
   inside = step-inside (entry .pre) (letter .letter-at .ensures) (c .before .plain .ensures) (c .first-lead .ensures)
 
-cast-put-number : tie.Need-cast-put-number
-cast-put-number c = let found = c .before .before in omega (arith, inside found, entry found .pre .some .1 .short)
-
-add-steps-requires : tie.Need-add-steps-requires
-add-steps-requires c κs =
-    let found = c .before .before .before .before .before .before .before .before in
-    let u = entry found .pre in
-    (u .on-path .steps, omega (arith, c .steps-at .ensures, step-steps u (letter found .letter-at .ensures) (found .before .plain .ensures) (found .first-lead .ensures)))
-
 returns : tie.Need-returns
 returns c =
     let at-merged = c .before .before in
@@ -48,9 +39,15 @@ returns c =
 pub advance-spec : {M : Type 1} → statement M
 advance-spec = tie.close (tie.spec (λ c κs. search needs) (λ c. search needs) (λ c κs. search needs)
     (λ c κs. let start = c .before .before .before .before .before .before .before in
-    (start .pre .linked, omega (arith, start .pre .inside, few start))) (λ c. search needs) (λ c. search needs)
-    cast-put-number (λ c κs. let start =
+    (start .pre .linked, omega (arith, start .pre .inside, few start)))
+    (λ c. search needs) (λ c. search needs) (λ c. let found = c .before .before in omega (arith, inside found, entry found .pre .some .1 .short))
+    (λ c κs. let start =
     c .before .before .before .before .before .before .before .before .before .before in omega (arith, start .pre .linked .room .room, start .pre .inside, few start))
     (λ c κs. let found = c .before .before .before .before .before in round-has (entry found .pre .some .1) _ (inside found)) (λ c κs. search needs)
     (λ c κs. let found = c .before .before .before .before .before .before .before in
-    round-has (entry found .pre .some .1) _ (inside found)) add-steps-requires (λ c. search needs) returns)
+    round-has (entry found .pre .some .1) _ (inside found))
+    (λ c κs.
+    let found = c .before .before .before .before .before .before .before .before in
+    let u = entry found .pre in
+    (u .on-path .steps, omega (arith, c .steps-at .ensures, step-steps u (letter found .letter-at .ensures) (found .before .plain .ensures) (found .first-lead .ensures))))
+    (λ c. search needs) returns)

@@ -14,13 +14,6 @@ Inv-loop table t log scratch₀ n count i₀ scratch i = Backwards table t log c
 abbrev μ-loop : tie.MeasureT-loop
 μ-loop table t log scratch₀ n count i₀ scratch i = i
 
-loop-holds : tie.Need-loop-holds Inv-loop μ-loop
-loop-holds c =
-    let filled = c .before .before .fill-accepting .ensures in
-    let start = c .before .before .before .before .before .before .before in
-    let few = table-modest (start .args .table .now) (start .args .t) (start .pre .0 .1 .holds) .pile in
-    backwards-start _ (linked-same (omega (arith, few)) (filled .0) (start .pre .1)) (λ round lent. filled .1 round)
-
 fill-set-requires : tie.Need-fill-set-requires Inv-loop μ-loop
 fill-set-requires c κs =
     let m = c .before .before .loop in
@@ -31,15 +24,19 @@ fill-set-requires c κs =
       m .inv .right (m .i - 1 + 1) (omega arith) (omega (arith, m .inv .few)),
     )
 
-loop-again : tie.Need-loop-again Inv-loop μ-loop
-loop-again c =
+pub fill-sets-spec : {M : Type 1} → statement M
+fill-sets-spec = tie.close (tie.spec Inv-loop μ-loop
+    (λ c κs. let p = c .before .before .before .before .pre in
+    (p .0 .1 .holds, omega (arith, p .1 .room .room)))
+    (λ c.
+    let filled = c .before .before .fill-accepting .ensures in
+    let start = c .before .before .before .before .before .before .before in
+    let few = table-modest (start .args .table .now) (start .args .t) (start .pre .0 .1 .holds) .pile in
+    backwards-start _ (linked-same (omega (arith, few)) (filled .0) (start .pre .1)) (λ round lent. filled .1 round))
+    (λ c. omega arith) fill-set-requires (λ c. omega arith)
+    (λ c.
     let at-loop = c .before .before .before .before .before in
     backwards-turn (at-loop .before .before .before .before .before .before .before .before .pre .0) (c .before .before .before .before .loop-test .taken)
-    (at-loop .loop .inv) (c .before .before .fill-set .ensures)
-
-pub fill-sets-spec : {M : Type 1} → statement M
-fill-sets-spec =
-    tie.close (tie.spec Inv-loop μ-loop (λ c κs. let p = c .before .before .before .before .pre in
-    (p .0 .1 .holds, omega (arith, p .1 .room .room))) loop-holds (λ c. omega arith)
-    fill-set-requires (λ c. omega arith) loop-again (λ c. c .before .loop .inv .size ∙ c .before .before .before .before .fill-accepting .ensures .0 .size)
+    (at-loop .loop .inv) (c .before .before .fill-set .ensures))
+    (λ c. c .before .loop .inv .size ∙ c .before .before .before .before .fill-accepting .ensures .0 .size)
     (λ c. let inv = c .before .loop .inv in record { linked = inv .linked; right = λ k h. inv .right k (omega (arith, c .loop-test .left)) h }))

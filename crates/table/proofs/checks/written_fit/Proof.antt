@@ -5,10 +5,8 @@ use Rattle.table.proofs.Scans.{part-front, part-behind}
 use Rattle.table.proofs.checks.written_fit.Statement.{statement}
 use Rattle.table.proofs.checks.written_fit.Tie as tie
 
-returns-2 : tie.Need-returns-2
-returns-2 c = simp (c .before .before .are-letters .ensures, c .are-spare .ensures, part-front, part-behind, ← (c .before .before .before .before .before .wide .ensures .0), le-leb _ _ (c .before .before .before .before .if1 .left))
-
 pub written-fit-spec : {M : Type 1} → statement M
-written-fit-spec = tie.close (tie.spec (λ c. search needs) (λ c κs. search needs) (λ c. simp (← (c .before .wide .ensures .0), lt-leb _ _ (c .if1 .taken)))
-    (λ c. search needs) (λ c. search needs) (λ c. search needs) (λ c. search needs) (λ c κs. search needs) (λ c. search needs) (λ c. search needs)
-    (λ c. search needs) (λ c κs. search needs) returns-2)
+written-fit-spec = tie.close (tie.spec (λ c. search needs) (λ c κs. search needs)
+    (λ c. simp (← (c .before .wide .ensures .0), lt-leb _ _ (c .if1 .taken))) (λ c. search needs) (λ c. search needs) (λ c. search needs)
+    (λ c. search needs) (λ c κs. search needs) (λ c. search needs) (λ c. search needs) (λ c. search needs) (λ c κs. search needs)
+    (λ c. simp (c .before .before .are-letters .ensures, c .are-spare .ensures, part-front, part-behind, ← (c .before .before .before .before .before .wide .ensures .0), le-leb _ _ (c .before .before .before .before .if1 .left))))

@@ -5,11 +5,6 @@ use Rattle.table.proofs.Layouts.{places, table-modest, item-inside, ite
 use Rattle.table.proofs.fields.transition_body.Statement.{statement}
 use Rattle.table.proofs.fields.transition_body.Tie as tie
 
-item-body-requires : tie.Need-item-body-requires
-item-body-requires c κs =
-    let x = c .before .before .args in
-    item-inside (x .bytes .now) (x .t) (c .before .before .pre .0) 4 (x .k) _ (omega arith) (c .before .before .pre .1) (c .transitions-at .ensures ∙ places (x .t) .1)
-
 returns : tie.Need-returns
 returns c =
     let at-entry = c .before .before .before in
@@ -20,5 +15,8 @@ returns c =
     (refl, refl, refl, body-size b (x .t) h 4 (x .k) (omega arith) (at-entry .pre .1))
 
 pub transition-body-spec : {M : Type 1} → statement M
-transition-body-spec = tie.close (tie.spec (λ c κs. table-modest (c .before .args .bytes .now) (c .before .args .t) (c .before .pre .0)) item-body-requires
+transition-body-spec = tie.close (tie.spec (λ c κs. table-modest (c .before .args .bytes .now) (c .before .args .t) (c .before .pre .0))
+    (λ c κs.
+    let x = c .before .before .args in
+    item-inside (x .bytes .now) (x .t) (c .before .before .pre .0) 4 (x .k) _ (omega arith) (c .before .before .pre .1) (c .transitions-at .ensures ∙ places (x .t) .1))
     returns)

@@ -6,17 +6,14 @@ use Rattle.table.specs.Places.{advanced}
 use Rattle.table.proofs.items.advance.Statement.{statement}
 use Rattle.table.proofs.items.advance.Tie as tie
 
-add-t16 : tie.Need-add-t16
-add-t16 c = omega (arith, c .before .before .before .before .before .before .before .before .before .before .before .before .before .pre .0 .accepting, c .before .one-if6 .ensures .1)
-
-add-t18 : tie.Need-add-t18
-add-t18 c = omega (arith, c .before .before .before .before .before .before .before .before .before .before .before .before .before .before .before .pre .0 .pile, c .before .one-if7 .ensures .1)
-
 returns : tie.Need-returns
 unfolding advanced
 returns c = rw (c .before .before .before .before .before .before .before .before .before .before .before .before .before .one-if .ensures .0, c .before .before .before .before .before .before .before .before .before .before .before .one-if2 .ensures .0, c .before .before .before .before .before .before .before .before .before .one-if3 .ensures .0, c .before .before .before .before .before .before .before .one-if4 .ensures .0, c .before .before .before .before .before .one-if5 .ensures .0, c .before .before .before .one-if6 .ensures .0, c .before .one-if7 .ensures .0) refl
 
 pub advance-spec : {M : Type 1} → statement M
 advance-spec = tie.close (tie.spec (λ c κs. search needs) (λ c. search needs) (λ c κs. search needs) (λ c. search needs) (λ c κs. search needs)
-    (λ c. search needs) (λ c κs. search needs) (λ c. search needs) (λ c κs. search needs) (λ c. search needs) (λ c κs. search needs) add-t16
-    (λ c κs. search needs) add-t18 returns)
+    (λ c. search needs) (λ c κs. search needs) (λ c. search needs) (λ c κs. search needs) (λ c. search needs) (λ c κs. search needs)
+    (λ c. omega (arith, c .before .before .before .before .before .before .before .before .before .before .before .before .before .pre .0 .accepting, c .before .one-if6 .ensures .1))
+    (λ c κs. search needs)
+    (λ c. omega (arith, c .before .before .before .before .before .before .before .before .before .before .before .before .before .before .before .pre .0 .pile, c .before .one-if7 .ensures .1))
+    returns)

@@ -4,15 +4,10 @@ use borrow.Author.Needs.{needs}
 use Rattle.table.proofs.items.early_refusal.Statement.{statement}
 use Rattle.table.proofs.items.early_refusal.Tie as tie
 
-returns-2 : tie.Need-returns-2
-returns-2 c = simp (sym (c .before .before .before .before .is-out-of-turn .ensures) ∙ c .before .before .before .if1 .left, ← (c .before .before .ceiling-of .ensures), ← (c .before .count-of .ensures), c .if2 .taken)
-
-returns-3 : tie.Need-returns-3
-returns-3 c = simp (sym (c .before .before .before .before .before .before .is-out-of-turn .ensures) ∙ c .before .before .before .before .before .if1 .left, ← (c .before .before .before .before .ceiling-of .ensures), ← (c .before .before .before .count-of .ensures), c .before .before .if2 .left, ← (c .before .body-length .ensures), c .if3 .taken)
-
-returns-4 : tie.Need-returns-4
-returns-4 c = simp (sym (c .before .before .before .before .before .before .is-out-of-turn .ensures) ∙ c .before .before .before .before .before .if1 .left, ← (c .before .before .before .before .ceiling-of .ensures), ← (c .before .before .before .count-of .ensures), c .before .before .if2 .left, ← (c .before .body-length .ensures), c .if3 .left)
-
 pub early-refusal-spec : {M : Type 1} → statement M
-early-refusal-spec = tie.close (tie.spec (λ c κs. search needs) (λ c. simp (sym (c .before .is-out-of-turn .ensures) ∙ c .if1 .taken)) (λ c κs. search needs)
-    (λ c κs. search needs) returns-2 (λ c κs. search needs) returns-3 returns-4)
+early-refusal-spec = tie.close (tie.spec (λ c κs. search needs) (λ c. simp (sym (c .before .is-out-of-turn .ensures) ∙ c .if1 .taken))
+    (λ c κs. search needs) (λ c κs. search needs)
+    (λ c. simp (sym (c .before .before .before .before .is-out-of-turn .ensures) ∙ c .before .before .before .if1 .left, ← (c .before .before .ceiling-of .ensures), ← (c .before .count-of .ensures), c .if2 .taken))
+    (λ c κs. search needs)
+    (λ c. simp (sym (c .before .before .before .before .before .before .is-out-of-turn .ensures) ∙ c .before .before .before .before .before .if1 .left, ← (c .before .before .before .before .ceiling-of .ensures), ← (c .before .before .before .count-of .ensures), c .before .before .if2 .left, ← (c .before .body-length .ensures), c .if3 .taken))
+    (λ c. simp (sym (c .before .before .before .before .before .before .is-out-of-turn .ensures) ∙ c .before .before .before .before .before .if1 .left, ← (c .before .before .before .before .ceiling-of .ensures), ← (c .before .before .before .count-of .ensures), c .before .before .if2 .left, ← (c .before .body-length .ensures), c .if3 .left)))

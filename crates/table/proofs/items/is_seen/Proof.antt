@@ -12,16 +12,12 @@ Inv-loop bytes size count at place₀ left₀ place left = Left bytes size count
 abbrev μ-loop : tie.MeasureT-loop
 μ-loop bytes size count at place₀ left₀ place left = left
 
-returns : tie.Need-returns Inv-loop μ-loop
-returns c = sym (left-found (c .before .before .before .loop .inv) (c .before .before .loop-test .taken) (sym (c .before .same-bytes .ensures) ∙ c .if1 .taken))
-
-loop-again : tie.Need-loop-again Inv-loop μ-loop
-loop-again c = left-turn (c .before .before .before .loop .inv) (c .before .before .loop-test .taken) (sym (c .before .same-bytes .ensures) ∙ c .if1 .left)
-
 pub is-seen-spec : {M : Type 1} → statement M
-is-seen-spec = tie.close (tie.spec Inv-loop μ-loop (λ c. search needs) (λ c. search needs) (λ c. search needs) (λ c. record { room = omega arith; same = refl }) (λ c. omega arith)
-    (λ c. omega (arith, left-room (c .before .loop .inv) (c .loop-test .taken)))
-    (λ c κs. omega (arith, left-room (c .before .loop .inv) (c .loop-test .taken))) returns
+is-seen-spec = tie.close (tie.spec Inv-loop μ-loop (λ c. search needs) (λ c. search needs) (λ c. search needs)
+    (λ c. record { room = omega arith; same = refl }) (λ c. omega arith) (λ c. omega (arith, left-room (c .before .loop .inv) (c .loop-test .taken)))
+    (λ c κs. omega (arith, left-room (c .before .loop .inv) (c .loop-test .taken)))
+    (λ c. sym (left-found (c .before .before .before .loop .inv) (c .before .before .loop-test .taken) (sym (c .before .same-bytes .ensures) ∙ c .if1 .taken)))
     (λ c. omega (arith, left-room (c .before .before .before .loop .inv) (c .before .before .loop-test .taken)))
     (λ c. omega (arith, left-room (c .before .before .before .loop .inv) (c .before .before .loop-test .taken))) (λ c. omega arith) (λ c. omega arith)
-    loop-again (λ c. sym (left-end (c .before .loop .inv) (c .loop-test .left))))
+    (λ c. left-turn (c .before .before .before .loop .inv) (c .before .before .loop-test .taken) (sym (c .before .same-bytes .ensures) ∙ c .if1 .left))
+    (λ c. sym (left-end (c .before .loop .inv) (c .loop-test .left))))

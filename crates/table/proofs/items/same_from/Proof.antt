@@ -36,12 +36,10 @@ loop-again c =
           (rw (getD-drop (x .a) (x .bytes .now) j 0, getD-drop (x .b) (x .bytes .now) j 0) (c .if1 .taken)),
     )
 
-returns-2 : tie.Need-returns-2 Inv-loop μ-loop
-returns-2 c =
+pub same-from-spec : {M : Type 1} → statement M
+same-from-spec = tie.close (tie.spec Inv-loop μ-loop (λ c. (c .pre .2, c .pre .3)) (λ c. omega arith) (λ c. omega arith) (λ c. omega arith)
+    (λ c. omega arith) returns (λ c. omega arith) (λ c. omega arith) loop-again
+    (λ c.
     let at-loop = c .before in
     let e : at-loop .loop .j ≡ at-loop .before .args .n = omega arith in
-    sym (rw e at (at-loop .loop .inv .1))
-
-pub same-from-spec : {M : Type 1} → statement M
-same-from-spec = tie.close (tie.spec Inv-loop μ-loop (λ c. (c .pre .2, c .pre .3)) (λ c. omega arith) (λ c. omega arith) (λ c. omega arith) (λ c. omega arith)
-    returns (λ c. omega arith) (λ c. omega arith) loop-again returns-2)
+    sym (rw e at (at-loop .loop .inv .1))))
