@@ -49,12 +49,12 @@ use Rattle.start.proofs.Leading.{lead-not, lead-reads}
 use Rattle.start.proofs.Grounds.{Grounds, grounds}
 
 -- set k has the states that pass the test, and nothing else has changed
-record Filled (test : ℕ → Bool) (k : ℕ) (s t : List ℕ) : Type 0 where
+pub record Filled (test : ℕ → Bool) (k : ℕ) (s t : List ℕ) : Type 0 where
   pub same : OnlySet k s t
   pub members : (x : ℕ) → x < stateCount → member (setAt t k) x ≡ test x
 
 -- x is the number of one of the groups at the processes L
-unfoldable isNumberOf : Processes → List Group → ℕ → Bool
+unfoldable pub isNumberOf : Processes → List Group → ℕ → Bool
 isNumberOf L groups x = anyOf (λ (g : Group). eqb x (ownNumber L g)) groups
 
 -- a state put into set k
