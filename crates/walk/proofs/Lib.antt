@@ -1,3 +1,3 @@
-pub mod Stepping
+pub mod Going
 pub mod Ends
 pub mod Outcomes

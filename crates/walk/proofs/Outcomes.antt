@@ -26,7 +26,8 @@ use Rattle.firing.specs.declared.Placed.{Placed}
 use Rattle.firing.specs.Piles.{configuration}
 use Rattle.walk.specs.declared.Stop.{Stop}
 use Rattle.walk.specs.declared.Halted.{Halted}
-use Rattle.walk.specs.Walking.{InShape, answerAt, Stopped, haltedBefore, outcomeOf, Halts}
+use Rattle.steps.specs.Stepping.{InShape}
+use Rattle.walk.specs.Walking.{answerAt, Stopped, haltedBefore, outcomeOf, Halts}
 
 -- ---- scratch
 -- left as it was, or zero

@@ -1,46 +1,20 @@
 -- What the parts of a walk come to, as the definition of the whole call has it.
 use mathlib.Core.Path.{_≡_}
 use mathlib.Core.Bool.{false, cond}
-use mathlib.Core.List.{List, [], _∷_}
-use Prim.Native.Nat.{ℕ, _+_, _≤_}
+use mathlib.Core.List.{List, []}
+use Prim.Native.Nat.{ℕ, _≤_}
 use lib.Dec.{eqb}
 use lib.ListN.{length, drop}
 use Rattle.model.specs.declared.Walked.{Walked}
-use Rattle.model.specs.Calls.{Halt, WalkOutcome, changesNothing, filled, haltAt, haltEnd, scratchAfter, walkFigures, walkFrom, walkRefusal}
+use Rattle.model.specs.Calls.{Halt, WalkOutcome, changesNothing, filled, haltAt, haltEnd, scratchAfter, walkFigures, walkRefusal}
 use Rattle.model.specs.Lists.{valueOr}
 use Rattle.model.specs.Systems.{System, Configuration}
-use Rattle.automaton.specs.StateNumbers.{Over}
 use Rattle.table.specs.declared.Table.{Table}
 use Rattle.table.specs.Reading.{systemIn}
-use Rattle.shapes.specs.Shapes.{presentIn}
-use Rattle.firing.specs.declared.Placed.{Placed}
-use Rattle.firing.specs.Piles.{configuration, Stands}
-use Rattle.walk.specs.declared.Taken.{Taken}
-use Rattle.walk.specs.declared.Taken.the-variants.{Refused, Onward}
+use Rattle.firing.specs.Piles.{configuration}
+use Rattle.steps.specs.Stepping.{InShape}
 use Rattle.walk.specs.declared.Stop.{Stop}
 use Rattle.walk.specs.declared.Halted.{Halted}
-
--- a configuration that stands in the pile, of the table's letters and processes
-pub record InShape (t : Table) (pile : List ℕ) (c : Placed) : Type 0 where
-  pub stands : Stands (t .letters) pile c
-  pub over : Over (presentIn t) (c .states)
-
--- ---- one step
--- refused by the number: neither 0 nor one that changes no buffer, and the pile is unchanged
-pub record StepRefused (sys : System) (n : ℕ) (c : Placed) (pile pile′ : List ℕ) (number : ℕ) : Type 0 where
-  pub numbered : eqb number 0 ≡ false
-  pub late : changesNothing number ≡ false
-  pub leaves : pile′ ≡ pile
-  pub halt : (step : ℕ) (ns : List ℕ) → walkFrom sys (length pile) step (n ∷ ns) (configuration pile c) ≡ haltAt number step (n ∷ ns) (configuration pile c)
-
--- fired: the walk goes on from the configuration after it
-pub record StepTaken (table : List ℕ) (t : Table) (n : ℕ) (c d : Placed) (pile pile′ : List ℕ) : Type 0 where
-  pub shape : InShape t pile′ d
-  pub onward : (step : ℕ) (ns : List ℕ) → walkFrom (systemIn table) (length pile) step (n ∷ ns) (configuration pile c) ≡ walkFrom (systemIn table) (length pile) (step + 1) ns (configuration pile′ d)
-
-abbrev pub StepTo : List ℕ → Table → ℕ → Placed → List ℕ → List ℕ → Taken → Type 0
-StepTo table t n c pile pile′ (Refused number) = StepRefused (systemIn table) n c pile pile′ number
-StepTo table t n c pile pile′ (Onward d) = StepTaken table t n c d pile pile′
 
 -- ---- all steps
 -- what the walk gives where it stopped

@@ -1,33 +1,26 @@
 // The walk call: rules fired one after the other from the table's start. While it walks, the word stands at the end of the pile buffer.
 use acceptance::is_accepted;
 use automaton::sets;
-use firing::Firing;
 use firing::Placed;
-use firing::fire;
 use model::Walked;
 use numbers::wide_two;
 use scratch::NEEDED_BY_WALK;
-use shapes::move_front;
+use steps::Taken;
+use steps::place_start;
+use steps::settle;
+use steps::take_step;
 use table::Parsed;
 use table::Table;
-use table::pile_letter;
 use table::read;
-use table::start_group;
 ghost use mathlib.Core.Path.{_≡_};
-ghost use Prim.Native.Nat.{_+_, _≤_};
-ghost use lib.ListN.{length, drop};
-ghost use lib.Seq.{paste};
-ghost use Rattle.model.specs.Calls.{bit, filled, zeros, walkScratch, walkFrom, walkCall, walkFigures};
+ghost use Prim.Native.Nat.{_≤_};
+ghost use lib.ListN.{length};
+ghost use Rattle.model.specs.Calls.{bit, zeros, walkScratch, walkFrom, walkCall, walkFigures};
 ghost use Rattle.model.specs.Demands.{Demand2Walk};
 ghost use Rattle.table.specs.Reading.{Holds, systemIn};
 ghost use Rattle.firing.specs.Piles.{configuration};
-ghost use Rattle.walk.specs.Walking.{InShape, StepTo, answerAt, Stopped, haltedBefore, outcomeOf, Halts, Walks};
-
-// What one step comes to: the number of its refusal, or the configuration after it.
-pub enum Taken {
-    Refused(u8),
-    Onward(Placed),
-}
+ghost use Rattle.steps.specs.Stepping.{InShape};
+ghost use Rattle.walk.specs.Walking.{answerAt, Stopped, haltedBefore, outcomeOf, Halts, Walks};
 
 // Where the steps stopped: the number of the refusal, 0 at the list's end; the step; and the configuration there.
 pub struct Stop {
@@ -42,55 +35,7 @@ pub struct Halted {
     pub from: usize,
 }
 
-// ---- the start
-// Writes the start's word from a place on.
-fn write_start(table: &[u8], t: Table, pile: &mut [u8], at: usize)
-    requires { ⌜ Holds (now table) t × (at + t .pile ≤ length (now pile)) ⌝ }
-    ensures { λ _. ⌜ now (pile .exit) ≡ paste (now (pile .entry)) at (systemIn (now (table .entry)) .start .word) (t .pile) ⌝ }
-{
-    let count = t.pile;
-    let mut j = 0;
-    while j < count {
-        pile[at + j] = pile_letter(table, t, j);
-        j += 1;
-    }
-}
-
-// Puts the start's word at the end of the buffer.
-fn place_start(table: &[u8], t: Table, pile: &mut [u8]) -> Placed
-    requires { ⌜ Holds (now table) t × (t .pile ≤ length (now pile)) ⌝ }
-    ensures { λ r. ⌜ (configuration (now (pile .exit)) r ≡ systemIn (now (table .entry)) .start) × (r .top ≤ length (now (pile .exit))) ⌝ }
-{
-    let states = start_group(table, t);
-    let count = t.pile;
-    let top = pile.len() - count;
-    write_start(table, t, pile, top);
-    Placed { states, top }
-}
-
 // ---- the steps
-// Fires the rule n. The order of the refusals: 13, 12, 14.
-fn take_step(table: &[u8], t: Table, n: usize, pile: &mut [u8], c: Placed) -> Taken
-    requires { ⌜ Holds (now table) t × InShape t (now pile) c ⌝ }
-    ensures { λ r. ⌜ StepTo (now (table .entry)) t n c (now (pile .entry)) (now (pile .exit)) r ⌝ }
-{
-    let rules = t.rules;
-    if rules <= n {
-        return Taken::Refused(13);
-    }
-    match fire(table, t, n, pile, c) {
-        Firing::Idle => {
-            return Taken::Refused(12);
-        }
-        Firing::Full => {
-            return Taken::Refused(14);
-        }
-        Firing::Done(d) => {
-            return Taken::Onward(d);
-        }
-    }
-}
-
 // Takes the steps of the list, up to the first that is refused.
 fn take_steps(table: &[u8], t: Table, list: &[u16], pile: &mut [u8], start: Placed) -> Stop
     requires { ⌜ Holds (now table) t × InShape t (now pile) start ⌝ }
@@ -143,16 +88,6 @@ fn conclude(table: &[u8], t: Table, pile: &[u8], s: Stop, scratch: &mut [u8]) ->
         length: pile.len() - top,
         watched,
     }
-}
-
-// Moves the word to the front of the buffer and zeroes the rest.
-fn settle(pile: &mut [u8], top: usize)
-    requires { ⌜ top ≤ length (now pile) ⌝ }
-    ensures { λ _. ⌜ now (pile .exit) ≡ filled (drop top (now (pile .entry))) (now (pile .entry)) ⌝ }
-{
-    let count = pile.len() - top;
-    move_front(pile, top, count);
-    sets::clear(&mut pile[count..]);
 }
 
 // ---- the call

@@ -3,7 +3,8 @@ use Prim.Native.Nat.{_-_}
 use lib.ListN.{take, drop, length}
 use Rattle.table.specs.Reading.{systemIn}
 use Rattle.firing.specs.Piles.{configuration}
-use Rattle.walk.proofs.Ends.{part-to-end, refused-answer, ended-answer}
+use Rattle.walk.proofs.Ends.{refused-answer, ended-answer}
+use Rattle.steps.proofs.Placing.{part-to-end}
 use borrow.Author.Needs.{needs}
 use Rattle.walk.proofs.conclude.Statement.{statement}
 use Rattle.walk.proofs.conclude.Tie as tie

@@ -1,9 +1,9 @@
 -- The steps of a walk, rule after rule.
 use mathlib.Core.Path.{_≡_, _∙_, subst}
 use Prim.Native.Nat.{_-_}
-use Rattle.walk.specs.declared.Taken.the-variants.{Refused, Onward}
-use Rattle.walk.specs.Walking.{StepTo}
-use Rattle.walk.proofs.Stepping.{Going, going-start, going-turn, going-refused, going-end}
+use Rattle.steps.specs.declared.Taken.the-variants.{Refused, Onward}
+use Rattle.steps.specs.Stepping.{StepTo}
+use Rattle.walk.proofs.Going.{Going, going-start, going-turn, going-refused, going-end}
 use native.Mathlib.Omega.{arith}
 use lib.ListN.{length}
 use borrow.Author.Needs.{needs}
@@ -42,7 +42,7 @@ loop-again c =
     let m = at-loop .loop in
     let e : at-take-step .take-step .result ≡ Onward (at-d .d .given .0 .0) = at-d .d .given .1 in
     going-turn (a .table .now) (a .t) (a .list .now) (a .pile .now) (a .start) (m .pile) (at-take-step .take-step .last .1 .1 .1 .0) (m .c) (at-d .d .given .0 .0) (m .k) (at-wide-two .wide-two .result)
-    (at-loop-test .loop-test .taken) (at-take-step .take-step .kept .1 .1 .1 .0) (at-wide-two .wide-two .ensures .0) (m .inv) (subst (StepTo (a .table .now) (a .t) (at-wide-two .wide-two .result) (m .c) (m .pile) (at-take-step .take-step .last .1 .1 .1 .0)) e (at-take-step .take-step .ensures))
+    (at-loop-test .loop-test .taken) (at-wide-two .wide-two .ensures .0) (m .inv) (subst (StepTo (a .table .now) (a .t) (at-wide-two .wide-two .result) (m .c) (m .pile) (at-take-step .take-step .last .1 .1 .1 .0)) e (at-take-step .take-step .ensures))
 
 pub take-steps-spec : {M : Type 1} → statement M
 take-steps-spec = tie.close (tie.spec Inv-loop μ-loop

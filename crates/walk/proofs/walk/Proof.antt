@@ -1,7 +1,7 @@
 -- The walk call: what it gives, and its steps in the paper's terms.
 use mathlib.Core.Path.{_∙_, ap}
 use Rattle.model.specs.Calls.{walkFigures}
-use Rattle.walk.proofs.Ends.{part-to-end}
+use Rattle.steps.proofs.Placing.{part-to-end}
 use Rattle.model.proofs.Main.{demand-2-walk}
 use borrow.Author.Needs.{needs}
 use Rattle.walk.proofs.walk.Statement.{statement}

@@ -1,16 +1,14 @@
--- One step of a walk: refused by 13, 12 or 14, or taken; and the steps of a whole list.
-use mathlib.Core.Path.{_≡_, refl, ap, ap₂, sym, subst, _∙_}
+-- One step of a walk: refused by 13, 12 or 14, or taken.
+use mathlib.Core.Path.{_≡_, refl, ap, subst, _∙_}
 use mathlib.Core.Option.{Option, none, some}
 use mathlib.Core.List.{List, [], _∷_}
 use Prim.Native.Nat.{ℕ, zero, suc, _+_, _<_, _≤_}
 use native.Mathlib.Nat.{not-suc-le-zero}
-use native.Mathlib.Numerals.{add-one}
 use native.Mathlib.Omega.{arith}
-use lib.ListN.{length, getD, getElem?, drop, drop-of-length-le}
-use lib.Seq.{drop-cons}
+use lib.ListN.{length, getD, getElem?, drop}
 use borrow.Author.Tests.{lt-ltb, le-ltb}
-use Rattle.model.specs.Calls.{Halt, filled, haltAt, haltEnd, stepBy, stepTo, walkFrom}
-use Rattle.model.specs.Lists.{Each, valueOr}
+use Rattle.model.specs.Calls.{Halt, stepBy, stepTo, walkFrom}
+use Rattle.model.specs.Lists.{Each}
 use Rattle.model.specs.Systems.{System, Configuration, fire, fired}
 use Rattle.model.specs.Tables.{ruleOf}
 use Rattle.model.proofs.Steps.{fire-inv}
@@ -24,7 +22,7 @@ use Rattle.firing.specs.declared.Placed.{Placed}
 use Rattle.firing.specs.declared.Firing.the-variants.{Idle, Full, Done}
 use Rattle.firing.specs.Piles.{configuration, Fires, firedPile}
 use Rattle.firing.proofs.Firings.{idle-of, full-of, overfull, fires-fit}
-use Rattle.walk.specs.Walking.{InShape, StepRefused, StepTaken, Stopped}
+use Rattle.steps.specs.Stepping.{InShape, StepRefused, StepTaken}
 
 -- ---- an element by its number
 elem-none : {A : Type 0} (l : List A) (k : ℕ) → length l ≤ k → getElem? l k ≡ none
@@ -98,61 +96,6 @@ module _ (table : List ℕ) (t : Table) (h : Holds table t) (n : ℕ) (pile : Li
             };
             over = subst (λ (k : Configuration). Over (presentIn t) (k .states)) is (fired-over table t h n (c .states) l (s .over));
           };
+          size = x .size;
           onward = λ step ns. by-rule step ns (some (configuration pile′ d)) (x .gives) ∙ rw (le-ltb (length pile) (length (drop (d .top) pile′)) (x .fits)) refl;
         }
-
--- ---- the steps of a list
-module _ (table : List ℕ) (t : Table) (list pile : List ℕ) (start : Placed) where
-  -- the first k steps were taken
-  pub record Going (pile′ : List ℕ) (c : Placed) (k : ℕ) : Type 0 where
-    pub inside : k ≤ length list
-    pub size : length pile′ ≡ length pile
-    pub shape : InShape t pile′ c
-    pub same : walkFrom (systemIn table) (length pile) 0 list (configuration pile start) ≡ walkFrom (systemIn table) (length pile) k (drop k list) (configuration pile′ c)
-
-  pub going-start : InShape t pile start → Going pile start 0
-  going-start s = record { inside = omega arith; size = refl; shape = s; same = refl }
-
-  -- the walk from step k on, as a walk over its first rule
-  ahead : (pile′ : List ℕ) (c : Placed) (k : ℕ) → k < length list → Going pile′ c k
-      → walkFrom (systemIn table) (length pile) 0 list (configuration pile start) ≡ walkFrom (systemIn table) (length pile′) k (getD list k 0 ∷ drop (suc k) list) (configuration pile′ c)
-  ahead pile′ c k l g = g .same ∙ ap₂ (λ (n : ℕ) (ns : List ℕ). walkFrom (systemIn table) n k ns (configuration pile′ c)) (sym (g .size)) (drop-cons list k 0 l)
-
-  pub going-turn : (pile′ pile″ : List ℕ) (c d : Placed) (k n : ℕ) → k < length list → length pile″ ≡ length pile′ → n ≡ getD list k 0 → Going pile′ c k → StepTaken table t n c d pile′ pile″ → Going pile″ d (k + 1)
-  going-turn pile′ pile″ c d k n l size e g s = record {
-    inside = omega arith;
-    size = size ∙ g .size;
-    shape = s .shape;
-    same = ahead pile′ c k l g ∙ ap (λ (m : ℕ). walkFrom (systemIn table) (length pile′) k (m ∷ drop (suc k) list) (configuration pile′ c)) (sym e)
-        ∙ s .onward k (drop (suc k) list)
-        ∙ ap₂ (λ (m i : ℕ). walkFrom (systemIn table) m (k + 1) (drop i list) (configuration pile″ d)) (g .size) (sym (add-one k));
-  }
-
-  pub going-refused : (pile′ pile″ : List ℕ) (c : Placed) (k n number : ℕ) → k < length list → n ≡ getD list k 0 → Going pile′ c k → StepRefused (systemIn table) n c pile′ pile″ number
-      → Stopped table t list (walkFrom (systemIn table) (length pile) 0 list (configuration pile start)) pile″ (record { number = number; at = k; placed = c })
-  going-refused pile′ pile″ c k n number l e g s =
-      let list-is : drop k list ≡ n ∷ drop (suc k) list = drop-cons list k 0 l ∙ ap (λ (m : ℕ). m ∷ drop (suc k) list) (sym e) in
-      let halt : walkFrom (systemIn table) (length pile) 0 list (configuration pile start) ≡ haltAt number k (n ∷ drop (suc k) list) (configuration pile′ c) =
-      ahead pile′ c k l g ∙ ap (λ (m : ℕ). walkFrom (systemIn table) (length pile′) k (m ∷ drop (suc k) list) (configuration pile′ c)) (sym e) ∙ s .halt k (drop (suc k) list) in
-      record {
-        shape = subst (λ (p : List ℕ). InShape t p c) (sym (s .leaves)) (g .shape);
-        late = s .late;
-        inside = omega arith;
-        rest = list-is ∙ sym (ap (λ (x : Halt). x .rest) halt);
-        answer = rw (s .numbered) (sym (ap (λ (x : Halt). x .answer) halt));
-        word = λ p. ap (λ (x : Halt). valueOr p (λ (w : List ℕ). filled w p) (x .pile)) halt ∙ ap (λ (q : List ℕ). filled (drop (c .top) q) p) (sym (s .leaves));
-      }
-
-  pub going-end : (pile′ : List ℕ) (c : Placed) (k : ℕ) → length list ≤ k → Going pile′ c k
-      → Stopped table t list (walkFrom (systemIn table) (length pile) 0 list (configuration pile start)) pile′ (record { number = 0; at = k; placed = c })
-  going-end pile′ c k l g =
-      let halt : walkFrom (systemIn table) (length pile) 0 list (configuration pile start) ≡ haltEnd (systemIn table) (configuration pile′ c) =
-      g .same ∙ ap (λ (ns : List ℕ). walkFrom (systemIn table) (length pile) k ns (configuration pile′ c)) (drop-of-length-le list {i = k} l) in
-      record {
-        shape = g .shape;
-        late = refl;
-        inside = g .inside;
-        rest = drop-of-length-le list {i = k} l ∙ sym (ap (λ (x : Halt). x .rest) halt);
-        answer = sym (ap (λ (x : Halt). x .answer) halt);
-        word = λ p. ap (λ (x : Halt). valueOr p (λ (w : List ℕ). filled w p) (x .pile)) halt;
-      }

@@ -1,10 +1,10 @@
--- The start's word written to the buffer's end, with its states, is the start (Ends).
+-- The start's word written to the buffer's end, with its states, is the start (Placing).
 use Rattle.table.specs.Reading.{systemIn}
 use Rattle.table.proofs.Layouts.{pile-count}
-use Rattle.walk.proofs.Ends.{placed-start}
+use Rattle.steps.proofs.Placing.{placed-start}
 use borrow.Author.Needs.{needs}
-use Rattle.walk.proofs.place_start.Statement.{statement}
-use Rattle.walk.proofs.place_start.Tie as tie
+use Rattle.steps.proofs.place_start.Statement.{statement}
+use Rattle.steps.proofs.place_start.Tie as tie
 
 pub place-start-spec : {M : Type 1} → statement M
 place-start-spec = tie.close (tie.spec (λ c κs. search needs) (λ c. search needs) (λ c κs. search needs) (λ c. search needs)

@@ -7,8 +7,8 @@ use Rattle.table.proofs.Layouts.{pile-count}
 use Rattle.shapes.proofs.Buffers.{Pasting, pasting-start, pasting-turn}
 use native.Mathlib.Omega.{arith}
 use borrow.Author.Needs.{needs}
-use Rattle.walk.proofs.write_start.Statement.{statement}
-use Rattle.walk.proofs.write_start.Tie as tie
+use Rattle.steps.proofs.write_start.Statement.{statement}
+use Rattle.steps.proofs.write_start.Tie as tie
 
 abbrev Inv-loop : tie.InvT-loop
 Inv-loop table t pile₀ at count j₀ pile j = (j ≤ count) × Pasting pile₀ (systemIn table .start .word) at pile j

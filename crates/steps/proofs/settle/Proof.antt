@@ -1,8 +1,8 @@
--- The word copied to the front and zeroes behind it fill the buffer (Ends).
-use Rattle.walk.proofs.Ends.{settled}
+-- The word copied to the front and zeroes behind it fill the buffer (Placing).
+use Rattle.steps.proofs.Placing.{settled}
 use borrow.Author.Needs.{needs}
-use Rattle.walk.proofs.settle.Statement.{statement}
-use Rattle.walk.proofs.settle.Tie as tie
+use Rattle.steps.proofs.settle.Statement.{statement}
+use Rattle.steps.proofs.settle.Tie as tie
 
 pub settle-spec : {M : Type 1} → statement M
 settle-spec = tie.close (tie.spec (λ c. search needs) (λ c κs. search needs) (λ c. search needs) (λ c. search needs) (λ c. search needs)

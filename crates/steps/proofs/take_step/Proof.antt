@@ -1,11 +1,11 @@
 -- Each outcome of the firing is the refusal, or the step, that the model has for it (Stepping).
 use mathlib.Core.Path.{_≡_}
 use Rattle.firing.specs.declared.Firing.the-variants.{Idle, Full, Done}
-use Rattle.walk.proofs.Stepping.{step-none, step-idle, step-full, step-done}
+use Rattle.steps.proofs.Stepping.{step-none, step-idle, step-full, step-done}
 use native.Mathlib.Omega.{arith}
 use borrow.Author.Needs.{needs}
-use Rattle.walk.proofs.take_step.Statement.{statement}
-use Rattle.walk.proofs.take_step.Tie as tie
+use Rattle.steps.proofs.take_step.Statement.{statement}
+use Rattle.steps.proofs.take_step.Tie as tie
 
 pub take-step-spec : {M : Type 1} → statement M
 take-step-spec = tie.close (tie.spec
