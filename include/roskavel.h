@@ -8,6 +8,9 @@
  *   roskavel_run     gives such a run as well,
  *   roskavel_walk    follows a list of rules from the start and says where it ends.
  *
+ * At a desk, which roskavel_desk_open opens on a table, rules are fired one by one, and
+ * configurations are saved under names to return to.
+ *
  * Link with libexports.a, which `rt staticlib exports` writes to target/staticlib/.
  *
  * Buffers. The calls allocate nothing and keep nothing: all memory is the caller's. Each array
@@ -17,7 +20,8 @@
  *
  * Refusals. Any bytes may be given as a table and any length as a buffer: what does not serve is
  * refused with a number and a place, and no other figure. Refusals 1 to 9 and 15 change no
- * buffer; every other return leaves the scratch zero.
+ * buffer; every other return leaves the scratch zero. At an open desk any rule and any name may
+ * be given: a refused call changes nothing.
  */
 #ifndef ROSKAVEL_H
 #define ROSKAVEL_H
@@ -39,6 +43,10 @@ extern "C" {
 #define ROSKAVEL_WALK_SCRATCH 2048
 /* The most steps of a run that is written; a count above it is given as one more than it. */
 #define ROSKAVEL_STEP_CEILING 1000000
+/* How many names a desk has, from 0. */
+#define ROSKAVEL_NAMES 8
+/* The most letters of a desk's pile. */
+#define ROSKAVEL_DESK_PILE 256
 
 /*
  * What stands at each place of the figures. A place that the call or its outcome does not name
@@ -62,7 +70,10 @@ enum roskavel_figure {
     ROSKAVEL_REST = 8         /* where the part of the list that is handed back begins */
 };
 
-/* The refusals. The place of 1 to 9 is an offset in the table, of an item's first byte. */
+/*
+ * The refusals. The place of 1 to 9 is an offset in the table, of an item's first byte. The place
+ * of every refusal at an open desk is 0.
+ */
 enum roskavel_refusal {
     ROSKAVEL_CUT = 1,            /* the table ends in an item (its place) or before the end item
                                     (the table's length) */
@@ -77,11 +88,14 @@ enum roskavel_refusal {
     ROSKAVEL_SHORT_LOG = 10,     /* the limit automaton has more records than the log has room
                                     for; 0 */
     ROSKAVEL_LONG_RUN = 11,      /* more steps than the page has places, or than 1,000,000; 0 */
-    ROSKAVEL_IDLE_RULE = 12,     /* a rule of the list does not fire; its step, from 0 */
+    ROSKAVEL_IDLE_RULE = 12,     /* a rule does not fire; its step in the list, from 0 */
     ROSKAVEL_NO_RULE = 13,       /* the table has no rule of this number; its step */
-    ROSKAVEL_FULL_PILE = 14,     /* the pile outgrows its buffer; its step, 0 for the start */
+    ROSKAVEL_FULL_PILE = 14,     /* the pile outgrows its buffer, or ROSKAVEL_DESK_PILE; its
+                                    step, 0 for the start */
     ROSKAVEL_SHORT_SCRATCH = 15, /* see roskavel_scratch_bytes, ROSKAVEL_WALK_SCRATCH; 0 */
-    ROSKAVEL_NO_RUN = 16         /* a run is asked for, but none leads there; 0 */
+    ROSKAVEL_NO_RUN = 16,        /* a run is asked for, but none leads there; 0 */
+    ROSKAVEL_EMPTY_NAME = 17,    /* the desk holds nothing under this name; 0 */
+    ROSKAVEL_BAD_NAME = 18       /* the name is not below ROSKAVEL_NAMES; 0 */
 };
 
 /* How many records a log of this many bytes has room for. */
@@ -140,6 +154,62 @@ void roskavel_walk(const uint8_t *table, size_t table_length,
                    uint8_t *pile, size_t pile_length,
                    uint8_t *scratch, size_t scratch_length,
                    uint64_t figures[ROSKAVEL_FIGURES]);
+
+/*
+ * A desk on a table. It stands in a configuration, at first the start, and holds up to
+ * ROSKAVEL_NAMES other ones by name. It keeps a copy of the table.
+ *
+ * A desk is the caller's memory and plain data without pointers: it may be moved and copied, and
+ * a copy is a desk of its own. Only roskavel_desk_open makes one, where it is not refused, and
+ * only the calls below may change it. The calls do not check that: pass no other memory.
+ */
+typedef struct roskavel_desk {
+    uint64_t opaque[1013];
+} roskavel_desk;
+
+/* What opening a desk gives. */
+typedef struct roskavel_opening {
+    roskavel_desk desk; /* of no use if refused */
+    uint8_t number;     /* the number of the refusal, or 0 */
+    size_t place;       /* its place, or 0 */
+} roskavel_opening;
+
+/* The configuration that a desk stands in. */
+typedef struct roskavel_sight {
+    uint8_t states[4];                /* of each process, 255 if the table lacks it */
+    size_t length;                    /* letters of the pile */
+    uint8_t pile[ROSKAVEL_DESK_PILE]; /* the pile, top first, then zeros */
+} roskavel_sight;
+
+/*
+ * Opens a desk on a table: it stands at the start and no name is held. Refused by 1 to 9; there
+ * is then no desk.
+ */
+roskavel_opening roskavel_desk_open(const uint8_t *table, size_t table_length);
+
+/*
+ * The calls that change a desk give the number of the refusal, or 0. They check in the order in
+ * which the numbers are given here.
+ *
+ * The fires of a desk are its history. A save notes the current history under a name, a return
+ * makes the noted one the current one: the desk stands where roskavel_walk ends on the current
+ * history, and later fires go on from there.
+ */
+
+/* Fires a rule. Refused by 13, by 12, and by 14 if more than ROSKAVEL_DESK_PILE letters result. */
+uint8_t roskavel_desk_fire(roskavel_desk *desk, uint16_t rule);
+
+/* Saves under a name, in place of what the name held before. Refused by 18. */
+uint8_t roskavel_desk_save(roskavel_desk *desk, uint8_t name);
+
+/* Returns to a name. Every name stays held, this one too. Refused by 18 and by 17. */
+uint8_t roskavel_desk_return(roskavel_desk *desk, uint8_t name);
+
+/* Forgets a name. Refused by 18 and by 17. */
+uint8_t roskavel_desk_forget(roskavel_desk *desk, uint8_t name);
+
+/* Where the desk stands. Changes nothing and is never refused. */
+roskavel_sight roskavel_desk_look(const roskavel_desk *desk);
 
 #ifdef __cplusplus
 }

@@ -1,6 +1,7 @@
 /*
  * The three calls from C: table T, the empty table, and a walk refused at a step. Every figure
- * and every byte of every buffer is checked. Argument: the path of table T.
+ * and every byte of every buffer is checked. Then a desk: every call and each of its refusals,
+ * with all that it shows. Argument: the path of table T.
  */
 #include "roskavel.h"
 
@@ -146,6 +147,104 @@ static void test_empty(void)
     check_untouched("buffers of the empty table's walk");
 }
 
+/* The desk shows these states of two processes and this pile, then zeros. */
+static void check_sight(const roskavel_desk *desk, uint8_t first, uint8_t second,
+                        const uint8_t *word, size_t length, const char *what)
+{
+    const uint8_t states[4] = {first, second, 255, 255};
+    const roskavel_sight sight = roskavel_desk_look(desk);
+    check(memcmp(sight.states, states, sizeof states) == 0, what);
+    check(sight.length == length, what);
+    check_bytes(sight.pile, sizeof sight.pile, word, length, 0, what);
+}
+
+/* Refused openings: the number and the place stand behind the desk. */
+static void test_openings(void)
+{
+    uint8_t longer[TABLE + 1] = {0};
+    memcpy(longer, table, TABLE);
+    roskavel_opening opening = roskavel_desk_open(table, 0);
+    check(opening.number == ROSKAVEL_CUT && opening.place == 0, "opening on the empty table");
+    opening = roskavel_desk_open(table, TABLE - 1);
+    check(opening.number == ROSKAVEL_CUT && opening.place == TABLE - 1, "opening on a cut table");
+    opening = roskavel_desk_open(longer, TABLE + 1);
+    check(opening.number == ROSKAVEL_LEFTOVER && opening.place == TABLE, "opening on a long table");
+    longer[TABLE - 2] = 3;
+    opening = roskavel_desk_open(longer, TABLE);
+    check(opening.number == ROSKAVEL_VALUE && opening.place == 67, "opening on a bad letter");
+    opening = roskavel_desk_open(table, TABLE);
+    check(opening.number == 0 && opening.place == 0, "opening on table T");
+    check_sight(&opening.desk, 0, 0, (uint8_t[]){0}, 1, "desk as opened");
+}
+
+static void test_fires(void)
+{
+    roskavel_desk desk = roskavel_desk_open(table, TABLE).desk;
+    check(roskavel_desk_fire(&desk, 1) == ROSKAVEL_IDLE_RULE, "idle rule at the desk");
+    check(roskavel_desk_fire(&desk, 3) == ROSKAVEL_NO_RULE, "no rule at the desk");
+    check(roskavel_desk_fire(&desk, 65535) == ROSKAVEL_NO_RULE, "no rule of the highest number");
+    check_sight(&desk, 0, 0, (uint8_t[]){0}, 1, "desk after refused fires");
+    check(roskavel_desk_fire(&desk, 0) == 0, "rule 0 at the desk");
+    check_sight(&desk, 0, 0, (uint8_t[]){1, 2}, 2, "desk after rule 0");
+    check(roskavel_desk_fire(&desk, 2) == 0, "rule 2 at the desk");
+    check_sight(&desk, 0, 1, (uint8_t[]){1}, 1, "desk after rule 2");
+    check(roskavel_desk_fire(&desk, 1) == 0, "rule 1 at the desk");
+    check_sight(&desk, 1, 1, (uint8_t[]){0}, 0, "desk after rule 1");
+}
+
+static void test_names(void)
+{
+    roskavel_desk desk = roskavel_desk_open(table, TABLE).desk;
+    check(roskavel_desk_return(&desk, 7) == ROSKAVEL_EMPTY_NAME, "return to an empty name");
+    check(roskavel_desk_forget(&desk, 7) == ROSKAVEL_EMPTY_NAME, "forget of an empty name");
+    check(roskavel_desk_save(&desk, ROSKAVEL_NAMES) == ROSKAVEL_BAD_NAME, "save of a bad name");
+    check(roskavel_desk_return(&desk, ROSKAVEL_NAMES) == ROSKAVEL_BAD_NAME, "return to a bad name");
+    check(roskavel_desk_forget(&desk, 255) == ROSKAVEL_BAD_NAME, "forget of a bad name");
+    check(roskavel_desk_save(&desk, 7) == 0, "save");
+    check(roskavel_desk_save(&desk, 0) == 0, "save of another name");
+    check(roskavel_desk_fire(&desk, 0) == 0, "fire after saves");
+    check(roskavel_desk_save(&desk, 7) == 0, "save over a name");
+    check(roskavel_desk_fire(&desk, 1) == 0, "fire after a save");
+    check_sight(&desk, 1, 0, (uint8_t[]){2}, 1, "desk before returns");
+
+    roskavel_desk copy = desk;
+    check(roskavel_desk_return(&desk, 0) == 0, "return");
+    check_sight(&desk, 0, 0, (uint8_t[]){0}, 1, "desk at the start again");
+    check(roskavel_desk_return(&desk, 7) == 0, "return to another name");
+    check_sight(&desk, 0, 0, (uint8_t[]){1, 2}, 2, "desk at the other name");
+    check(roskavel_desk_forget(&desk, 7) == 0, "forget");
+    check(roskavel_desk_return(&desk, 7) == ROSKAVEL_EMPTY_NAME, "return to a forgotten name");
+    check_sight(&desk, 0, 0, (uint8_t[]){1, 2}, 2, "desk after a forget");
+    check_sight(&copy, 1, 0, (uint8_t[]){2}, 1, "copy of the desk");
+    check(roskavel_desk_return(&copy, 7) == 0, "return of the copy");
+    check_sight(&copy, 0, 0, (uint8_t[]){1, 2}, 2, "copy of the desk after a return");
+}
+
+/* Letter 1 is written four times by rule 0 and removed by rule 1: 85 fires fill the pile. */
+static void test_full_pile(void)
+{
+    const uint8_t grows[] = {
+        1, 1, 1, 2, 1, 2, 1,
+        3, 1, 0, 255, 255, 255, 0, 255, 255, 255, 4, 1, 1, 1, 1,
+        3, 1, 0, 255, 255, 255, 0, 255, 255, 255, 0, 255, 255, 255, 255,
+        6, 0, 255, 255, 255, 7, 1, 8,
+    };
+    uint8_t full[ROSKAVEL_DESK_PILE];
+    int refused = 0;
+    memset(full, 1, sizeof full);
+    roskavel_opening opening = roskavel_desk_open(grows, sizeof grows);
+    check(opening.number == 0, "opening on a table that grows");
+    for (int fires = 0; fires < 85; fires++) {
+        refused += roskavel_desk_fire(&opening.desk, 0) != 0;
+    }
+    check(refused == 0, "fires up to a full pile");
+    check_sight(&opening.desk, 0, 255, full, 256, "desk with a full pile");
+    check(roskavel_desk_fire(&opening.desk, 0) == ROSKAVEL_FULL_PILE, "fire above a full pile");
+    check_sight(&opening.desk, 0, 255, full, 256, "desk after a fire above a full pile");
+    check(roskavel_desk_fire(&opening.desk, 1) == 0, "fire at a full pile");
+    check_sight(&opening.desk, 0, 255, full, 255, "desk below a full pile");
+}
+
 int main(int count, char **arguments)
 {
     FILE *file = count == 2 ? fopen(arguments[1], "rb") : NULL;
@@ -159,6 +258,10 @@ int main(int count, char **arguments)
     test_run();
     test_walk();
     test_empty();
+    test_openings();
+    test_fires();
+    test_names();
+    test_full_pile();
     printf("%d passed, %d failed\n", passed, failed);
     return failed != 0;
 }

@@ -1,5 +1,5 @@
-// The three calls for C and Rust: slices as pointer and length, the answer as 16 numbers. The clauses of each are the mission's demands, in figures;
-// `word` is demand 3 without its premises.
+// The calls for C and Rust. Here the three of document 01: slices as pointer and length, the answer as 16 numbers. The clauses of each are the mission's
+// demands, in figures; `word` is demand 3 without its premises. The desk's calls are in desks.rt.
 use model::Answered;
 use model::Ran;
 ghost use mathlib.Core.Path.{_≡_};
@@ -8,6 +8,8 @@ ghost use lib.ListN.{length, getD};
 ghost use Rattle.model.specs.Calls.{answerCall, runCall, walkCall, answerFigures, runFigures};
 ghost use Rattle.model.specs.Demands.{LogHolds, Demand2Walk};
 ghost use Rattle.exports.specs.Figures.{sixteen, AnswerLeaves, RunLeaves, WalkLeaves, Word, RunWord, AnswerDemand, RunDemand};
+
+mod desks;
 
 // The figures of an answer or a run; a place that a case does not name is 0.
 fn put(

@@ -20,6 +20,7 @@ ghost use Rattle.firing.specs.Piles.{configuration, Stands, Fires};
 ghost use Rattle.firing.specs.Places.{place, firingPlace, closed, rewritten};
 
 // A configuration whose word stands at the end of a buffer: its states, and the place of the word's first letter.
+#[repr(C)]
 pub struct Placed {
     pub states: Group,
     pub top: usize,

@@ -28,6 +28,8 @@ pub mod RefusalNumbers
 pub mod Closing
 pub mod Prefixes
 pub mod Demands
+pub mod DeskChecks
+pub mod Desks
 pub mod Meanings
 pub mod Theorems
 pub mod LogDemand

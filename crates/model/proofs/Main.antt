@@ -5,8 +5,11 @@ use mathlib.Core.List.{List}
 use Prim.Native.Nat.{ℕ}
 use Rattle.model.specs.Calls.{answerCall, answerRefusal, changesNothing, runCall, runRefusal, walkCall, walkFigures, walkRefusal, zeros}
 use Rattle.model.specs.Demands.{Demand2Walk, Demand3, LogHolds, Tells, Writes}
+use Rattle.model.specs.Desks.{Call, Leads, HistoriesLead, deskCalls, noteCalls, opened, unwritten}
+use Rattle.model.specs.Tables.{Item, accepted, read, systemOf}
 use Rattle.model.proofs.Closing.{answer-closes, run-closes, walk-closes}
 use Rattle.model.proofs.Demands.{calls-decide}
+use Rattle.model.proofs.Desks.{desk-walks}
 use Rattle.model.proofs.LogDemand.{answer-log, run-log}
 use Rattle.model.proofs.Meanings.{answer-tells, run-writes}
 use Rattle.model.proofs.WalkDemand.{walk-demand}
@@ -51,3 +54,8 @@ demand-3-answer = answer-tells
 
 pub demand-3-run : (table log scratch page : List ℕ) → Writes table (runCall table log scratch page .page) (runCall table log scratch page .answer)
 demand-3-run = run-writes
+
+-- ---- request 2.1: after any sequence of calls the desk stands where a walk of its current history stands, and each name where a walk of its own does
+pub desk-stands : (table : List ℕ) (items : List Item) → read table ≡ accepted items → (cs : List Call)
+    → HistoriesLead (Leads table (systemOf items)) (noteCalls (systemOf items) (opened (systemOf items)) unwritten cs) (deskCalls (systemOf items) (opened (systemOf items)) cs)
+desk-stands = desk-walks

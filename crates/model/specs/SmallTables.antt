@@ -1,16 +1,18 @@
--- Document 01, "Small tables": the starred ones, as one table of calls and what they give, with one theorem.
+-- Document 01, "Small tables": the starred ones, as one table of calls and what they give, with one theorem; and a desk of request 2.1.
 use mathlib.Core.Path.{_≡_, refl}
 use mathlib.Core.List.{List, [], _∷_, _++_, map}
 use Prim.Native.Nat.{ℕ}
 use lib.ListN.{replicate}
 use Rattle.model.specs.Groups.{sameGroup, restrict, merge}
 use Rattle.model.specs.Words.{tops}
-use Rattle.model.specs.Systems.{enabled, fire}
-use Rattle.model.specs.Tables.{isOutOfTurn, groupFits, transitionFits, writtenFit, valueFits, cooperates, leavesControl, isTwin, refusal, readFrom, read, systemOf}
+use Rattle.model.specs.Systems.{System, Configuration, enabled, fire}
+use Rattle.model.specs.Tables.{Reading, accepted, refused, isOutOfTurn, groupFits, transitionFits, writtenFit, valueFits, cooperates, leavesControl, isTwin, refusal, readFrom, read, systemOf}
 use Rattle.model.specs.Log.{readsAt, keyLess, sameKey, additions, logAt, firstSaturated, saturatedAt}
 use Rattle.model.specs.Unfolding.{acceptingPath, emittedBy}
 use Rattle.model.specs.Records.{recordBytes}
 use Rattle.model.specs.Calls.{recordsOf, runOf, logAfter, pageAfter, answerGiven, answerCall, runCall, walkCall, answerFigures, runGiven, runFigures, walkGiven, walkFigures}
+use Rattle.model.specs.Desks.{Contents, fires, saves, returns, forgets, checks, deskCall, opened, toldRefusal}
+use Rattle.model.specs.Desks as Desks
 
 -- a call, with the lengths of its lent buffers
 pub data Call : Type 0 where
@@ -18,10 +20,26 @@ pub data Call : Type 0 where
   logs : (table : List ℕ) (log scratch : ℕ) → Call
   runs : (table : List ℕ) (log scratch page : ℕ) → Call
   walks : (table list : List ℕ) (pile scratch : ℕ) → Call
+  opens : (table : List ℕ) (calls : List Desks.Call) → Call
 
 -- a buffer that was used before
 abbrev pub used : ℕ → List ℕ
 used n = replicate n 7
+
+-- where a desk stands: states and word
+abbrev pub standing : Configuration → List ℕ
+standing c = c .states .s0 ∷ c .states .s1 ∷ c .states .s2 ∷ c .states .s3 ∷ c .word
+
+-- of each call of a desk the refusal's number, 0 if there is none, and where the desk stands after it
+abbrev pub traceFrom : System → Contents → List Desks.Call → List (List ℕ)
+traceFrom sys s [] = []
+traceFrom sys s (c ∷ cs) =
+    let o = deskCall sys s c in (toldRefusal (o .told) ∷ standing (o .contents .here)) ∷ traceFrom sys (o .contents) cs
+
+-- of a desk's opening the refusal's number and its place; where there is none, the calls follow
+abbrev pub trace : Reading → List Desks.Call → List (List ℕ)
+trace (refused number place) cs = (number ∷ place ∷ []) ∷ []
+trace (accepted items) cs = (0 ∷ 0 ∷ []) ∷ traceFrom (systemOf items) (opened (systemOf items)) cs
 
 -- its figures, and what it leaves: of an answer nothing more or the log, of a run the page, of a walk the part handed back and the pile
 abbrev pub gives : Call → List (List ℕ)
@@ -32,6 +50,7 @@ gives (runs table log scratch page) =
     let o = runCall table (used log) (used scratch) (used page) in runFigures (o .answer) ∷ o .page ∷ []
 gives (walks table list pile scratch) =
     let o = walkCall table list (used pile) (used scratch) in walkFigures (o .answer) ∷ o .rest ∷ o .pile ∷ []
+gives (opens table calls) = trace (read table) calls
 
 -- ---- the tables
 -- Table T: two stations, q = s = 2; tasks 0 {0,1}, 1 {0}, 2 {1}
@@ -132,9 +151,22 @@ starred =
     ∷ record { call = runs (head-T ++ rules01-T ++ accepting-T ++ start-T) 72 34018 2; result = (16 ∷ 0 ∷ 0 ∷ 0 ∷ 0 ∷ 0 ∷ 0 ∷ []) ∷ (7 ∷ 7 ∷ []) ∷ [] }
     ∷ record { call = runs table-T 72 34018 2; result = (11 ∷ 0 ∷ 0 ∷ 0 ∷ 0 ∷ 0 ∷ 0 ∷ []) ∷ (7 ∷ 7 ∷ []) ∷ [] }
     ∷ record { call = runs choice 72 34018 2; result = (0 ∷ 0 ∷ 1 ∷ 3 ∷ 2 ∷ 2 ∷ 1 ∷ []) ∷ (0 ∷ 2 ∷ []) ∷ [] }
+    -- a desk on T: refused by 12, 13, 18 and 17; then 0 and 2 fired, each after a save, and a return to where 2 had not fired
+    ∷ record {
+      call = opens table-T (fires 1 ∷ fires 3 ∷ returns 8 ∷ returns 0 ∷ saves 0 ∷ fires 0 ∷ saves 1 ∷ fires 2 ∷ returns 1 ∷ fires 1 ∷ returns 1 ∷ forgets 0 ∷ returns 0 ∷ []);
+      result = (0 ∷ 0 ∷ [])
+          ∷ (12 ∷ 0 ∷ 0 ∷ 255 ∷ 255 ∷ 0 ∷ []) ∷ (13 ∷ 0 ∷ 0 ∷ 255 ∷ 255 ∷ 0 ∷ []) ∷ (18 ∷ 0 ∷ 0 ∷ 255 ∷ 255 ∷ 0 ∷ []) ∷ (17 ∷ 0 ∷ 0 ∷ 255 ∷ 255 ∷ 0 ∷ [])
+          ∷ (0 ∷ 0 ∷ 0 ∷ 255 ∷ 255 ∷ 0 ∷ []) ∷ (0 ∷ 0 ∷ 0 ∷ 255 ∷ 255 ∷ 1 ∷ 2 ∷ []) ∷ (0 ∷ 0 ∷ 0 ∷ 255 ∷ 255 ∷ 1 ∷ 2 ∷ []) ∷ (0 ∷ 0 ∷ 1 ∷ 255 ∷ 255 ∷ 1 ∷ [])
+          -- the name 1 stays held: it is returned to twice
+          ∷ (0 ∷ 0 ∷ 0 ∷ 255 ∷ 255 ∷ 1 ∷ 2 ∷ []) ∷ (0 ∷ 1 ∷ 0 ∷ 255 ∷ 255 ∷ 2 ∷ []) ∷ (0 ∷ 0 ∷ 0 ∷ 255 ∷ 255 ∷ 1 ∷ 2 ∷ [])
+          -- the name 0 is forgotten
+          ∷ (0 ∷ 0 ∷ 0 ∷ 255 ∷ 255 ∷ 1 ∷ 2 ∷ []) ∷ (17 ∷ 0 ∷ 0 ∷ 255 ∷ 255 ∷ 1 ∷ 2 ∷ []) ∷ [];
+    }
+    -- and none on the re-entry table
+    ∷ record { call = opens re-entry (fires 0 ∷ []); result = (7 ∷ 22 ∷ []) ∷ [] }
     ∷ []
 
 -- the definitions give each result
 pub starred-hold : map (λ (e : Example). gives (e .call)) starred ≡ map (λ (e : Example). e .result) starred
-unfolding sameGroup restrict merge tops enabled fire isOutOfTurn groupFits transitionFits writtenFit valueFits cooperates leavesControl isTwin refusal readFrom read systemOf readsAt keyLess sameKey additions logAt firstSaturated saturatedAt acceptingPath emittedBy recordsOf runOf logAfter pageAfter recordBytes answerGiven answerCall runGiven runCall walkGiven walkCall
+unfolding sameGroup restrict merge tops enabled fire isOutOfTurn groupFits transitionFits writtenFit valueFits cooperates leavesControl isTwin refusal readFrom read systemOf readsAt keyLess sameKey additions logAt firstSaturated saturatedAt acceptingPath emittedBy recordsOf runOf logAfter pageAfter recordBytes answerGiven answerCall runGiven runCall walkGiven walkCall checks deskCall
 starred-hold = refl

@@ -4,6 +4,7 @@
 pub const WRITTEN_PLACES: usize = 4;
 
 // Document 01: a state group. One local state for each of the four processes, 255 where a process has no part.
+#[repr(C)]
 pub struct Group {
     pub s0: u8,
     pub s1: u8,
@@ -53,4 +54,10 @@ pub enum Walked {
         number: u8,
         place: usize,
     },
+}
+
+// What a call of the desk tells: done, or a refusal.
+pub enum Told {
+    Done,
+    Refused { number: u8, place: usize },
 }

@@ -1,4 +1,4 @@
-// The parts of a walk: the start's word put at the end of a buffer, one step there, and the word moved to the front.
+// What a walk and a desk have in common: the start's word put at the end of a buffer, one step there, and the word moved to the front.
 use automaton::sets;
 use firing::Firing;
 use firing::Placed;

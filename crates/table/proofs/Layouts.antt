@@ -14,7 +14,7 @@ use Rattle.model.specs.Automata.{Transition}
 use Rattle.model.specs.Groups.{Processes, processesOf}
 use Rattle.model.specs.Systems.{Rule}
 use Rattle.model.specs.Tables.{locOf, statesOf, writtenPlaces, bodyLength, bodies, byteOf, groupOf, numberOf, absent, ruleOf, transitionOf, valueFits, systemOf}
-use Rattle.table.specs.Places.{bodyAt, bodiesAt, offset, placeOf, bodyOf, counts, processesIn, lettersIn, Modest, Heads}
+use Rattle.table.specs.Places.{bodyAt, bodiesAt, offset, placeOf, bodyOf, counts, processesIn, lettersIn, Modest, Heads, longest}
 use Rattle.table.specs.Reading.{Holds, itemsIn, systemIn, ruleIn, transitionIn, acceptingIn, pileIn, statesIn, processAt}
 use Rattle.table.specs.declared.Table.{Table}
 use Rattle.table.proofs.Accepted.{Fit, layout}
@@ -55,6 +55,13 @@ module _ (bytes : List ℕ) (t : Table) (h : Holds bytes t) where
   -- the counts are at most the ceilings
   pub table-modest : Modest t
   table-modest = layout bytes t h .modest
+
+  -- no table is longer than one with every kind at its ceiling
+  pub table-length : length bytes ≤ longest
+  unfolding offset
+  table-length =
+      let m = table-modest in
+      omega (arith, layout bytes t h .size, m .processes, m .letters, m .rules, m .transitions, m .accepting, m .pile)
 
   pub table-heads : Heads bytes t
   unfolding offset

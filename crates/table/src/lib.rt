@@ -25,8 +25,10 @@ pub use fields::transition_before;
 pub use fields::transition_letter;
 pub use fields::written_count;
 pub use fields::written_letter;
+use model::WRITTEN_PLACES;
 
 // What an accepted table holds, besides one start: the number of items of each kind.
+#[repr(C)]
 pub struct Table {
     pub processes: usize,
     pub letters: usize,
@@ -49,6 +51,16 @@ impl Table {
     pub const ACCEPTING: usize = 64;
 
     pub const PILE: usize = 64;
+
+    // The bytes of a table with every kind at its ceiling, the longest.
+    pub const LONGEST: usize = 3 * Self::PROCESSES
+        + 2 * Self::LETTERS
+        + (11 + WRITTEN_PLACES) * Self::RULES
+        + 10 * Self::TRANSITIONS
+        + 5 * Self::ACCEPTING
+        + 5
+        + 2 * Self::PILE
+        + 1;
 
     // The table without items.
     pub fn empty() -> Self

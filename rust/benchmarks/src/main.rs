@@ -5,7 +5,9 @@
 //! - `answer`: the same of the answer call.
 //! - `growth`: the instructions of the run call as the records grow, and as the rounds do.
 //! - `walk`: the walk call of both engines over a high pile, its median time.
+//! - `desk`: the calls at a desk of the proved engine, their time and their instructions.
 
+mod desk;
 mod measure;
 
 use measure::{
@@ -28,9 +30,11 @@ fn main() -> ExitCode {
         ["answer"] => print_calls("answer", &ANSWER),
         ["growth"] => print_growth(),
         ["walk"] => print_walks(),
+        ["desk"] => desk::print_calls(),
+        [COUNT, desk::NAME, ref numbers @ ..] => desk::be_counted(numbers),
         [COUNT, call, ref numbers @ ..] => be_counted(call, numbers),
         _ => {
-            eprintln!("usage: benchmarks [run | answer | growth | walk]");
+            eprintln!("usage: benchmarks [run | answer | growth | walk | desk]");
             return ExitCode::from(2);
         }
     }

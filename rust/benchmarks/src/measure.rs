@@ -143,18 +143,23 @@ fn instructions(bench: &Bench, call: &str) -> Option<u64> {
 
 /// The instructions of this program with some calls. It gets the table by its standard input.
 fn instructions_with(bench: &Bench, call: &str, calls: usize) -> Option<u64> {
-    let numbers = [bench.records, bench.steps, calls];
+    collected(call, &[bench.records, bench.steps, calls], &bench.table)
+}
+
+/// The instructions of this program as valgrind counts them, with a call's name and numbers as
+/// its arguments; none without valgrind.
+pub fn collected(call: &str, numbers: &[usize], input: &[u8]) -> Option<u64> {
     let mut counted = Command::new("valgrind")
         .env("GLIBC_TUNABLES", NO_REPEATS)
         .args(["--tool=callgrind", "--callgrind-out-file=/dev/null"])
         .arg(env::current_exe().ok()?)
         .args([COUNT, call])
-        .args(numbers.map(|number| number.to_string()))
+        .args(numbers.iter().map(usize::to_string))
         .stdin(Stdio::piped())
         .stderr(Stdio::piped())
         .spawn()
         .ok()?;
-    counted.stdin.take()?.write_all(&bench.table).ok()?;
+    counted.stdin.take()?.write_all(input).ok()?;
     let output = counted.wait_with_output().ok()?;
     let text = String::from_utf8(output.stderr).ok()?;
     let (_, after) = text.split_once("Collected : ")?;
@@ -163,12 +168,7 @@ fn instructions_with(bench: &Bench, call: &str, calls: usize) -> Option<u64> {
 
 /// What valgrind counts: buffers made dirty twice, and one call or two.
 pub fn be_counted(call: &str, numbers: &[&str]) {
-    let numbers = numbers
-        .iter()
-        .map(|number| number.parse().expect("a number"));
-    let [records, steps, calls] = numbers.collect::<Vec<usize>>()[..] else {
-        panic!("three numbers are counted by");
-    };
+    let [records, steps, calls] = numbers_of(numbers);
     let all = [RUN, ANSWER].concat();
     let call = all.iter().find(|(name, _)| *name == call);
     let (_, call) = call.expect("a call");
@@ -181,4 +181,13 @@ pub fn be_counted(call: &str, numbers: &[&str]) {
             call(&table, &mut lent);
         }
     }
+}
+
+/// The numbers that a counted program has as its arguments.
+pub fn numbers_of<const COUNT: usize>(words: &[&str]) -> [usize; COUNT] {
+    let numbers = words.iter().map(|word| word.parse().expect("a number"));
+    let numbers: Vec<usize> = numbers.collect();
+    numbers
+        .try_into()
+        .expect("as many numbers as are asked for")
 }

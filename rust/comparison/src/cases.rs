@@ -24,16 +24,26 @@ pub enum Make {
 pub struct Cases {
     named: Vec<Case>,
     seeds: Vec<u64>,
+    random: Maker,
     full: Table,
 }
+
+/// Makes the random table of a number.
+pub type Maker = fn(&mut Rng, usize) -> Table;
 
 impl Cases {
     /// The named tables, `each` random ones and as many damaged ones.
     pub fn new(seed: u64, each: usize) -> Self {
+        Cases::made_by(random_table, seed, each)
+    }
+
+    /// The same with random tables of another make.
+    pub fn made_by(random: Maker, seed: u64, each: usize) -> Self {
         let mut rng = Rng::new(seed);
         Cases {
             named: named_cases(),
             seeds: (0..2 * each).map(|_| rng.draw()).collect(),
+            random,
             full: bench::full_table(),
         }
     }
@@ -52,7 +62,7 @@ impl Cases {
         let each = self.seeds.len() / 2;
         Some(match index.checked_sub(each) {
             None => {
-                let table = random_table(&mut rng, index);
+                let table = (self.random)(&mut rng, index);
                 Case {
                     name: format!("random table {index}, seed {seed}"),
                     bytes: table.bytes(),
@@ -71,7 +81,7 @@ impl Cases {
 }
 
 /// Each shape in turn, long runs at times, and in almost half of the tables any make.
-fn random_table(rng: &mut Rng, number: usize) -> Table {
+pub fn random_table(rng: &mut Rng, number: usize) -> Table {
     match number % 8 {
         4 if number.is_multiple_of(5) => long_run(rng),
         0 => random::table(rng, &Shape::TINY),

@@ -2,11 +2,14 @@
 
 mod cases;
 mod counts;
+mod rules;
 
-pub use cases::{Case, Cases, Make};
+pub use cases::{Case, Cases, Make, Maker, random_table};
 pub use counts::{Counts, Demand};
+pub use rules::{RULES, absent, rule};
 
 use std::path::PathBuf;
+use std::process::ExitCode;
 use std::sync::atomic::{AtomicUsize, Ordering};
 use std::{env, fs, io, process, thread};
 
@@ -14,21 +17,85 @@ use std::{env, fs, io, process, thread};
 const REPORTED: usize = 10;
 
 /// A case on which two engines differ, and what both gave.
-pub struct Difference {
-    pub case: Case,
-    pub details: String,
+struct Difference {
+    case: Case,
+    details: String,
 }
 
 /// What a comparison met and found.
 #[derive(Default)]
-pub struct Findings {
-    pub counts: Counts,
-    pub differences: Vec<Difference>,
+struct Findings {
+    counts: Counts,
+    differences: Vec<Difference>,
 }
 
-/// Compares all cases. Each thread has a comparer of its own, which counts what it meets and
-/// tells what differs.
-pub fn compare<C>(cases: &Cases, comparer: impl Fn() -> C + Sync) -> io::Result<Findings>
+/// A comparison by a program: its name, its seed, and the situations that it is for.
+pub struct Program {
+    pub name: &'static str,
+    pub seed: u64,
+    pub situations: Vec<Demand>,
+}
+
+impl Program {
+    /// Compares all cases and reports; true if none differs and no situation is missing. Each
+    /// thread has a comparer of its own, which counts what it meets and tells what differs.
+    pub fn compare<C>(&self, cases: &Cases, comparer: impl Fn() -> C + Sync) -> io::Result<bool>
+    where
+        C: FnMut(&Case, &mut Counts) -> io::Result<Option<String>>,
+    {
+        println!("seed {}", self.seed);
+        let findings = compare(cases, comparer)?;
+        self.report(&findings.differences)?;
+        let missing = findings.counts.demand(&self.situations);
+        let differing = findings.differences.len();
+        let failed = differing + missing;
+        println!("{} passed, {failed} failed", cases.count() - differing);
+        Ok(failed == 0)
+    }
+
+    /// Prints the first differences, and writes each with its table to files.
+    fn report(&self, differences: &[Difference]) -> io::Result<()> {
+        let Program { name, seed, .. } = self;
+        for (number, Difference { case, details }) in differences.iter().take(REPORTED).enumerate()
+        {
+            let name = format!("{name}-{seed}-{}-{number}", process::id());
+            let file: PathBuf = env::temp_dir().join(name);
+            let table = file.with_extension("table");
+            let text = format!("difference: {}\n{details}\n", case.name);
+            fs::write(&table, &case.bytes)?;
+            fs::write(file.with_extension("text"), &text)?;
+            println!("{text}seed {seed}, table in {}", table.display());
+        }
+        Ok(())
+    }
+}
+
+/// The status that a comparing program ends with.
+pub fn exit_code(compared: io::Result<bool>) -> ExitCode {
+    match compared {
+        Ok(true) => ExitCode::SUCCESS,
+        Ok(false) => ExitCode::FAILURE,
+        Err(error) => {
+            eprintln!("{error}");
+            ExitCode::from(2)
+        }
+    }
+}
+
+/// Runs a comparison whose one argument is a seed.
+pub fn with_seed(program: &str, compare: impl FnOnce(u64) -> io::Result<bool>) -> ExitCode {
+    let seed = env::args().nth(1).and_then(|seed| seed.parse().ok());
+    match seed {
+        Some(seed) => exit_code(compare(seed)),
+        None => {
+            eprintln!("usage: {program} SEED");
+            ExitCode::from(2)
+        }
+    }
+}
+
+/// Compares all cases by several threads.
+fn compare<C>(cases: &Cases, comparer: impl Fn() -> C + Sync) -> io::Result<Findings>
 where
     C: FnMut(&Case, &mut Counts) -> io::Result<Option<String>>,
 {
@@ -59,18 +126,4 @@ where
         }
     }
     Ok(some)
-}
-
-/// Prints the first differences, and writes each with its table to files.
-pub fn report(differences: &[Difference], program: &str, seed: u64) -> io::Result<()> {
-    for (number, Difference { case, details }) in differences.iter().take(REPORTED).enumerate() {
-        let name = format!("{program}-{seed}-{}-{number}", process::id());
-        let file: PathBuf = env::temp_dir().join(name);
-        let table = file.with_extension("table");
-        let text = format!("difference: {}\n{details}\n", case.name);
-        fs::write(&table, &case.bytes)?;
-        fs::write(file.with_extension("text"), &text)?;
-        println!("{text}seed {seed}, table in {}", table.display());
-    }
-    Ok(())
 }

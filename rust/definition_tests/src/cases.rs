@@ -1,12 +1,13 @@
 //! Small tables, accepted and refused, and the calls that are made of them.
 
 use crate::equations::Equation;
+use crate::sequences::{self, DeskCall};
 use second_engine::{Answer, Refusal, Run, Walk, answer, run, scratch_needed, walk};
 use tables::random::{self, Shape};
 use tables::{Rng, damage, named};
 
 /// How many random tables, and how many damaged ones.
-const EACH: usize = 150;
+const EACH: usize = 200;
 
 /// Limits of more records and longer runs are left out: the checker computes them slowly.
 const RECORDS: usize = 24;
@@ -31,6 +32,8 @@ pub enum Call {
         pile: usize,
         scratch: usize,
     },
+    /// A desk, opened and called.
+    Desk(Vec<DeskCall>),
 }
 
 pub struct Case {
@@ -38,7 +41,8 @@ pub struct Case {
     call: Call,
 }
 
-/// The small tables of document 01, random ones and damaged ones, each with one of the calls.
+/// The small tables of document 01, random ones and damaged ones, each with one of the calls; and
+/// a desk whose pile is filled.
 pub fn all(seed: u64) -> Vec<Case> {
     let mut rng = Rng::new(seed);
     let mut tables: Vec<Vec<u8>> = Vec::new();
@@ -58,12 +62,18 @@ pub fn all(seed: u64) -> Vec<Case> {
         }
     }
     let calls = tables.into_iter().enumerate();
-    calls
+    let mut cases: Vec<Case> = calls
         .map(|(number, table)| Case {
             call: call(&mut rng, number, &table),
             table,
         })
-        .collect()
+        .collect();
+    let (table, calls) = sequences::filling();
+    cases.push(Case {
+        table: table.bytes(),
+        call: Call::Desk(calls),
+    });
+    cases
 }
 
 /// The figures of a table with room for everything: its records, its run and the run's peak.
@@ -110,18 +120,22 @@ fn call(rng: &mut Rng, number: usize, table: &[u8]) -> Call {
     let log = (24 * size.records + *rng.pick(&[0, 0, 0, 1, 30])).saturating_sub(rng.below(8) / 7);
     let needed = scratch_needed(log);
     let scratch = needed + rng.below(2) - rng.below(12) / 11;
-    match number % 3 {
+    match number % 4 {
         0 => Call::Answer { log, scratch },
         1 => Call::Run {
             log,
             scratch,
             page: (size.run.len() + rng.below(4)).saturating_sub(rng.below(5) / 4),
         },
-        _ => Call::Walk {
+        2 => Call::Walk {
             rules: list(rng, size.run),
             pile: (size.peak + rng.below(6)).saturating_sub(rng.below(3)),
             scratch: 2_048 + rng.below(2) - rng.below(12) / 11,
         },
+        _ => {
+            let rules = list(rng, size.run);
+            Call::Desk(sequences::random(rng, &rules))
+        }
     }
 }
 
@@ -173,6 +187,10 @@ impl Case {
                     left,
                     vec![figures, wide(&rules[rest..]), wide(&pile), front(&scratch)],
                 )
+            }
+            Call::Desk(calls) => {
+                let left = format!("(trace (read {table}) {})", sequences::text(calls));
+                Equation::new(left, sequences::trace(&self.table, calls))
             }
         }
     }

@@ -15,7 +15,8 @@ use Rattle.model.specs.Log.{readsAt, keyLess, sameKey, additions, logAt, firstS
 use Rattle.model.specs.Unfolding.{acceptingPath, emittedBy}
 use Rattle.model.specs.Records.{recordBytes}
 use Rattle.model.specs.Calls.{recordsOf, runOf, scratchAfter, logAfter, pageAfter, answerGiven, answerCall, runCall, walkCall, answerFigures, runGiven, runFigures, walkGiven, walkFigures}
-use Rattle.model.specs.SmallTables.{used}
+use Rattle.model.specs.Desks.{fires, saves, returns, forgets, checks, deskCall}
+use Rattle.model.specs.SmallTables.{trace, used}
 
 abbrev answered : List ℕ → ℕ → ℕ → List (List ℕ)
 answered table log scratch =
@@ -31,7 +32,7 @@ walked table list pile scratch =
 ";
 
 /// The definitions that an equation may unfold.
-const UNFOLDING: &str = "unfolding sameGroup restrict merge tops enabled fire isOutOfTurn groupFits transitionFits writtenFit valueFits cooperates leavesControl isTwin refusal readFrom read systemOf readsAt keyLess sameKey additions logAt firstSaturated saturatedAt acceptingPath emittedBy recordBytes recordsOf runOf scratchAfter logAfter pageAfter answerGiven answerCall runGiven runCall walkGiven walkCall";
+const UNFOLDING: &str = "unfolding sameGroup restrict merge tops enabled fire isOutOfTurn groupFits transitionFits writtenFit valueFits cooperates leavesControl isTwin refusal readFrom read systemOf readsAt keyLess sameKey additions logAt firstSaturated saturatedAt acceptingPath emittedBy recordBytes recordsOf runOf scratchAfter logAfter pageAfter answerGiven answerCall runGiven runCall walkGiven walkCall checks deskCall";
 
 /// A call's outcome by the definitions, and the lists that it shall be.
 pub struct Equation {

@@ -4,6 +4,7 @@
 
 mod cases;
 mod equations;
+mod sequences;
 
 use cases::Case;
 use std::process::ExitCode;

@@ -6,7 +6,7 @@
 mod expected;
 mod situations;
 
-use comparison::{Cases, Counts};
+use comparison::{Cases, Counts, Program};
 use expected::Engine;
 use std::env;
 use std::io::{self, ErrorKind, Write};
@@ -25,30 +25,21 @@ fn main() -> ExitCode {
         eprintln!("not a seed: {seed}");
         return ExitCode::from(2);
     };
-    match compare(line, seed) {
-        Ok(true) => ExitCode::SUCCESS,
-        Ok(false) => ExitCode::FAILURE,
-        Err(error) => {
-            eprintln!("{line}: {error}");
-            ExitCode::from(2)
-        }
-    }
+    let compared = compare(line, seed);
+    comparison::exit_code(compared.map_err(|error| io::Error::other(format!("{line}: {error}"))))
 }
 
 /// Compares all cases and reports; true if none differs and no situation is missing.
 fn compare(line: &str, seed: u64) -> io::Result<bool> {
-    println!("seed {seed}");
-    let cases = Cases::new(seed, EACH);
-    let findings = comparison::compare(&cases, || {
+    let program = Program {
+        name: "line_tests",
+        seed,
+        situations: situations::all(),
+    };
+    program.compare(&Cases::new(seed, EACH), || {
         let mut engine = Engine::new();
         move |case, counts: &mut Counts| compare_one(line, &mut engine, &case.bytes, counts)
-    })?;
-    comparison::report(&findings.differences, "line_tests", seed)?;
-    let missing = findings.counts.demand(&situations::all());
-    let differing = findings.differences.len();
-    let failed = differing + missing;
-    println!("{} passed, {failed} failed", cases.count() - differing);
-    Ok(failed == 0)
+    })
 }
 
 /// Compares one table; gives both outputs if they differ.

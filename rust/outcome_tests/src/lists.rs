@@ -1,6 +1,7 @@
 //! Lists of rules to walk.
 
 use crate::facts::Facts;
+use comparison::{absent, rule};
 use second_engine::{Refusal, WALK_SCRATCH, Walk, walk};
 use tables::Rng;
 
@@ -15,8 +16,6 @@ pub const NAMES: [&str; 6] = [
 ];
 
 const IDLE_RULE: u8 = 12;
-/// The most rules of a table.
-const RULES: usize = 200;
 /// How often a list is tried to be made longer, and a rule to be found that is idle.
 const TRIES: usize = 8;
 /// The longest part of a run that other lists begin with.
@@ -75,20 +74,6 @@ fn add_idle(rng: &mut Rng, table: &[u8], list: &mut Vec<u16>, rules: usize) {
 fn add_more(rng: &mut Rng, list: &mut Vec<u16>) {
     for _ in 0..rng.below(4) {
         list.push(rng.draw() as u16);
-    }
-}
-
-fn rule(rng: &mut Rng, rules: usize) -> u16 {
-    rng.below(rules.max(1)) as u16
-}
-
-/// A number that the table lacks: the next, one with the low byte of a rule, or any.
-fn absent(rng: &mut Rng, rules: usize) -> u16 {
-    match rng.below(4) {
-        0 => rules as u16,
-        1 => 256 + rule(rng, rules),
-        2 => 0xFFFF,
-        _ => rng.between(RULES, 0xFFFF) as u16,
     }
 }
 

@@ -12,49 +12,33 @@ mod reasons;
 mod situations;
 mod trials;
 
-use comparison::{Case, Cases, Counts, Make};
+use comparison::{Case, Cases, Counts, Make, Program, RULES};
 use engines::Pool;
 use facts::Facts;
+use std::io;
 use std::process::ExitCode;
-use std::{env, io};
 use tables::Rng;
 use trials::Trials;
 
+const NAME: &str = "outcome_tests";
 /// How many random tables, and how many damaged ones.
 const EACH: usize = 23_500;
-/// The most rules of a table.
-const RULES: usize = 200;
 
 fn main() -> ExitCode {
-    let seed = env::args().nth(1).and_then(|seed| seed.parse().ok());
-    let Some(seed) = seed else {
-        eprintln!("usage: outcome_tests SEED");
-        return ExitCode::from(2);
-    };
-    match compare(seed) {
-        Ok(true) => ExitCode::SUCCESS,
-        Ok(false) => ExitCode::FAILURE,
-        Err(error) => {
-            eprintln!("{error}");
-            ExitCode::from(2)
-        }
-    }
+    comparison::with_seed(NAME, compare)
 }
 
 /// Compares all cases and reports; true if none differs and no situation is missing.
 fn compare(seed: u64) -> io::Result<bool> {
-    println!("seed {seed}");
-    let cases = Cases::new(seed, EACH);
-    let findings = comparison::compare(&cases, || {
+    let program = Program {
+        name: NAME,
+        seed,
+        situations: situations::all(),
+    };
+    program.compare(&Cases::new(seed, EACH), || {
         let pool = Pool::new(&mut Rng::new(seed));
         move |case: &Case, counts: &mut Counts| Ok(compare_one(&pool, case, counts).err())
-    })?;
-    comparison::report(&findings.differences, "outcome_tests", seed)?;
-    let missing = findings.counts.demand(&situations::all());
-    let differing = findings.differences.len();
-    let failed = differing + missing;
-    println!("{} passed, {failed} failed", cases.count() - differing);
-    Ok(failed == 0)
+    })
 }
 
 /// Makes all calls on one table.

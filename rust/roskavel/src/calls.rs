@@ -2,8 +2,10 @@
 //!
 //! A slice is passed as its pointer and its length. The pointer of a slice is never null, not
 //! even of an empty one, and slices that are lent mutably overlap no other, as the archive asks.
-//! It reads and writes within the slices and the figures alone, keeps no pointer and has no
-//! state.
+//! It reads and writes within the slices, the figures and the desk alone, keeps no pointer and
+//! has no state.
+
+use crate::{Refusal, Sight};
 
 /// What a call gives, by the places below; a place that the call or its outcome does not name
 /// is 0.
@@ -24,6 +26,20 @@ pub const WATCHED: usize = 2;
 pub const PILE_LENGTH: usize = 3;
 pub const STATES: usize = 4;
 pub const REST: usize = 8;
+
+/// The archive's desk. Only an opening that is not refused makes one and only the calls below
+/// change it, as the archive asks.
+#[repr(C)]
+#[derive(Clone)]
+pub struct RawDesk([u64; 1_013]);
+
+/// What opening a desk gives: the number of the refusal and its place, or 0 and the desk.
+#[repr(C)]
+struct Opening {
+    desk: RawDesk,
+    number: u8,
+    place: usize,
+}
 
 unsafe extern "C" {
     fn roskavel_answer(
@@ -57,6 +73,12 @@ unsafe extern "C" {
         scratch_length: usize,
         figures: *mut Figures,
     );
+    fn roskavel_desk_open(table: *const u8, table_length: usize) -> Opening;
+    fn roskavel_desk_fire(desk: *mut RawDesk, rule: u16) -> u8;
+    fn roskavel_desk_save(desk: *mut RawDesk, name: u8) -> u8;
+    fn roskavel_desk_return(desk: *mut RawDesk, name: u8) -> u8;
+    fn roskavel_desk_forget(desk: *mut RawDesk, name: u8) -> u8;
+    fn roskavel_desk_look(desk: *const RawDesk) -> Sight;
 }
 
 pub fn answer(table: &[u8], log: &mut [u8], scratch: &mut [u8]) -> Figures {
@@ -112,4 +134,38 @@ pub fn walk(table: &[u8], rules: &[u16], pile: &mut [u8], scratch: &mut [u8]) ->
         );
     }
     figures
+}
+
+pub fn open(table: &[u8]) -> Result<RawDesk, Refusal> {
+    // SAFETY: pointer and length are those of a slice, which is only read.
+    let opening = unsafe { roskavel_desk_open(table.as_ptr(), table.len()) };
+    Refusal::check(usize::from(opening.number), opening.place)?;
+    Ok(opening.desk)
+}
+
+// The calls that change a desk give the number of the refusal, 0 if there is none.
+
+pub fn fire(desk: &mut RawDesk, rule: u16) -> u8 {
+    // SAFETY: the desk is one that an opening gave, and nothing else has changed it.
+    unsafe { roskavel_desk_fire(desk, rule) }
+}
+
+pub fn save(desk: &mut RawDesk, name: u8) -> u8 {
+    // SAFETY: as for fire.
+    unsafe { roskavel_desk_save(desk, name) }
+}
+
+pub fn return_to(desk: &mut RawDesk, name: u8) -> u8 {
+    // SAFETY: as for fire.
+    unsafe { roskavel_desk_return(desk, name) }
+}
+
+pub fn forget(desk: &mut RawDesk, name: u8) -> u8 {
+    // SAFETY: as for fire.
+    unsafe { roskavel_desk_forget(desk, name) }
+}
+
+pub fn look(desk: &RawDesk) -> Sight {
+    // SAFETY: as for fire; the desk is only read.
+    unsafe { roskavel_desk_look(desk) }
 }

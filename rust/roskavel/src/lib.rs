@@ -2,12 +2,13 @@
 //!
 //! A table is a string of bytes. It lists processes, letters, rules, an automaton for the set of
 //! configurations to watch, and a start. [`answer`] says whether some run leads from the start
-//! into the watched set, [`run`] gives such a run, and [`walk`] follows a list of rules.
+//! into the watched set, [`run`] gives such a run, and [`walk`] follows a list of rules. At a
+//! [`Desk`] rules are fired one by one, with configurations saved under names to return to.
 //!
-//! The calls work in buffers that the caller lends, of any length and with anything in them;
-//! they allocate nothing. What does not serve is refused, with a cause and a place. Refusals by
-//! the table (causes 1 to 9) or by [`Cause::ShortScratch`] change no buffer; every other return
-//! leaves the scratch zero.
+//! The three calls work in buffers that the caller lends, of any length and with anything in
+//! them; nothing allocates. What does not serve is refused, with a cause and a place. Refusals
+//! by the table (causes 1 to 9) or by [`Cause::ShortScratch`] change no buffer; every other
+//! return leaves the scratch zero.
 //!
 //! # Example
 //!
@@ -46,6 +47,9 @@
 //! ```
 
 mod calls;
+mod desk;
+
+pub use desk::{DESK_PILE, Desk, NAMES, Sight};
 
 use calls::Figures;
 use std::error::Error;
@@ -81,7 +85,7 @@ pub const fn scratch_bytes(log_length: usize) -> usize {
 }
 
 /// Why a call is refused, with document 01's number. Where nothing else is said, the place is
-/// the offset of an item in the table.
+/// the offset of an item in the table. The place of a refusal at an open [`Desk`] is 0.
 #[derive(Clone, Copy, PartialEq, Eq, Debug)]
 pub enum Cause {
     /// The table ends in an item, or before the end item (place: the table's length).
@@ -106,21 +110,25 @@ pub enum Cause {
     ShortLog = 10,
     /// The run has more steps than the page has places, or than [`STEP_CEILING`]; 0.
     LongRun = 11,
-    /// A rule of the list does not fire; its step, from 0.
+    /// A rule does not fire; its step in the list, from 0.
     IdleRule = 12,
     /// The table has no rule of this number; its step.
     NoRule = 13,
-    /// The pile outgrows its buffer; its step, or 0 for the start pile.
+    /// The pile outgrows its buffer, or [`DESK_PILE`] letters; its step, or 0 for the start pile.
     FullPile = 14,
     /// The scratch is too short; 0.
     ShortScratch = 15,
     /// A run is asked for, but none leads into the watched set; 0.
     NoRun = 16,
+    /// The desk holds no configuration of this name; 0.
+    EmptyName = 17,
+    /// The name is not below [`NAMES`]; 0.
+    BadName = 18,
 }
 
 impl Cause {
     /// All causes by number, from 1.
-    pub const ALL: [Cause; 16] = [
+    pub const ALL: [Cause; 18] = [
         Cause::Cut,
         Cause::Stranger,
         Cause::Turn,
@@ -137,9 +145,11 @@ impl Cause {
         Cause::FullPile,
         Cause::ShortScratch,
         Cause::NoRun,
+        Cause::EmptyName,
+        Cause::BadName,
     ];
 
-    /// The number of the cause, from 1 to 16.
+    /// The number of the cause, from 1 to 18.
     pub const fn number(self) -> u8 {
         self as u8
     }
@@ -155,11 +165,19 @@ pub struct Refusal {
 impl Refusal {
     /// The refusal that the figures tell, if they tell one.
     fn of(figures: &Figures) -> Option<Refusal> {
-        let index = figures[calls::REFUSAL].checked_sub(1)?;
-        Some(Refusal {
-            cause: Cause::ALL[index as usize],
-            place: figures[calls::PLACE] as usize,
-        })
+        let [number, place] = [calls::REFUSAL, calls::PLACE].map(|at| figures[at] as usize);
+        Refusal::check(number, place).err()
+    }
+
+    /// Refused, unless the number of the cause is 0.
+    fn check(number: usize, place: usize) -> Result<(), Refusal> {
+        match number.checked_sub(1) {
+            None => Ok(()),
+            Some(index) => Err(Refusal {
+                cause: Cause::ALL[index],
+                place,
+            }),
+        }
     }
 }
 

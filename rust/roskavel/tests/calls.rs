@@ -1,7 +1,7 @@
-//! The calls on table T and on empty slices, and the sizes of buffers.
+//! The calls on table T and on empty slices, the sizes of buffers, and a desk.
 
-use roskavel::{Answer, Cause, Refusal, Run, Walk, answer, run, scratch_bytes, walk};
-use tables::named;
+use roskavel::{Answer, Cause, Desk, Refusal, Run, Walk, answer, run, scratch_bytes, walk};
+use tables::{Table, named};
 
 const DIRT: u8 = 0xA5;
 
@@ -73,4 +73,62 @@ fn a_refused_walk_hands_back_the_callers_list() {
     assert!(std::ptr::eq(rest, &list[2..]));
     assert_eq!(pile, [2, 0, 0, 0]);
     assert_eq!(scratch, [0; roskavel::WALK_SCRATCH]);
+}
+
+/// The first two processes' states, and the pile.
+fn sight(desk: &Desk) -> ([u8; 2], Vec<u8>) {
+    let sight = desk.look();
+    assert_eq!(sight.states[2..], [255, 255]);
+    ([sight.states[0], sight.states[1]], sight.pile().to_vec())
+}
+
+fn refused(cause: Cause) -> Result<(), Refusal> {
+    Err(refusal(cause, 0))
+}
+
+#[test]
+fn a_desk_fires_and_returns() {
+    let mut desk = Desk::open(&named::t().bytes()).unwrap();
+    assert_eq!(sight(&desk), ([0, 0], vec![0]));
+    assert_eq!(desk.fire(1), refused(Cause::IdleRule));
+    assert_eq!(desk.fire(3), refused(Cause::NoRule));
+    assert_eq!(desk.fire(0), Ok(()));
+    assert_eq!(desk.save(7), Ok(()));
+    assert_eq!(desk.fire(2), Ok(()));
+    let mut other = desk.clone();
+    assert_eq!(desk.fire(1), Ok(()));
+    assert_eq!(sight(&desk), ([1, 1], vec![]));
+    assert_eq!(desk.return_to(7), Ok(()));
+    assert_eq!(desk.forget(7), Ok(()));
+    assert_eq!(sight(&desk), ([0, 0], vec![1, 2]));
+    assert_eq!(desk.return_to(7), refused(Cause::EmptyName));
+    assert_eq!(desk.forget(7), refused(Cause::EmptyName));
+    // The clone stands where the desk stood, and holds what it held.
+    assert_eq!(sight(&other), ([0, 1], vec![1]));
+    assert_eq!(other.return_to(7), Ok(()));
+    assert_eq!(other.look(), desk.look());
+    let text = "Desk(Sight { states: [0, 0, 255, 255], pile: [1, 2] })";
+    assert_eq!(format!("{other:?}"), text);
+}
+
+#[test]
+fn a_desk_refuses() {
+    let opened = Desk::open(&named::re_entry().bytes());
+    assert_eq!(opened.unwrap_err(), refusal(Cause::ReEntry, 22));
+    assert_eq!(Desk::open(&[]).unwrap_err(), refusal(Cause::Cut, 0));
+    let mut table = Table::new(1, 1, 1);
+    let letter = table.letter(1);
+    table.rule(letter, [0; 4], [0; 4], &[letter; 4]);
+    table.pile.push(letter);
+    let mut desk = Desk::open(&table.bytes()).unwrap();
+    while desk.look().pile().len() < roskavel::DESK_PILE {
+        assert_eq!(desk.fire(0), Ok(()));
+    }
+    assert_eq!(desk.fire(0), refused(Cause::FullPile));
+    assert_eq!(desk.look().pile(), [letter; 256]);
+    for name in [roskavel::NAMES, 255] {
+        assert_eq!(desk.save(name), refused(Cause::BadName));
+        assert_eq!(desk.return_to(name), refused(Cause::BadName));
+        assert_eq!(desk.forget(name), refused(Cause::BadName));
+    }
 }

@@ -1,11 +1,14 @@
 //! A second engine for document 01, of independent make: reachability of cooperating
-//! multi-pushdown systems by saturation of a watch automaton. Every call works on tables of any
-//! bytes and on buffers of any length.
+//! multi-pushdown systems by saturation of a watch automaton, and the desk of request 2.1. Every
+//! call works on tables of any bytes and on buffers of any length.
 
+mod desk;
 mod group;
 mod saturation;
 mod table;
 mod walk;
+
+pub use desk::{DESK_PILE, Desk, NAMES};
 
 use saturation::{Limit, Record, STEPS_CAP};
 use table::Table;
@@ -205,7 +208,7 @@ fn open_walk(table: &[u8], room: usize, scratch: &mut [u8]) -> Result<Table, Ref
     Ok(table)
 }
 
-/// One step of a walk, or the number of its refusal; refused, nothing has changed.
+/// One step of a walk or a desk, or the number of its refusal; refused, nothing has changed.
 fn take_step(table: &Table, at: &mut Configuration, number: u16, room: usize) -> Result<(), u8> {
     let rule = table.rules.get(usize::from(number)).ok_or(NO_RULE)?;
     let index = at.redex(table, rule).ok_or(IDLE_RULE)?;

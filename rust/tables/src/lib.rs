@@ -9,5 +9,5 @@ pub mod random;
 mod model;
 mod rng;
 
-pub use model::{Group, NO_PART, Process, Rule, Table, Transition, group, restrict};
+pub use model::{Group, NO_PART, Process, Rule, Table, Transition, drop_twin, group, restrict};
 pub use rng::Rng;

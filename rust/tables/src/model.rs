@@ -144,7 +144,7 @@ pub fn restrict(group: Group, bits: u8) -> Group {
 }
 
 /// Takes the last item back if the items held it before.
-pub(crate) fn drop_twin<T: PartialEq>(items: &mut Vec<T>) {
+pub fn drop_twin<T: PartialEq>(items: &mut Vec<T>) {
     if let Some((last, others)) = items.split_last()
         && others.contains(last)
     {

@@ -3,6 +3,7 @@
 mod brute_force;
 mod buffers;
 mod calls;
+mod desk;
 mod large;
 mod naive;
 mod reader;

@@ -1,0 +1,4 @@
+pub mod Accounts
+pub mod Moving
+pub mod Opening
+pub mod Types

@@ -1,0 +1,21 @@
+-- What the desk's calls for C and Rust answer and leave.
+use mathlib.Core.Path.{_≡_}
+use mathlib.Core.List.{List}
+use Prim.Native.Nat.{ℕ}
+use Rattle.model.specs.Desks.{Call, openTold, toldPlace, toldRefusal}
+use Rattle.model.specs.Tables.{read}
+use Rattle.desk.specs.declared.Desk.{Desk}
+use Rattle.desk.specs.Promises.{Good, Leaves, Opened, noDesk, outcomeOf}
+use Rattle.exports.specs.declared.desks.Opening.{Opening}
+
+-- the number of the refusal, 0 if there is none, and the desk as the call leaves it
+pub record DeskAnswers (c : Call) (d : Desk) (number : ℕ) (d′ : Desk) : Type 0 where
+  pub answer : number ≡ toldRefusal (outcomeOf c d .told)
+  pub leaves : Leaves c d d′
+
+-- the number and the place of the table's refusal, 0 and 0 if there is none; a desk exactly then
+pub record DeskOpens (bytes : List ℕ) (o : Opening) : Type 0 where
+  pub number : o .number ≡ toldRefusal (openTold (read bytes))
+  pub place : o .place ≡ toldPlace (openTold (read bytes))
+  pub desk : o .number ≡ 0 → Opened bytes (o .desk)
+  pub no-desk : (o .number ≡ 0 → ⊥) → (o .desk ≡ noDesk) × (Good (o .desk) → ⊥)

@@ -1,0 +1,116 @@
+// The desk for C and Rust: its owner holds it and lends it by a pointer. Each call answers with the number of the refusal, 0 if there is none.
+use desk::Desk;
+use desk::Sight;
+use desk::fired;
+use desk::forgotten;
+use desk::looked;
+use desk::open;
+use desk::returned;
+use desk::saved;
+use model::Told;
+ghost use mathlib.Core.Path.{_≡_};
+ghost use Rattle.model.specs.Desks.{fires, saves, returns, forgets, toldRefusal, toldPlace};
+ghost use Rattle.desk.specs.Promises.{Good, shown, sightOf};
+ghost use Rattle.exports.specs.DeskCalls.{DeskAnswers, DeskOpens};
+
+// What opening gives: a desk, or the number and the place of the refusal; then the desk is none.
+#[repr(C)]
+pub struct Opening {
+    pub desk: Desk,
+    pub number: u8,
+    pub place: usize,
+}
+
+fn number_of(told: Told) -> u8
+    ensures { λ r. ⌜ r ≡ toldRefusal told ⌝ }
+{
+    match told {
+        Told::Done => {
+            return 0;
+        }
+        Told::Refused { number, place } => {
+            return number;
+        }
+    }
+}
+
+fn place_of(told: Told) -> usize
+    ensures { λ r. ⌜ r ≡ toldPlace told ⌝ }
+{
+    match told {
+        Told::Done => {
+            return 0;
+        }
+        Told::Refused { number, place } => {
+            return place;
+        }
+    }
+}
+
+// Opens a desk on the table. Refused by 1 to 9.
+#[no_mangle]
+pub extern "C" fn roskavel_desk_open(table: &[u8]) -> Opening
+    ensures { λ r. ⌜ DeskOpens (now (table .entry)) r ⌝ }
+{
+    let next = open(table);
+    let desk = next.desk;
+    let told = next.told;
+    Opening {
+        desk,
+        number: number_of(told),
+        place: place_of(told),
+    }
+}
+
+// Fires a rule. Refused by 13, 12 and 14.
+#[no_mangle]
+pub extern "C" fn roskavel_desk_fire(desk: &mut Desk, rule: u16) -> u8
+    requires { ⌜ Good (now desk) ⌝ }
+    ensures { λ r. ⌜ DeskAnswers (fires rule) (now (desk .entry)) r (now (desk .exit)) ⌝ }
+{
+    let next = fired(*desk, rule);
+    *desk = next.desk;
+    number_of(next.told)
+}
+
+// Saves where the desk stands under a name. Refused by 18.
+#[no_mangle]
+pub extern "C" fn roskavel_desk_save(desk: &mut Desk, name: u8) -> u8
+    requires { ⌜ Good (now desk) ⌝ }
+    ensures { λ r. ⌜ DeskAnswers (saves name) (now (desk .entry)) r (now (desk .exit)) ⌝ }
+{
+    let next = saved(*desk, name);
+    *desk = next.desk;
+    number_of(next.told)
+}
+
+// Returns to what is saved under a name. Refused by 18 and 17.
+#[no_mangle]
+pub extern "C" fn roskavel_desk_return(desk: &mut Desk, name: u8) -> u8
+    requires { ⌜ Good (now desk) ⌝ }
+    ensures { λ r. ⌜ DeskAnswers (returns name) (now (desk .entry)) r (now (desk .exit)) ⌝ }
+{
+    let next = returned(*desk, name);
+    *desk = next.desk;
+    number_of(next.told)
+}
+
+// Forgets a name. Refused by 18 and 17.
+#[no_mangle]
+pub extern "C" fn roskavel_desk_forget(desk: &mut Desk, name: u8) -> u8
+    requires { ⌜ Good (now desk) ⌝ }
+    ensures { λ r. ⌜ DeskAnswers (forgets name) (now (desk .entry)) r (now (desk .exit)) ⌝ }
+{
+    let next = forgotten(*desk, name);
+    *desk = next.desk;
+    number_of(next.told)
+}
+
+// Looks at where the desk stands.
+#[no_mangle]
+pub extern "C" fn roskavel_desk_look(desk: &Desk) -> Sight
+    requires { ⌜ Good (now desk) ⌝ }
+    ensures { λ r. ⌜ r ≡ sightOf (shown (now (desk .entry)) .here) ⌝ }
+{
+    looked(*desk)
+}

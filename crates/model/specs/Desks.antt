@@ -1,0 +1,188 @@
+-- Request 2.1, named situations at the desk: what a desk holds, the checks of its calls, what each call does, and the histories of fires that its calls
+-- note. A situation is a configuration here.
+use mathlib.Core.Path.{_≡_}
+use mathlib.Core.Bool.{Bool, true, false, cond}
+use mathlib.Core.Option.{Option, none, some}
+use mathlib.Core.List.{List, [], _∷_, _++_}
+use Prim.Native.Nat.{ℕ, zero, suc, _≤_}
+use lib.Dec.{ltb, leb}
+use lib.ListN.{length, getD, getElem?, set, replicate}
+use Rattle.model.specs.declared.Told.{Told}
+use Rattle.model.specs.Lists.{valueOr}
+use Rattle.model.specs.Systems.{System, Configuration, walk}
+use Rattle.model.specs.Tables.{Reading, accepted, refused}
+use Rattle.model.specs.Calls.{filled, haltEnd, walkCall, walkScratch, zeros}
+
+-- ---- what a desk holds
+-- "a pile of up to 256 tasks and up to 8 named situations, names 0 to 7"
+abbrev pub deskPile : ℕ
+deskPile = 256
+
+abbrev pub nameCount : ℕ
+nameCount = 8
+
+-- the configuration where it stands, and for each name the one that is saved under it, none if the name is not held
+pub record Contents : Type 0 where
+  pub here : Configuration
+  pub names : List (Option Configuration)
+
+-- "opened once on a table, no name held": it stands at the table's start
+abbrev pub opened : System → Contents
+opened sys = record { here = sys .start; names = replicate nameCount none }
+
+-- "one that meets 1 to 9 is refused so", with the place that reading the table gives
+abbrev pub openTold : Reading → Told
+openTold (accepted items) = Told.Done
+openTold (refused number place) = Told.Refused number place
+
+-- ---- its calls
+-- "It fires a rule, saves under a name, returns to a name and forgets a name."
+pub data Call : Type 0 where
+  fires : ℕ → Call
+  saves : ℕ → Call
+  returns : ℕ → Call
+  forgets : ℕ → Call
+
+-- the rule that a call is about, the name, and the name that has to be held
+abbrev pub ruleAsked : Call → Option ℕ
+ruleAsked (fires n) = some n
+ruleAsked (saves a) = none
+ruleAsked (returns a) = none
+ruleAsked (forgets a) = none
+
+abbrev pub nameAsked : Call → Option ℕ
+nameAsked (fires n) = none
+nameAsked (saves a) = some a
+nameAsked (returns a) = some a
+nameAsked (forgets a) = some a
+
+abbrev pub heldAsked : Call → Option ℕ
+heldAsked (fires n) = none
+heldAsked (saves a) = none
+heldAsked (returns a) = some a
+heldAsked (forgets a) = some a
+
+-- where firing rule n leads, and what is saved under the name a
+abbrev pub firedTo : System → Contents → ℕ → Option Configuration
+firedTo sys s n = walk sys (n ∷ []) (s .here)
+
+abbrev pub named : Contents → ℕ → Option Configuration
+named s a = getD (s .names) a none
+
+-- ---- the checks
+pub record Check : Type 0 where
+  pub number : ℕ
+  pub stops : Bool
+
+abbrev pub isMissing : {A : Type 0} → Option A → Bool
+isMissing none = true
+isMissing (some x) = false
+
+abbrev pub isHigh : Configuration → Bool
+isHigh c = ltb deskPile (length (c .word))
+
+-- a check stops a call if its test holds of what the call is about; a call that has no such thing it does not stop
+abbrev pub stopsAt : Option ℕ → (ℕ → Bool) → Bool
+stopsAt x test = valueOr false test x
+
+-- In their order: 13, no rule of this number; 18, bad name, above 7; 17, empty name, not held; 12, the rule doesn't fire; 14, more than 256 tasks after it.
+unfoldable pub checks : System → Contents → Call → List Check
+checks sys s c =
+    record { number = 13; stops = stopsAt (ruleAsked c) (λ (n : ℕ). isMissing (getElem? (sys .rules) n)) }
+    ∷ record { number = 18; stops = stopsAt (nameAsked c) (λ (a : ℕ). leb nameCount a) }
+    ∷ record { number = 17; stops = stopsAt (heldAsked c) (λ (a : ℕ). isMissing (named s a)) }
+    ∷ record { number = 12; stops = stopsAt (ruleAsked c) (λ (n : ℕ). isMissing (firedTo sys s n)) }
+    ∷ record { number = 14; stops = stopsAt (ruleAsked c) (λ (n : ℕ). valueOr false isHigh (firedTo sys s n)) }
+    ∷ []
+
+-- the number of the first check that stops the call, 0 if none does
+abbrev pub firstStop : List Check → ℕ
+firstStop [] = 0
+firstStop (k ∷ ks) = cond (k .stops) (k .number) (firstStop ks)
+
+-- ---- what a call does that no check stops
+abbrev pub movedTo : Contents → Configuration → Contents
+movedTo s c = record { here = c; names = s .names }
+
+abbrev pub renamed : Contents → ℕ → Option Configuration → Contents
+renamed s a x = record { here = s .here; names = set (s .names) a x }
+
+-- "Saving over a name replaces it"; after a return "every name stays held"
+abbrev pub after : System → Contents → Call → Contents
+after sys s (fires n) = valueOr s (movedTo s) (firedTo sys s n)
+after sys s (saves a) = renamed s a (some (s .here))
+after sys s (returns a) = valueOr s (movedTo s) (named s a)
+after sys s (forgets a) = renamed s a none
+
+-- ---- what a call comes to: what it tells, and what the desk holds after it
+pub record DeskOutcome : Type 0 where
+  pub told : Told
+  pub contents : Contents
+
+-- "A refused call changes nothing", and its place is 0
+abbrev pub outcome : ℕ → Contents → Contents → DeskOutcome
+outcome zero s t = record { told = Told.Done; contents = t }
+outcome (suc n) s t = record { told = Told.Refused (suc n) 0; contents = s }
+
+unfoldable pub deskCall : System → Contents → Call → DeskOutcome
+deskCall sys s c = outcome (firstStop (checks sys s c)) s (after sys s c)
+
+-- the refusal's number, 0 if there is none, and its place
+abbrev pub toldRefusal : Told → ℕ
+toldRefusal Told.Done = 0
+toldRefusal (Told.Refused number place) = number
+
+abbrev pub toldPlace : Told → ℕ
+toldPlace Told.Done = 0
+toldPlace (Told.Refused number place) = place
+
+-- what a desk holds after a sequence of calls
+abbrev pub deskCalls : System → Contents → List Call → Contents
+deskCalls sys s [] = s
+deskCalls sys s (c ∷ cs) = deskCalls sys (deskCall sys s c .contents) cs
+
+-- ---- the histories of fires
+-- the current one, and for each name the one that is noted under it
+pub record Histories : Type 0 where
+  pub current : List ℕ
+  pub noted : List (Option (List ℕ))
+
+abbrev pub unwritten : Histories
+unwritten = record { current = []; noted = replicate nameCount none }
+
+-- "A save notes the current history of fires; a return makes the noted history the current one, and every name stays held."
+abbrev pub noteCall : Histories → Call → Histories
+noteCall h (fires n) = record { current = h .current ++ (n ∷ []); noted = h .noted }
+noteCall h (saves a) = record { current = h .current; noted = set (h .noted) a (some (h .current)) }
+noteCall h (returns a) = record { current = valueOr (h .current) (λ (ns : List ℕ). ns) (getD (h .noted) a none); noted = h .noted }
+noteCall h (forgets a) = record { current = h .current; noted = set (h .noted) a none }
+
+-- a refused call notes nothing
+abbrev pub note : Told → Histories → Call → Histories
+note Told.Done h c = noteCall h c
+note (Told.Refused number place) h c = h
+
+abbrev pub noteCalls : System → Contents → Histories → List Call → Histories
+noteCalls sys s h [] = h
+noteCalls sys s h (c ∷ cs) = noteCalls sys (deskCall sys s c .contents) (note (deskCall sys s c .told) h c) cs
+
+-- ---- the claim
+-- A walk of the history on the table leads to c: the history is a run, and the walk call, with any pile of 256 bytes and any scratch that serves, is not
+-- refused, gives the states of c and leaves the word of c.
+pub record Leads (table : List ℕ) (sys : System) (ns : List ℕ) (c : Configuration) : Type 0 where
+  pub run : walk sys ns (sys .start) ≡ some c
+  pub call : (pile scratch : List ℕ) → length pile ≡ deskPile → walkScratch ≤ length scratch
+      → walkCall table ns pile scratch ≡ record { answer = haltEnd sys c .answer; rest = []; pile = filled (c .word) pile; scratch = zeros scratch }
+
+-- a name is held exactly if a history is noted under it, and that leads to what is saved
+abbrev pub Noted : (List ℕ → Configuration → Type 0) → Option (List ℕ) → Option Configuration → Type 0
+Noted To none none = Unit {0}
+Noted To none (some c) = ⊥
+Noted To (some ns) none = ⊥
+Noted To (some ns) (some c) = To ns c
+
+-- The histories lead to what the desk holds: "the desk stands where a walk of its current history stands", and so does each name. `To` says where a history
+-- leads.
+pub record HistoriesLead (To : List ℕ → Configuration → Type 0) (h : Histories) (s : Contents) : Type 0 where
+  pub here : To (h .current) (s .here)
+  pub names : (a : ℕ) → Noted To (getD (h .noted) a none) (named s a)

@@ -1,0 +1,92 @@
+//! Sequences of calls at a desk, and what the second engine's desk gives for them.
+
+use second_engine::Desk;
+use tables::{Rng, Table, group};
+
+/// A call with its rule or its name.
+#[derive(Clone, Copy)]
+pub enum DeskCall {
+    Fire(u16),
+    Save(u8),
+    Return(u8),
+    Forget(u8),
+}
+
+/// The rules of the list fired in turn, with calls about names in between.
+pub fn random(rng: &mut Rng, rules: &[u16]) -> Vec<DeskCall> {
+    let mut calls = Vec::new();
+    for &rule in rules {
+        for _ in 0..rng.below(4) {
+            calls.push(about_a_name(rng));
+        }
+        calls.push(DeskCall::Fire(rule));
+    }
+    calls.push(about_a_name(rng));
+    calls.push(DeskCall::Return(rng.below(2) as u8));
+    calls
+}
+
+/// Mostly one of two names, at times the last one or a bad one.
+fn about_a_name(rng: &mut Rng) -> DeskCall {
+    let name = *rng.pick(&[0, 0, 0, 1, 1, 7, 8, 255]);
+    *rng.pick(&[
+        DeskCall::Save(name),
+        DeskCall::Save(name),
+        DeskCall::Return(name),
+        DeskCall::Forget(name),
+    ])
+}
+
+/// A pile of 64 letters is brought to 256 by rule 0. Then rule 0, which would add three letters, and
+/// rule 1, which would add one, are refused, and rule 2, which adds none, fires.
+pub fn filling() -> (Table, Vec<DeskCall>) {
+    let mut table = Table::new(1, 1, 1);
+    let letter = table.letter(1);
+    let state = group(&[0]);
+    for count in [4, 2, 1] {
+        table.rule(letter, state, state, &vec![letter; count]);
+    }
+    table.pile = vec![letter; 64];
+    let mut calls = vec![DeskCall::Fire(0); 64];
+    calls.extend([0, 1, 2].map(DeskCall::Fire));
+    (table, calls)
+}
+
+/// The calls as the definitions name them.
+pub fn text(calls: &[DeskCall]) -> String {
+    let items = calls.iter().map(|call| match call {
+        DeskCall::Fire(rule) => format!("fires {rule} ∷ "),
+        DeskCall::Save(name) => format!("saves {name} ∷ "),
+        DeskCall::Return(name) => format!("returns {name} ∷ "),
+        DeskCall::Forget(name) => format!("forgets {name} ∷ "),
+    });
+    format!("({}[])", items.collect::<String>())
+}
+
+/// Number and place of the opening's refusal, 0 and 0 if there is none; then for each call the
+/// refusal's number and where the desk stands after it, states and word.
+pub fn trace(table: &[u8], calls: &[DeskCall]) -> Vec<Vec<u64>> {
+    let mut desk = match Desk::open(table) {
+        Ok(desk) => desk,
+        Err(refusal) => return vec![vec![u64::from(refusal.number), refusal.place as u64]],
+    };
+    let mut lists = vec![vec![0, 0]];
+    for &call in calls {
+        let given = match call {
+            DeskCall::Fire(rule) => desk.fire(rule),
+            DeskCall::Save(name) => desk.save(name),
+            DeskCall::Return(name) => desk.return_to(name),
+            DeskCall::Forget(name) => desk.forget(name),
+        };
+        let number = given.err().map_or(0, |refusal| refusal.number);
+        let standing = desk.states().into_iter().chain(desk.pile());
+        lists.push(
+            [number]
+                .into_iter()
+                .chain(standing)
+                .map(u64::from)
+                .collect(),
+        );
+    }
+    lists
+}

@@ -1,0 +1,102 @@
+//! A desk of each engine, called alike: what they give and where they stand.
+
+use second_engine::Refusal;
+use std::fmt::Debug;
+
+/// A call that changes a desk.
+#[derive(Clone, Copy, PartialEq, Eq, Debug)]
+pub enum Call {
+    Fire(u16),
+    Save(u8),
+    Return(u8),
+    Forget(u8),
+}
+
+impl Call {
+    pub fn name(self) -> &'static str {
+        match self {
+            Call::Fire(_) => "fire",
+            Call::Save(_) => "save",
+            Call::Return(_) => "return",
+            Call::Forget(_) => "forget",
+        }
+    }
+}
+
+/// Where a desk stands.
+#[derive(Clone, PartialEq, Eq, Debug)]
+pub struct Stand {
+    pub states: [u8; 4],
+    /// The whole pile, top first.
+    pub pile: Vec<u8>,
+}
+
+/// Two desks on one table. Where they differ, a call fails with the text of the difference.
+pub struct Desks {
+    ours: roskavel::Desk,
+    pub second: second_engine::Desk,
+}
+
+impl Desks {
+    /// Opens both desks, or gives the refusal of both.
+    pub fn open(table: &[u8]) -> Result<Result<Desks, Refusal>, String> {
+        let ours = roskavel::Desk::open(table).map_err(refusal_of);
+        let second = second_engine::Desk::open(table);
+        match (ours, second) {
+            (Ok(ours), Ok(second)) => Ok(Ok(Desks { ours, second })),
+            (Err(ours), Err(second)) if ours == second => Ok(Err(ours)),
+            (ours, second) => Err(difference("opening", ours.err(), second.err())),
+        }
+    }
+
+    /// Makes a call at both desks; gives their refusal, if they refuse it.
+    pub fn call(&mut self, call: Call) -> Result<Option<Refusal>, String> {
+        let ours = match call {
+            Call::Fire(rule) => self.ours.fire(rule),
+            Call::Save(name) => self.ours.save(name),
+            Call::Return(name) => self.ours.return_to(name),
+            Call::Forget(name) => self.ours.forget(name),
+        };
+        let second = match call {
+            Call::Fire(rule) => self.second.fire(rule),
+            Call::Save(name) => self.second.save(name),
+            Call::Return(name) => self.second.return_to(name),
+            Call::Forget(name) => self.second.forget(name),
+        };
+        same("refusal", ours.err().map(refusal_of), second.err())
+    }
+
+    /// Where both desks stand.
+    pub fn stand(&self) -> Result<Stand, String> {
+        let sight = self.ours.look();
+        let ours = Stand {
+            states: sight.states,
+            pile: sight.pile().to_vec(),
+        };
+        let second = Stand {
+            states: self.second.states(),
+            pile: self.second.pile(),
+        };
+        same("standing", ours, second)
+    }
+}
+
+/// What both engines have, or the text of their difference.
+fn same<T: PartialEq + Debug>(what: &str, ours: T, second: T) -> Result<T, String> {
+    if ours == second {
+        Ok(ours)
+    } else {
+        Err(difference(what, ours, second))
+    }
+}
+
+fn difference(what: &str, ours: impl Debug, second: impl Debug) -> String {
+    format!("{what}\nours   {ours:?}\nsecond {second:?}\n")
+}
+
+fn refusal_of(refusal: roskavel::Refusal) -> Refusal {
+    Refusal {
+        number: refusal.cause.number(),
+        place: refusal.place,
+    }
+}

@@ -1,0 +1,54 @@
+//! Compares the proved engine's desk with the second engine's in random sequences of calls on
+//! named, random and damaged tables: what every call gives, and the states and the whole pile
+//! after it. Argument: a seed.
+//!
+//! It fails too if a situation that it is for was never met.
+
+mod choice;
+mod desks;
+mod growth;
+mod histories;
+mod sequence;
+mod situations;
+
+use comparison::{Case, Cases, Counts, Program};
+use desks::Desks;
+use sequence::Sequence;
+use std::io;
+use std::process::ExitCode;
+use tables::Rng;
+
+const NAME: &str = "desk_tests";
+/// How many random tables, and how many damaged ones. Each accepted one has a sequence.
+const EACH: usize = 20_000;
+
+fn main() -> ExitCode {
+    comparison::with_seed(NAME, compare)
+}
+
+/// Compares all cases and reports; true if none differs and no situation is missing.
+fn compare(seed: u64) -> io::Result<bool> {
+    let program = Program {
+        name: NAME,
+        seed,
+        situations: situations::all(),
+    };
+    let cases = Cases::made_by(growth::random_table, seed, EACH);
+    program.compare(&cases, || {
+        |case: &Case, counts: &mut Counts| Ok(compare_one(case, counts).err())
+    })
+}
+
+/// Opens both desks on one table and makes a sequence of calls.
+fn compare_one(case: &Case, counts: &mut Counts) -> Result<(), String> {
+    let desks = match Desks::open(&case.bytes)? {
+        Ok(desks) => desks,
+        Err(refusal) => {
+            counts.meet(situations::refused("opening", refusal.number));
+            return Ok(());
+        }
+    };
+    counts.meet(situations::SEQUENCES);
+    let mut sequence = Sequence::new(&case.bytes, desks, counts)?;
+    sequence.run(&mut Rng::new(!case.seed))
+}

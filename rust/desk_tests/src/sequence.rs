@@ -1,0 +1,128 @@
+//! A sequence of calls at both desks.
+
+use crate::choice::any_call;
+use crate::desks::{Call, Desks, Stand};
+use crate::histories::Histories;
+use crate::situations::Step;
+use comparison::Counts;
+use second_engine::{DESK_PILE, NAMES, Refusal, WALK_SCRATCH, Walk, walk};
+use tables::Rng;
+
+/// The most calls on the way to a full pile, and the most other calls.
+const CLIMB: usize = 400;
+const CALLS: usize = 60;
+/// What the pile buffer of a walk holds before.
+const DIRT: u8 = 0xA5;
+
+pub struct Sequence<'t> {
+    table: &'t [u8],
+    desks: Desks,
+    /// Where the desks stand.
+    stand: Stand,
+    /// How many letters each rule writes.
+    written: Vec<usize>,
+    histories: Histories,
+    /// All calls so far.
+    calls: Vec<Call>,
+    counts: &'t mut Counts,
+}
+
+impl<'t> Sequence<'t> {
+    pub fn new(table: &'t [u8], desks: Desks, counts: &'t mut Counts) -> Result<Self, String> {
+        Ok(Sequence {
+            table,
+            stand: desks.stand()?,
+            written: desks.second.written(),
+            desks,
+            histories: Histories::default(),
+            calls: Vec::new(),
+            counts,
+        })
+    }
+
+    /// Makes random calls, then returns to every name, up to the first difference.
+    pub fn run(&mut self, rng: &mut Rng) -> Result<(), String> {
+        let made = self.make_calls(rng);
+        made.map_err(|text| format!("{text}calls {:?}\n", self.calls))
+    }
+
+    fn make_calls(&mut self, rng: &mut Rng) -> Result<(), String> {
+        if rng.chance(1, 3) {
+            self.climb(rng)?;
+        }
+        for _ in 0..rng.below(CALLS) {
+            self.any_call(rng)?;
+        }
+        self.check_walk()?;
+        for name in 0..NAMES as u8 {
+            self.call(Call::Return(name))?;
+        }
+        self.check_walk()
+    }
+
+    /// Fires rules that write more letters than the one they remove, with other calls between,
+    /// until the pile is full or none fires.
+    fn climb(&mut self, rng: &mut Rng) -> Result<(), String> {
+        for _ in 0..CLIMB {
+            let mut adding = self.desks.second.firing();
+            adding.retain(|&rule| self.written[usize::from(rule)] > 1);
+            if adding.is_empty() {
+                break;
+            }
+            if rng.chance(1, 16) {
+                self.any_call(rng)?;
+            } else if self.call(Call::Fire(*rng.pick(&adding)))?.is_some() {
+                break;
+            }
+        }
+        Ok(())
+    }
+
+    fn any_call(&mut self, rng: &mut Rng) -> Result<Option<Refusal>, String> {
+        let firing = self.desks.second.firing();
+        self.call(any_call(rng, self.written.len(), &firing))
+    }
+
+    /// Makes a call at both desks. They stay where they stand unless a rule fires or they return.
+    fn call(&mut self, call: Call) -> Result<Option<Refusal>, String> {
+        self.calls.push(call);
+        let refusal = self.desks.call(call)?;
+        let stand = self.desks.stand()?;
+        let leads = refusal.is_none() && matches!(call, Call::Fire(_) | Call::Return(_));
+        if !leads && stand != self.stand {
+            return Err(format!("from {:?}\nto {stand:?}\n", self.stand));
+        }
+        let step = Step {
+            call,
+            refusal,
+            before: &self.stand,
+            after: &stand,
+            histories: &self.histories,
+            written: &self.written,
+        };
+        step.count(self.counts);
+        if refusal.is_none() {
+            self.histories.keep(call);
+        }
+        self.stand = stand;
+        Ok(refusal)
+    }
+
+    /// The second engine's walk of the current history ends where the desks stand.
+    fn check_walk(&self) -> Result<(), String> {
+        let mut pile = [DIRT; DESK_PILE];
+        let list = &self.histories.current;
+        let walked = walk(self.table, list, &mut pile, &mut [DIRT; WALK_SCRATCH]);
+        match walked {
+            Walk::Walked { states, length, .. }
+                if states == self.stand.states && pile[..length] == self.stand.pile =>
+            {
+                Ok(())
+            }
+            _ => Err(format!(
+                "walk {walked:?}\npile {pile:?}\ndesk {:?}\nhistory {list:?}\n",
+                self.stand
+            )),
+        }
+    }
+}

@@ -1,0 +1,240 @@
+//! The desk of request 2.1.
+
+use crate::calls::Seed;
+use crate::naive::Configuration;
+use second_engine::{DESK_PILE, Desk, NAMES, Refusal};
+use tables::random::{self, Shape};
+use tables::{NO_PART, Rng, Table, damage, named};
+
+fn opened(table: &Table) -> Desk {
+    Desk::open(&table.bytes()).expect("an accepted table")
+}
+
+fn refused(number: u8) -> Result<(), Refusal> {
+    Err(Refusal { number, place: 0 })
+}
+
+/// The first two processes' states, and the pile.
+fn sight(desk: &Desk) -> ([u8; 2], Vec<u8>) {
+    let [first, second, ..] = desk.states();
+    ([first, second], desk.pile())
+}
+
+/// One process of one state: rule n writes the only letter n times.
+fn heap() -> Table {
+    let mut table = Table::new(1, 1, 1);
+    let letter = table.letter(1);
+    for count in 0..=4 {
+        table.rule(letter, [0; 4], [0; 4], &vec![letter; count]);
+    }
+    table.pile.push(letter);
+    table
+}
+
+#[test]
+fn t_fires() {
+    let mut desk = opened(&named::t());
+    assert_eq!(desk.states(), [0, 0, NO_PART, NO_PART]);
+    assert_eq!(sight(&desk), ([0, 0], vec![0]));
+    assert_eq!(desk.firing(), [0]);
+    assert_eq!(desk.fire(1), refused(12));
+    assert_eq!(sight(&desk), ([0, 0], vec![0]));
+    for (rule, states, pile) in [
+        (0, [0, 0], &[1, 2][..]),
+        (2, [0, 1], &[1]),
+        (1, [1, 1], &[]),
+    ] {
+        assert_eq!(desk.fire(rule), Ok(()));
+        assert_eq!(sight(&desk), (states, pile.to_vec()));
+    }
+    assert_eq!(desk.firing(), []);
+    assert_eq!(desk.fire(0), refused(12));
+    for absent in [3, 256, 0xFFFF] {
+        assert_eq!(desk.fire(absent), refused(13));
+    }
+    assert_eq!(sight(&desk), ([1, 1], vec![]));
+}
+
+#[test]
+fn refused_tables_have_no_desk() {
+    for specimen in damage::specimens() {
+        let (number, place) = (specimen.number, specimen.place);
+        let given = Desk::open(&specimen.bytes).err();
+        let expected = Some(Refusal { number, place });
+        assert_eq!(given, expected, "{}", specimen.name);
+    }
+    assert_eq!(opened(&named::start_pile(64)).pile().len(), 64);
+}
+
+#[test]
+fn piles_have_room_for_256_letters() {
+    let mut desk = opened(&heap());
+    for _ in 0..85 {
+        assert_eq!(desk.fire(4), Ok(()));
+    }
+    assert_eq!(desk.pile(), [0; DESK_PILE]);
+    for rule in 2..=4 {
+        assert_eq!(desk.fire(rule), refused(14));
+    }
+    assert_eq!(desk.fire(1), Ok(()));
+    assert_eq!(desk.pile(), [0; 256]);
+    assert_eq!(desk.firing(), [0, 1, 2, 3, 4]);
+    assert_eq!(desk.fire(0), Ok(()));
+    assert_eq!(desk.fire(3), refused(14));
+    assert_eq!(desk.fire(2), Ok(()));
+    assert_eq!(desk.pile(), [0; 256]);
+}
+
+/// An idle rule that would write too much is idle.
+#[test]
+fn idle_comes_before_full() {
+    let mut table = heap();
+    let other = table.letter(1);
+    table.rule(other, [0; 4], [0; 4], &[0; 4]);
+    let mut desk = opened(&table);
+    for _ in 0..85 {
+        assert_eq!(desk.fire(4), Ok(()));
+    }
+    assert_eq!(desk.fire(5), refused(12));
+    assert_eq!(desk.fire(4), refused(14));
+}
+
+#[test]
+fn names_are_checked() {
+    let mut desk = opened(&named::t());
+    for name in 0..8 {
+        assert_eq!(desk.return_to(name), refused(17));
+        assert_eq!(desk.forget(name), refused(17));
+    }
+    for name in [8, 9, 0xFF] {
+        assert_eq!(desk.save(name), refused(18));
+        assert_eq!(desk.return_to(name), refused(18));
+        assert_eq!(desk.forget(name), refused(18));
+    }
+    assert_eq!(desk.save(7), Ok(()));
+    assert_eq!(desk.return_to(6), refused(17));
+    assert_eq!(desk.return_to(7), Ok(()));
+    assert_eq!(desk.forget(7), Ok(()));
+    assert_eq!(desk.forget(7), refused(17));
+    assert_eq!(desk.return_to(7), refused(17));
+}
+
+#[test]
+fn a_return_keeps_every_name() {
+    let mut desk = opened(&named::t());
+    assert_eq!(desk.save(0), Ok(()));
+    assert_eq!(desk.fire(0), Ok(()));
+    assert_eq!(desk.save(1), Ok(()));
+    assert_eq!(desk.fire(2), Ok(()));
+    assert_eq!(desk.save(2), Ok(()));
+    let stands = [([0, 0], vec![0]), ([0, 0], vec![1, 2]), ([0, 1], vec![1])];
+    for name in [0, 2, 2, 1, 0, 1] {
+        assert_eq!(desk.return_to(name), Ok(()));
+        assert_eq!(sight(&desk), stands[usize::from(name)]);
+    }
+    // Fires go on from the noted history, and a name does not follow them.
+    assert_eq!(desk.fire(1), Ok(()));
+    assert_eq!(sight(&desk), ([1, 0], vec![2]));
+    assert_eq!(desk.return_to(1), Ok(()));
+    assert_eq!(sight(&desk), stands[1]);
+}
+
+#[test]
+fn saving_over_a_name_replaces_it() {
+    let mut desk = opened(&named::t());
+    assert_eq!(desk.save(3), Ok(()));
+    assert_eq!(desk.save(4), Ok(()));
+    assert_eq!(desk.fire(0), Ok(()));
+    assert_eq!(desk.save(3), Ok(()));
+    assert_eq!(desk.forget(4), Ok(()));
+    assert_eq!(desk.return_to(4), refused(17));
+    assert_eq!(sight(&desk), ([0, 0], vec![1, 2]));
+    assert_eq!(desk.fire(1), Ok(()));
+    assert_eq!(desk.return_to(3), Ok(()));
+    assert_eq!(sight(&desk), ([0, 0], vec![1, 2]));
+}
+
+/// The desk by the definitions: configurations, not histories, are kept.
+struct Plain {
+    at: Configuration,
+    named: [Option<Configuration>; NAMES],
+}
+
+impl Plain {
+    fn fire(&mut self, table: &Table, rule: u16) -> Result<(), Refusal> {
+        let rule = table.rules.get(usize::from(rule)).ok_or(13);
+        let next = rule.and_then(|rule| self.at.fire(table, rule).ok_or(12));
+        match next {
+            Ok(next) if next.word.len() > DESK_PILE => refused(14),
+            Ok(next) => {
+                self.at = next;
+                Ok(())
+            }
+            Err(number) => refused(number),
+        }
+    }
+
+    fn save(&mut self, name: u8) -> Result<(), Refusal> {
+        match self.named.get_mut(usize::from(name)) {
+            Some(place) => *place = Some(self.at.clone()),
+            None => return refused(18),
+        }
+        Ok(())
+    }
+
+    fn return_to(&mut self, name: u8) -> Result<(), Refusal> {
+        match self.named.get(usize::from(name)) {
+            Some(Some(named)) => self.at = named.clone(),
+            Some(None) => return refused(17),
+            None => return refused(18),
+        }
+        Ok(())
+    }
+
+    fn forget(&mut self, name: u8) -> Result<(), Refusal> {
+        match self.named.get_mut(usize::from(name)) {
+            Some(None) => return refused(17),
+            Some(place) => *place = None,
+            None => return refused(18),
+        }
+        Ok(())
+    }
+}
+
+/// One call at both desks, which must give the same.
+fn call(rng: &mut Rng, table: &Table, desk: &mut Desk, plain: &mut Plain) {
+    let firing = desk.firing();
+    let name = rng.below(10) as u8;
+    match rng.below(12) {
+        0 | 1 => assert_eq!(desk.save(name), plain.save(name)),
+        2 | 3 => assert_eq!(desk.return_to(name), plain.return_to(name)),
+        4 => assert_eq!(desk.forget(name), plain.forget(name)),
+        turn => {
+            let rule = match turn {
+                5 => rng.below(table.rules.len() + 2) as u16,
+                _ if firing.is_empty() => 0,
+                _ => *rng.pick(&firing),
+            };
+            assert_eq!(desk.fire(rule), plain.fire(table, rule));
+        }
+    }
+}
+
+#[test]
+fn desks_follow_the_definitions() {
+    for seed in (430_000..432_000).map(Seed) {
+        let mut rng = seed.rng();
+        let shape = *rng.pick(&[Shape::TINY, Shape::DENSE, Shape::MIDDLE]);
+        let table = random::table(&mut rng, &shape);
+        let mut desk = opened(&table);
+        let mut plain = Plain {
+            at: Configuration::start(&table),
+            named: Default::default(),
+        };
+        for _ in 0..rng.below(60) {
+            call(&mut rng, &table, &mut desk, &mut plain);
+            assert_eq!(desk.states(), plain.at.states);
+            assert_eq!(desk.pile(), plain.at.word);
+        }
+    }
+}
