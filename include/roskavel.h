@@ -61,7 +61,10 @@ enum roskavel_figure {
     ROSKAVEL_TRANSITIONS = 3, /* records of the limit automaton */
     ROSKAVEL_ROUNDS = 4,      /* the highest round of a record */
     ROSKAVEL_STEPS = 5,       /* rules of the run; 0 if unreachable */
-    ROSKAVEL_PEAK = 6,        /* roskavel_run: the greatest length of the pile along the run */
+    ROSKAVEL_PEAK = 6,        /* roskavel_run: the greatest length of any one process's own pile
+                                 along the run, the start included; a process's own pile is the
+                                 pile without the letters that it has no part in. A walk's pile
+                                 buffer, which holds the whole pile, may need more */
 
     /* roskavel_walk */
     ROSKAVEL_WATCHED = 2,     /* 1 if the configuration at the end is watched, else 0 */

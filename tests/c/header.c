@@ -89,7 +89,7 @@ static void test_run(void)
     const uint16_t rules[3] = {0, 1, 2};
     make_dirty();
     roskavel_run(table, TABLE, log_buffer, LOG, scratch, SCRATCH, page, PAGE, figures);
-    check_figures((uint64_t[9]){0, 0, 1, 3, 2, 3, 2}, "figures of the run");
+    check_figures((uint64_t[9]){0, 0, 1, 3, 2, 3, 1}, "figures of the run");
     check_bytes(log_buffer, LOG, limit, sizeof limit, 0, "log of the run");
     check_all(scratch, SCRATCH, 0, "scratch of the run");
     check_bytes(page, sizeof page, rules, sizeof rules, 0, "page of the run");

@@ -6,7 +6,7 @@ use Prim.Native.Nat.{ℕ, _-_}
 use lib.ListN.{length, getD, take, replicate}
 use Rattle.model.specs.declared.Answered.{Answered}
 use Rattle.model.specs.declared.Ran.{Ran}
-use Rattle.model.specs.Systems.{System, Joins, peak}
+use Rattle.model.specs.Systems.{System, Joins, PeakIs, peak}
 use Rattle.model.specs.Tables.{Item, accepted, read, systemOf}
 use Rattle.model.specs.Log.{limit, rounds}
 use Rattle.model.specs.Calls.{AnswerOutcome, RunOutcome, WalkOutcome, answerCall, runCall, answerFigures, runFigures, walkFigures}
@@ -42,9 +42,10 @@ pub record Word (table f : List ℕ) : Type 0 where
   pub unreachable : Says 0 f → Describes table NoRun
   pub reachable : Says 1 f → Describes table SomeRun
 
--- Where the run call was not refused, the page's first places, as many as figure 5 says, hold a run that joins them.
+-- Where the run call was not refused, the page's first places, as many as figure 5 says, hold a run that joins them, and figure 6 is its peak.
 pub record RunWord (table f page : List ℕ) : Type 0 where
-  pub joins : getD f 0 0 ≡ 0 → Describes table (λ (sys : System). Joins sys (sys .start) (take (getD f 5 0) page))
+  pub joins : getD f 0 0 ≡ 0
+      → Describes table (λ (sys : System). Joins sys (sys .start) (take (getD f 5 0) page) × PeakIs sys (take (getD f 5 0) page) (sys .start) (getD f 6 0))
 
 -- both premises of demand 3
 pub record Premises (table log scratch : List ℕ) (items : List Item) : Type 0 where

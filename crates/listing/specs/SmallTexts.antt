@@ -5,7 +5,7 @@ use Prim.Native.Nat.{ℕ}
 use Prim.Native.String.{String}
 use Rattle.model.specs.declared.Answered.{Answered}
 use Rattle.model.specs.declared.Ran.{Ran}
-use Rattle.model.specs.Groups.{sameGroup, restrict, merge}
+use Rattle.model.specs.Groups.{greatest, sameGroup, restrict, merge}
 use Rattle.model.specs.Words.{tops}
 use Rattle.model.specs.Systems.{enabled, fire}
 use Rattle.model.specs.Tables.{isOutOfTurn, groupFits, transitionFits, writtenFit, valueFits, cooperates, leavesControl, isTwin, refusal, readFrom, read, systemOf}
@@ -22,7 +22,7 @@ pub record Example : Type 0 where
 
 abbrev pub examples : List Example
 examples =
-    record { input = table-T; text = "answer reachable\ntransitions 3\nrounds 2\nsteps 3\npeak 2\nrun 0 1 2\n" }
+    record { input = table-T; text = "answer reachable\ntransitions 3\nrounds 2\nsteps 3\npeak 1\nrun 0 1 2\n" }
     -- T without rule 2
     ∷ record { input = head-T ++ rules01-T ++ accepting-T ++ start-T; text = "answer unreachable\ntransitions 1\nrounds 1\n" }
     -- T with start (1,1) and no pile: an empty run
@@ -38,7 +38,7 @@ examples =
 
 -- the definitions give each text
 pub examples-hold : map (λ (e : Example). lineText (e .input)) examples ≡ map (λ (e : Example). ascii (e .text)) examples
-unfolding sameGroup restrict merge tops enabled fire isOutOfTurn groupFits transitionFits writtenFit valueFits cooperates leavesControl isTwin refusal readFrom read systemOf readsAt keyLess sameKey additions logAt firstSaturated saturatedAt acceptingPath emittedBy recordsOf runOf pageAfter answerGiven answerCall runGiven runCall lineText textWith listing answerLines refusedLine runLines runLine counted line decimal
+unfolding greatest sameGroup restrict merge tops enabled fire isOutOfTurn groupFits transitionFits writtenFit valueFits cooperates leavesControl isTwin refusal readFrom read systemOf readsAt keyLess sameKey additions logAt firstSaturated saturatedAt acceptingPath emittedBy recordsOf runOf pageAfter answerGiven answerCall runGiven runCall lineText textWith listing answerLines refusedLine runLines runLine counted line decimal
 examples-hold = refl
 
 -- doubling with 19 letters: a run longer than the page

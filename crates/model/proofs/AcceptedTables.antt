@@ -66,7 +66,7 @@ module _ (items : List Item) (c : Complete items) where
       (bodies 2 items) (letter-fits (c .checked)))
 
   -- what holds of each body of a kind, said of a rule or transition of the system
-  rule-has : (P : Rule → Type 0) → ((body : List ℕ) → RuleFits (bodies 1 items) (bodies 2 items) body → P (ruleOf body)) → (n : ℕ) (r : Rule) → getElem? (systemOf items .rules) n ≡ some r → P r
+  pub rule-has : (P : Rule → Type 0) → ((body : List ℕ) → RuleFits (bodies 1 items) (bodies 2 items) body → P (ruleOf body)) → (n : ℕ) (r : Rule) → getElem? (systemOf items .rules) n ≡ some r → P r
   unfolding systemOf
   rule-has P f n r is = each-elem P (systemOf items .rules)
       (each-of-map P ruleOf (bodies 3 items) (each-map (RuleFits (bodies 1 items) (bodies 2 items)) (λ (body : List ℕ). P (ruleOf body)) f (bodies 3 items) checked-rules)) n r is

@@ -44,7 +44,7 @@ pub found-counts : (sys : System) (p : Path) → startPath sys ≡ some p → Co
 found-counts sys p e = record { path = p; is = e; run = emitted (limit sys) (p .numbers); unfolds = path-unfolds sys (saturatedAt sys) (sys .start) p e; counted = refl }
 
 -- the rules emitted are those of the function
-counts-emitted : (sys : System) (n : ℕ) (p : Path) → startPath sys ≡ some p → (c : Counts sys n) → c .run ≡ emitted (limit sys) (p .numbers)
+pub counts-emitted : (sys : System) (n : ℕ) (p : Path) → startPath sys ≡ some p → (c : Counts sys n) → c .run ≡ emitted (limit sys) (p .numbers)
 counts-emitted sys n p e c =
     let same : c .path ≡ p = some-inj (sym (c .is) ∙ e) in
     sym (unfolds-unique (c .unfolds) (emitted (limit sys) (p .numbers)) (subst (λ (q : Path). Unfolds (limit sys) (q .numbers) (emitted (limit sys) (p .numbers))) (sym same) (path-unfolds sys (saturatedAt sys) (sys .start) p e)))
@@ -70,7 +70,7 @@ module _ (table log scratch : List ℕ) (items : List Item) (e : read table ≡ 
   unfolding runCall runGiven
   run-lacks page l = rw (e, le-ltb (length scratch) (scratchNeeded (length log)) serves, lt-ltb (capacity (length log)) (length (limit (systemOf items))) l)
 
-  page-after : (page : List ℕ) (p : Path) → startPath (systemOf items) ≡ some p → runRefusal (runCall table log scratch page .answer) ≡ 0
+  pub page-after : (page : List ℕ) (p : Path) → startPath (systemOf items) ≡ some p → runRefusal (runCall table log scratch page .answer) ≡ 0
       → runCall table log scratch page .page ≡ filled (emitted (limit (systemOf items)) (p .numbers)) page
   unfolding runCall pageAfter runOf
   page-after page p q z = rw z (rw (e, q))
@@ -85,7 +85,7 @@ long-of : (n pageLength : ℕ) → (pageLength < n) ⊎ (1000000 < n) → isLong
 long-of n m t = by-test (ltb m (min n stepsCap)) (λ y. rw y) (λ z. rw z (lt-ltb 1000000 (min n stepsCap)
     (let more : min n stepsCap ≤ m = ltb-false m (min n stepsCap) z in ⊎-elim (λ (l : m < n). omega arith) (λ (l : 1000000 < n). omega arith) t)))
 
-take-run : (run page : List ℕ) → take (length run) (filled run page) ≡ run
+pub take-run : (run page : List ℕ) → take (length run) (filled run page) ≡ run
 take-run run page = take-at run (replicate (length page - length run) 0) (length run) refl
 
 -- ---- demand 3 under both premises, by the start's path

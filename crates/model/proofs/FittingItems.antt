@@ -141,3 +141,7 @@ accepting-fit c = shown-of-kind 5 (omega arith) (λ ps ls body. groupFits (prese
 pub start-fits : {items : List Item} → Checked items → Each (λ (body : List ℕ). groupFits (present (bodies 1 items)) (controlsOf (bodies 1 items)) (groupOf body 0) ≡ true) (bodies 6 items)
 unfolding valueFits
 start-fits c = shown-of-kind 6 (omega arith) (λ ps ls body. groupFits (present ps) (controlsOf ps) (groupOf body 0) ≡ true) (λ items body p. p .fits) c
+
+pub pile-fits : {items : List Item} → Checked items → Each (λ (body : List ℕ). byteOf body 0 < length (bodies 2 items)) (bodies 7 items)
+unfolding valueFits
+pile-fits c = shown-of-kind 7 (omega arith) (λ ps ls body. byteOf body 0 < length ls) (λ items body p. ltb-true (byteOf body 0) (length (bodies 2 items)) (p .fits)) c

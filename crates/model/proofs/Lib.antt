@@ -24,6 +24,7 @@ pub mod RecordBytes
 pub mod CheckedItems
 pub mod FittingItems
 pub mod AcceptedTables
+pub mod AbsentProcesses
 pub mod RefusalNumbers
 pub mod Closing
 pub mod Prefixes

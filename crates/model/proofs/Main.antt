@@ -1,17 +1,23 @@
 -- The mission's demands, of the definitions that the contracts of the calls are equations with: the top statements alone, in their order.
 use mathlib.Core.Path.{_≡_}
 use mathlib.Core.Bool.{false, true}
-use mathlib.Core.List.{List}
+use mathlib.Core.Option.{some}
+use mathlib.Core.List.{List, []}
 use Prim.Native.Nat.{ℕ}
 use Rattle.model.specs.Calls.{answerCall, answerRefusal, changesNothing, runCall, runRefusal, walkCall, walkFigures, walkRefusal, zeros}
 use Rattle.model.specs.Demands.{Demand2Walk, Demand3, LogHolds, Tells, Writes}
 use Rattle.model.specs.Desks.{Call, Leads, HistoriesLead, deskCalls, noteCalls, opened, unwritten}
-use Rattle.model.specs.Tables.{Item, accepted, read, systemOf}
+use Rattle.model.specs.Groups.{Process, has}
+use Rattle.model.specs.Systems.{Configuration, PeakIs, System, peak, walk}
+use Rattle.model.specs.Tables.{Item, accepted, bodies, present, read, systemOf}
+use Rattle.model.specs.Words.{project}
+use Rattle.model.proofs.AbsentProcesses.{absent-empty}
 use Rattle.model.proofs.Closing.{answer-closes, run-closes, walk-closes}
 use Rattle.model.proofs.Demands.{calls-decide}
 use Rattle.model.proofs.Desks.{desk-walks}
 use Rattle.model.proofs.LogDemand.{answer-log, run-log}
 use Rattle.model.proofs.Meanings.{answer-tells, run-writes}
+use Rattle.model.proofs.Peak.{peak-is}
 use Rattle.model.proofs.WalkDemand.{walk-demand}
 
 -- ---- demand 1: what a call gives and leaves is its definition in Calls, whole. Of its buffers: refusals 1 to 9 and 15 change none; later the scratch is
@@ -48,7 +54,7 @@ pub demand-3 : (table log scratch page : List ℕ)
     → Demand3 table log scratch page (answerCall table log scratch .answer) (runCall table log scratch page .answer) (runCall table log scratch page .page)
 demand-3 = calls-decide
 
--- the word alone, with no premise
+-- the word alone, with no premise; with a run its peak
 pub demand-3-answer : (table log scratch : List ℕ) → Tells table (answerCall table log scratch .answer)
 demand-3-answer = answer-tells
 
@@ -59,3 +65,12 @@ demand-3-run = run-writes
 pub desk-stands : (table : List ℕ) (items : List Item) → read table ≡ accepted items → (cs : List Call)
     → HistoriesLead (Leads table (systemOf items)) (noteCalls (systemOf items) (opened (systemOf items)) unwritten cs) (deskCalls (systemOf items) (opened (systemOf items)) cs)
 desk-stands = desk-walks
+
+-- ---- request 2.2: the peak is the greatest length of any process's projection along the run, start included
+pub peak-greatest : (sys : System) (ns : List ℕ) (c end : Configuration) → walk sys ns c ≡ some end → PeakIs sys ns c (peak sys ns c)
+peak-greatest = peak-is
+
+-- of all processes of the table, that is: the projection to a process which the table lacks is empty
+pub absent-projection : (table : List ℕ) (items : List Item) → read table ≡ accepted items → (i : Process) → has (present (bodies 1 items)) i ≡ false
+    → (ns : List ℕ) (d : Configuration) → walk (systemOf items) ns (systemOf items .start) ≡ some d → project (systemOf items .loc) i (d .word) ≡ []
+absent-projection = absent-empty

@@ -9,15 +9,16 @@ use lib.ListN.{length, take}
 use borrow.Author.Tests.{ltb-false}
 use Rattle.model.specs.declared.Answered.{Answered}
 use Rattle.model.specs.declared.Ran.{Ran}
-use Rattle.model.specs.Calls.{answerCall, answerGiven, capacity, isLong, runCall, runGiven, runVerdict, scratchNeeded, startPath, verdict}
+use Rattle.model.specs.Calls.{answerCall, answerGiven, capacity, isLong, runCall, runGiven, runRefusal, runVerdict, scratchNeeded, startPath, verdict}
 use Rattle.model.specs.Demands.{Decided, LogServes, ScratchServes, Tells, Writes}
 use Rattle.model.specs.Log.{Path, limit, rounds}
-use Rattle.model.specs.Systems.{Joins, peak}
+use Rattle.model.specs.Systems.{peak}
 use Rattle.model.specs.Tables.{Item, Reading, accepted, read, refused, systemOf}
 use Rattle.model.specs.Unfolding.{emitted, pathSteps}
 use Rattle.model.proofs.Closing.{refusal-number}
-use Rattle.model.proofs.Demands.{calls-decide, found-counts, found-joins, none-joins}
+use Rattle.model.proofs.Demands.{calls-decide, counts-emitted, found-counts, found-joins, none-joins, page-after, take-run}
 use Rattle.model.proofs.CheckedItems.{read-complete}
+use Rattle.model.proofs.Peak.{peak-is}
 use Rattle.model.proofs.Tests.{by-test}
 
 -- ---- the answer call
@@ -56,11 +57,17 @@ module _ (table log scratch page : List ℕ) where
         let count : ℕ = length (emitted (limit (systemOf items)) (p .numbers)) in
         let counts = found-counts (systemOf items) p q in
         let given = decided .given count counts (λ long. let bad : Ran.Reached t r n k ≡ Ran.Refused 11 0 = sym is ∙ decided .long count counts .0 long in let z : _≡_ {A = ℕ} 0 1 = cc in omega arith) in
-        let steps : n ≡ count = reached-steps (sym is ∙ given .0) in
-        (items, e, subst (λ (m : ℕ). Joins (systemOf items) (systemOf items .start) (take m (runCall table log scratch page .page))) (sym steps) (given .2))
+        let same = reached-same (sym is ∙ given .0) in
+        let run : List ℕ = emitted (limit (systemOf items)) (p .numbers) in
+        let on-page : take n (runCall table log scratch page .page) ≡ run =
+        ap (λ (m : ℕ). take m (runCall table log scratch page .page)) (same .0) ∙ ap (take count) (page-after table log scratch items e s page p q (ap runRefusal is)) ∙ take-run run page in
+        let high : k ≡ peak (systemOf items) run (systemOf items .start) =
+        same .1 ∙ ap (λ (ns : List ℕ). peak (systemOf items) ns (systemOf items .start)) (counts-emitted (systemOf items) count p q counts) in
+        let joins = found-joins items (read-complete table items e) p q in
+        (items, e, (rw on-page joins, rw (on-page, high) (peak-is (systemOf items) run (systemOf items .start) (joins .end) (joins .walks))))
       where
-        reached-steps : {t t′ r r′ n n′ k k′ : ℕ} → Ran.Reached t r n k ≡ Ran.Reached t′ r′ n′ k′ → n ≡ n′
-        reached-steps e = cc
+        reached-same : {t t′ r r′ n n′ k k′ : ℕ} → Ran.Reached t r n k ≡ Ran.Reached t′ r′ n′ k′ → (n ≡ n′) × (k ≡ k′)
+        reached-same e = (cc, cc)
 
     verdict-writes : (o : Option Path) → startPath (systemOf items) ≡ o → runCall table log scratch page .answer ≡ runVerdict (systemOf items) (length page) o → Right (runVerdict (systemOf items) (length page) o)
     verdict-writes none q is = omega arith

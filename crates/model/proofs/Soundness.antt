@@ -75,7 +75,7 @@ project-apart : (loc : ℕ → Processes) (L : Processes) (i : Process) (ts : Li
 project-apart loc L i [] m d = refl
 project-apart loc L i (t ∷ ts) m d = rw (apart-sym (loc (t .letter)) L (d .0) i m) (project-apart loc L i ts m (d .1))
 
-project-inside : (loc : ℕ → Processes) (L : Processes) (i : Process) (u : List ℕ) → has L i ≡ false → Inside loc L u → project loc i u ≡ []
+pub project-inside : (loc : ℕ → Processes) (L : Processes) (i : Process) (u : List ℕ) → has L i ≡ false → Inside loc L u → project loc i u ≡ []
 project-inside loc L i [] m d = refl
 project-inside loc L i (a ∷ u) m d = rw out (project-inside loc L i u m (d .1))
   where

@@ -53,6 +53,13 @@ pub by-zero {ℓ} : {C : Type ℓ} (n : ℕ) → (n ≡ 0 → C) → (0 < n → 
 by-zero zero f g = f refl
 by-zero (suc n) f g = g (omega arith)
 
+-- what holds at each process
+pub each-process : (P : Process → Type 0) → P p0 → P p1 → P p2 → P p3 → (i : Process) → P i
+each-process P a b c d p0 = a
+each-process P a b c d p1 = b
+each-process P a b c d p2 = c
+each-process P a b c d p3 = d
+
 pub every-of : (f : Process → Bool) → ((i : Process) → f i ≡ true) → every f ≡ true
 every-of f h = rw (h p0, h p1, h p2, h p3)
 

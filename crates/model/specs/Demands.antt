@@ -11,7 +11,7 @@ use Rattle.model.specs.declared.Answered.{Answered}
 use Rattle.model.specs.declared.Ran.{Ran}
 use Rattle.model.specs.Automata.{Transition}
 use Rattle.model.specs.Saturation.{Delta}
-use Rattle.model.specs.Systems.{System, Rule, Configuration, Step, Steps, Accepted, Joins, fire, peak}
+use Rattle.model.specs.Systems.{System, Rule, Configuration, Step, Steps, Accepted, Joins, PeakIs, fire, peak}
 use Rattle.model.specs.Tables.{Item, accepted, read, systemOf, groupOf}
 use Rattle.model.specs.Log.{Path, limit, rounds, stepsCap}
 use Rattle.model.specs.Unfolding.{Unfolds}
@@ -132,12 +132,12 @@ pub record Demand3 (table log scratch page : List ℕ) (answer : Answered) (ran 
   pub answer-short : ShortLog table log scratch ↔ (answer ≡ Answered.Refused 10 0)
   pub run-short : ShortLog table log scratch ↔ (ran ≡ Ran.Refused 10 0)
 
--- ---- the word alone, with no premise: what an answer tells of the table, and what a run call that was not refused leaves on the page
+-- ---- the word alone, with no premise: what an answer tells of the table, and what a run call that was not refused leaves on the page, with its peak
 abbrev pub Tells : List ℕ → Answered → Type 0
 Tells table (Answered.Unreachable t r) = Describes table NoRun
 Tells table (Answered.Reachable t r s) = Describes table SomeRun
 Tells table (Answered.Refused number place) = 1 ≤ number
 
 abbrev pub Writes : List ℕ → List ℕ → Ran → Type 0
-Writes table left (Ran.Reached t r s p) = Describes table (λ (sys : System). Joins sys (sys .start) (take s left))
+Writes table left (Ran.Reached t r s p) = Describes table (λ (sys : System). Joins sys (sys .start) (take s left) × PeakIs sys (take s left) (sys .start) p)
 Writes table left (Ran.Refused number place) = 1 ≤ number

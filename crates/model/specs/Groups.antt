@@ -1,7 +1,7 @@
 -- Section 2 of the paper: processes, tuples of local states, their restriction to a set of processes, and the joint tuple.
 use mathlib.Core.Path.{_≡_}
 use mathlib.Core.Bool.{Bool, _&&_, _||_, cond, false, not, true}
-use Prim.Native.Nat.{ℕ, _/_, _%_}
+use Prim.Native.Nat.{ℕ, _/_, _%_, max}
 use lib.Dec.{eqb}
 use Rattle.model.specs.declared.Group.{Group}
 
@@ -12,6 +12,10 @@ pub data Process : Type 0 where
 -- a test that holds at all four processes
 abbrev pub every : (Process → Bool) → Bool
 every f = f p0 && f p1 && f p2 && f p3
+
+-- the greatest of the numbers at the four processes
+unfoldable pub greatest : (Process → ℕ) → ℕ
+greatest f = max (max (f p0) (f p1)) (max (f p2) (f p3))
 
 -- the local state of a process in a group
 abbrev pub at : Group → Process → ℕ

@@ -1,9 +1,9 @@
--- Document 01, "Small tables": the starred ones, as one table of calls and what they give, with one theorem; and a desk of request 2.1.
+-- Document 01, "Small tables": the starred ones, as one table of calls and what they give, with one theorem; rows of requests 2.1 and 2.2.
 use mathlib.Core.Path.{_≡_, refl}
 use mathlib.Core.List.{List, [], _∷_, _++_, map}
 use Prim.Native.Nat.{ℕ}
 use lib.ListN.{replicate}
-use Rattle.model.specs.Groups.{sameGroup, restrict, merge}
+use Rattle.model.specs.Groups.{greatest, sameGroup, restrict, merge}
 use Rattle.model.specs.Words.{tops}
 use Rattle.model.specs.Systems.{System, Configuration, enabled, fire}
 use Rattle.model.specs.Tables.{Reading, accepted, refused, isOutOfTurn, groupFits, transitionFits, writtenFit, valueFits, cooperates, leavesControl, isTwin, refusal, readFrom, read, systemOf}
@@ -103,6 +103,15 @@ choice =
     ∷ 3 ∷ 2 ∷ 0 ∷ 255 ∷ 255 ∷ 255 ∷ 0 ∷ 255 ∷ 255 ∷ 255 ∷ 0 ∷ 255 ∷ 255 ∷ 255 ∷ 255
     ∷ 5 ∷ 0 ∷ 255 ∷ 255 ∷ 255 ∷ 6 ∷ 0 ∷ 255 ∷ 255 ∷ 255 ∷ 7 ∷ 0 ∷ 8 ∷ []
 
+-- two stations, q = 2 and 1, s = 2; tasks 0 {0}, 1 {1}; rule: task 0, 0 to 1, writes none; watch: task 1, 0 to 1 and 1 to 1; accepting (1,1); start (0,0),
+-- pile 0 1 1 1
+abbrev pub idle-station : List ℕ
+idle-station =
+    1 ∷ 2 ∷ 2 ∷ 1 ∷ 1 ∷ 2 ∷ 2 ∷ 1 ∷ 2 ∷ 2
+    ∷ 3 ∷ 0 ∷ 0 ∷ 255 ∷ 255 ∷ 255 ∷ 1 ∷ 255 ∷ 255 ∷ 255 ∷ 0 ∷ 255 ∷ 255 ∷ 255 ∷ 255
+    ∷ 4 ∷ 1 ∷ 255 ∷ 0 ∷ 255 ∷ 255 ∷ 255 ∷ 1 ∷ 255 ∷ 255 ∷ 4 ∷ 1 ∷ 255 ∷ 1 ∷ 255 ∷ 255 ∷ 255 ∷ 1 ∷ 255 ∷ 255
+    ∷ 5 ∷ 1 ∷ 1 ∷ 255 ∷ 255 ∷ 6 ∷ 0 ∷ 0 ∷ 255 ∷ 255 ∷ 7 ∷ 0 ∷ 7 ∷ 1 ∷ 7 ∷ 1 ∷ 7 ∷ 1 ∷ 8 ∷ []
+
 -- ---- the calls and what they give
 pub record Example : Type 0 where
   pub call : Call
@@ -110,9 +119,9 @@ pub record Example : Type 0 where
 
 abbrev pub starred : List Example
 starred =
-    -- T: reachable, transitions 3, rounds 2, steps 3; with peak 2 and the run 0 1 2
+    -- T: reachable, transitions 3, rounds 2, steps 3; with peak 1 and the run 0 1 2
     record { call = asks table-T 72 34018; result = (0 ∷ 0 ∷ 1 ∷ 3 ∷ 2 ∷ 3 ∷ []) ∷ [] }
-    ∷ record { call = runs table-T 72 34018 5; result = (0 ∷ 0 ∷ 1 ∷ 3 ∷ 2 ∷ 3 ∷ 2 ∷ []) ∷ (0 ∷ 1 ∷ 2 ∷ 0 ∷ 0 ∷ []) ∷ [] }
+    ∷ record { call = runs table-T 72 34018 5; result = (0 ∷ 0 ∷ 1 ∷ 3 ∷ 2 ∷ 3 ∷ 1 ∷ []) ∷ (0 ∷ 1 ∷ 2 ∷ 0 ∷ 0 ∷ []) ∷ [] }
     -- its log of 75 bytes: task 1 from 0 to 1 by rule 1 and task 2 alike by rule 2, both in round 1 with no path; task 0 in round 2 by rule 0 over these
     ∷ record {
       call = logs table-T 75 34018;
@@ -151,6 +160,8 @@ starred =
     ∷ record { call = runs (head-T ++ rules01-T ++ accepting-T ++ start-T) 72 34018 2; result = (16 ∷ 0 ∷ 0 ∷ 0 ∷ 0 ∷ 0 ∷ 0 ∷ []) ∷ (7 ∷ 7 ∷ []) ∷ [] }
     ∷ record { call = runs table-T 72 34018 2; result = (11 ∷ 0 ∷ 0 ∷ 0 ∷ 0 ∷ 0 ∷ 0 ∷ []) ∷ (7 ∷ 7 ∷ []) ∷ [] }
     ∷ record { call = runs choice 72 34018 2; result = (0 ∷ 0 ∷ 1 ∷ 3 ∷ 2 ∷ 2 ∷ 1 ∷ []) ∷ (0 ∷ 2 ∷ []) ∷ [] }
+    -- request 2.2: the peak is that of the station that has no part in the run
+    ∷ record { call = runs idle-station 72 34018 1; result = (0 ∷ 0 ∷ 1 ∷ 3 ∷ 1 ∷ 1 ∷ 3 ∷ []) ∷ (0 ∷ []) ∷ [] }
     -- a desk on T: refused by 12, 13, 18 and 17; then 0 and 2 fired, each after a save, and a return to where 2 had not fired
     ∷ record {
       call = opens table-T (fires 1 ∷ fires 3 ∷ returns 8 ∷ returns 0 ∷ saves 0 ∷ fires 0 ∷ saves 1 ∷ fires 2 ∷ returns 1 ∷ fires 1 ∷ returns 1 ∷ forgets 0 ∷ returns 0 ∷ []);
@@ -168,5 +179,5 @@ starred =
 
 -- the definitions give each result
 pub starred-hold : map (λ (e : Example). gives (e .call)) starred ≡ map (λ (e : Example). e .result) starred
-unfolding sameGroup restrict merge tops enabled fire isOutOfTurn groupFits transitionFits writtenFit valueFits cooperates leavesControl isTwin refusal readFrom read systemOf readsAt keyLess sameKey additions logAt firstSaturated saturatedAt acceptingPath emittedBy recordsOf runOf logAfter pageAfter recordBytes answerGiven answerCall runGiven runCall walkGiven walkCall checks deskCall
+unfolding greatest sameGroup restrict merge tops enabled fire isOutOfTurn groupFits transitionFits writtenFit valueFits cooperates leavesControl isTwin refusal readFrom read systemOf readsAt keyLess sameKey additions logAt firstSaturated saturatedAt acceptingPath emittedBy recordsOf runOf logAfter pageAfter recordBytes answerGiven answerCall runGiven runCall walkGiven walkCall checks deskCall
 starred-hold = refl

@@ -4,13 +4,13 @@ use mathlib.Core.Path.{_≡_}
 use mathlib.Core.Bool.{Bool, cond, _&&_}
 use mathlib.Core.Option.{Option, none, some}
 use mathlib.Core.List.{List, [], _∷_, _++_, List·Memᴰ}
-use Prim.Native.Nat.{ℕ, max}
+use Prim.Native.Nat.{ℕ, _≤_, max}
 use lib.Dec.{eqb}
-use lib.ListN.{length, getElem?}
+use lib.ListN.{length, getElem?, take}
 use Rattle.model.specs.declared.Group.{Group}
 use Rattle.model.specs.Lists.{Each, anyOf, andThen, valueOr}
 use Rattle.model.specs.Groups.{Process, Processes, sameGroup, restrict, merge}
-use Rattle.model.specs.Words.{Equivalent, tops, removeFirst}
+use Rattle.model.specs.Words.{Equivalent, project, height, tops, removeFirst}
 use Rattle.model.specs.Automata.{Transition, move, Along, label}
 
 -- A transition of the system. Document 01: a rule, with its states before and after and its written tasks, top first.
@@ -70,10 +70,15 @@ abbrev pub walk : System → List ℕ → Configuration → Option Configuration
 walk sys [] c = some c
 walk sys (n ∷ ns) c = andThen (getElem? (sys .rules) n) (λ r. andThen (fire (sys .loc) r c) (walk sys ns))
 
--- document 01: peak, the greatest length of the pile's word along the run, start included
+-- request 2.2: peak, "the greatest length of any one station's own pile along the run, start included"
 abbrev pub peak : System → List ℕ → Configuration → ℕ
-peak sys [] c = length (c .word)
-peak sys (n ∷ ns) c = max (length (c .word)) (valueOr 0 (λ d. peak sys ns d) (walk sys (n ∷ []) c))
+peak sys [] c = height (sys .loc) (c .word)
+peak sys (n ∷ ns) c = max (height (sys .loc) (c .word)) (valueOr 0 (λ d. peak sys ns d) (walk sys (n ∷ []) c))
+
+-- the same as a statement: no process's projection is longer than k after any first part of the run, the empty one included, and after some part one is as long
+pub record PeakIs (sys : System) (ns : List ℕ) (c : Configuration) (k : ℕ) : Type 0 where
+  pub most : (j : ℕ) (d : Configuration) → walk sys (take j ns) c ≡ some d → (i : Process) → length (project (sys .loc) i (d .word)) ≤ k
+  pub reached : (j : ℕ) × (d : Configuration) × (walk sys (take j ns) c ≡ some d) × (i : Process) × (length (project (sys .loc) i (d .word)) ≡ k)
 
 -- ---- acceptance
 -- Definition 8: some path of transitions in D leads from the states of c, over the word of c, to a group in F

@@ -5,7 +5,8 @@ use mathlib.Core.Bool.{Bool, true, false, cond, not, _||_}
 use mathlib.Core.List.{List, [], _∷_}
 use Prim.Native.Nat.{ℕ}
 use lib.Dec.{eqb}
-use Rattle.model.specs.Groups.{Process, every, Processes, has}
+use lib.ListN.{length}
+use Rattle.model.specs.Groups.{Process, every, greatest, Processes, has}
 
 abbrev pub keep : Bool → ℕ → List ℕ → List ℕ
 keep true a w = a ∷ w
@@ -15,6 +16,10 @@ keep false a w = w
 abbrev pub project : (ℕ → Processes) → Process → List ℕ → List ℕ
 project loc i [] = []
 project loc i (a ∷ w) = keep (has (loc a) i) a (project loc i w)
+
+-- The greatest length of any process's projection. Request 2.2: of any one station's own pile; that of a station which the table lacks is empty.
+abbrev pub height : (ℕ → Processes) → List ℕ → ℕ
+height loc w = greatest (λ i. length (project loc i w))
 
 -- The words induce the same trace. Document 01: all stations' own piles are equal.
 abbrev pub Equivalent : (ℕ → Processes) → List ℕ → List ℕ → Type 0

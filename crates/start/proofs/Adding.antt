@@ -10,6 +10,7 @@ use lib.ListN.{length}
 use Rattle.model.specs.declared.Group.{Group}
 use Rattle.model.specs.Groups.{Processes, processesOf, restrict, merge}
 use Rattle.model.specs.Records.{afterAt}
+use Rattle.model.proofs.Tests.{each-process}
 use Rattle.automaton.specs.StateNumbers.{stateCount, stateNumber, digit, groupNumbered}
 use Rattle.automaton.specs.StateSets.{setLength, member, firstFrom}
 use Rattle.automaton.proofs.StateNumbers.{stateNumber-below}
@@ -17,7 +18,6 @@ use Rattle.automaton.proofs.StateSets.{first-at}
 use Rattle.scratch.specs.Regions.{ringsAt}
 use Rattle.packs.specs.Packs.{packed}
 use Rattle.wordsets.specs.WordSets.{hasBit, inSet, gains, inBlock, OutsideSet, SetsApart, RecordAdded, BlockFits}
-use Rattle.wordsets.proofs.States.{each-process}
 use Rattle.rings.specs.Rings.{recordReads}
 use Rattle.start.specs.declared.Frame.{Frame}
 use Rattle.start.specs.declared.Letter.{Letter}

@@ -20,12 +20,11 @@ use Rattle.model.proofs.Acceptance.{accepts-true}
 use Rattle.model.proofs.Groups.{at-merge, at-restrict}
 use Rattle.model.proofs.Lists.{each-get, each-map, each-of-map, each-elem}
 use Rattle.model.proofs.Soundness.{ControlOn}
-use Rattle.model.proofs.Tests.{by-test, and-left, and-right}
+use Rattle.model.proofs.Tests.{by-test, and-left, and-right, each-process}
 use Rattle.model.proofs.CheckedItems.{Complete, Passes, each-of-kind}
 use Rattle.model.proofs.FittingItems.{Fitting, RuleFits, TransitionFits, fits-at, fits-outside, rules-fit, transitions-fit, accepting-fit}
 use Rattle.model.proofs.Validity.{each-at}
 use Rattle.automaton.specs.StateNumbers.{Over}
-use Rattle.wordsets.proofs.States.{each-process}
 use Rattle.table.specs.declared.Table.{Table}
 use Rattle.table.specs.Reading.{Holds, itemsIn, systemIn, pileIn, statesIn}
 use Rattle.table.proofs.Layouts.{count-in, pile-letter-in}

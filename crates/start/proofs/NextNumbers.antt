@@ -4,8 +4,8 @@ use Prim.Native.Nat.{ℕ, _+_, _*_, _/_, _%_, _^_, _<_, _≤_}
 use native.Mathlib.Decide.{ℕ-discrete}
 use native.Mathlib.Omega.{arith}
 use Rattle.model.specs.Groups.{Process, p0, p1, p2, p3}
+use Rattle.model.proofs.Tests.{each-process}
 use Rattle.automaton.specs.StateNumbers.{stateCount, digit}
-use Rattle.wordsets.proofs.States.{each-process}
 use Rattle.start.specs.OwnGroups.{Under, NextUnder}
 
 -- what holds of the shifts of all four processes

@@ -11,14 +11,14 @@ use Rattle.model.specs.declared.Group.{Group}
 use Rattle.model.specs.Groups.{Process, Processes, p0, p1, p2, p3, at, has, restrict, merge}
 use Rattle.model.specs.Records.{recordLength, groupAt, afterAt}
 use Rattle.model.proofs.Groups.{ext, at-merge, at-restrict}
-use Rattle.model.proofs.Tests.{by-test}
+use Rattle.model.proofs.Tests.{by-test, each-process}
 use Rattle.automaton.specs.StateNumbers.{stateCount, stateNumber, digit, groupNumbered}
 use Rattle.automaton.proofs.StateNumbers.{stateNumber-below, digit-number, digits-number, at-numbered}
 use Rattle.packs.specs.Packs.{packed, Bytes, maskOf, mergedBits, packNumber, packedAfter}
 use Rattle.packs.proofs.Packs.{bytes-of, merge-bits, pack-group, pack-number}
 use Rattle.packs.proofs.Unpacked.{merge-bytes}
 use Rattle.wordsets.specs.WordSets.{hasBit, inSet, gains, inBlock, BlockFits, RestBits}
-use Rattle.wordsets.proofs.States.{each-process, stated, plus, rest-has, Offset, adds-like, added-offsets}
+use Rattle.wordsets.proofs.States.{stated, plus, rest-has, Offset, adds-like, added-offsets}
 use Rattle.start.specs.declared.Frame.{Frame}
 use Rattle.start.specs.RestSets.{noStates, ownNumber}
 use Rattle.start.specs.OwnGroups.{Under, extent, Framed, Numbered, InFrame, FrameTo}

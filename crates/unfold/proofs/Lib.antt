@@ -1,3 +1,4 @@
 pub mod Pushing
+pub mod Replacing
 pub mod Running
 pub mod Working

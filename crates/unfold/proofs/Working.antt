@@ -8,6 +8,7 @@ use native.Mathlib.Omega.{arith}
 use lib.ListN.{length, set, length-append}
 use Rattle.model.specs.Calls.{scratchFor, startPath}
 use Rattle.model.specs.Log.{Record, Path, recordAt, noNumber, stepsCap, limit, saturatedAt}
+use Rattle.model.specs.Groups.{Process, greatest, p0}
 use Rattle.model.specs.Lists.{Each}
 use Rattle.model.specs.Systems.{System}
 use Rattle.model.specs.Unfolding.{emitted, pathSteps}
@@ -16,12 +17,16 @@ use Rattle.model.specs.Records.{roundAt}
 use Rattle.model.proofs.EmissionStack.{InLog, emitted-skip, emitted-replace, Low, low-start, low-replace, low-height}
 use Rattle.model.proofs.Lists.{each-append, each-map}
 use Rattle.model.proofs.Reachability.{accepting-path-found, answer-yes, answer-steps}
+use Rattle.model.proofs.Peak.{greatest-most}
 use Rattle.model.proofs.Reasons.{path-length}
 use Rattle.scratch.specs.Regions.{stackAt}
 use Rattle.records.specs.Entries.{HasRecord, Reads}
 use Rattle.table.specs.declared.Table.{Table}
-use Rattle.table.specs.Reading.{Holds, systemIn, ruleIn}
+use Rattle.table.specs.Reading.{systemIn, ruleIn}
 use Rattle.table.proofs.Layouts.{table-modest, rules-count, pile-count, written-few}
+use Rattle.lengths.specs.declared.Lengths.{Lengths}
+use Rattle.lengths.specs.Projections.{Added, Change, LengthsOf, Noted, lengthAt, noted}
+use Rattle.lengths.proofs.Counting.{project-shorter}
 use Rattle.stack.specs.StackNumbers.{numbersDown, stackOf}
 use Rattle.stack.specs.RoundLogs.{LimitLog}
 use Rattle.stack.proofs.Numbers.{length-down, stack-top}
@@ -29,18 +34,18 @@ use Rattle.stack.proofs.RoundLogs.{holds-well-formed, holds-control, round-fits
 use Rattle.unfold.specs.declared.Work.{Work}
 use Rattle.unfold.specs.Runs.{Unfoldable, Unfolded}
 use Rattle.unfold.specs.Turns.{places, StackRoom, topRecord, Replaceable, Replaced, Workable, Worked}
-use Rattle.unfold.proofs.Pushing.{places-from}
-use Rattle.unfold.proofs.Running.{Going, going-count, going-start, rule-inside, letter-read, page-room, going-fire, going-end}
+use Rattle.unfold.proofs.Pushing.{path-places}
+use Rattle.unfold.proofs.Running.{Going, going-count, going-start, rule-inside, page-room, going-fire, going-end}
 
 -- ---- the loop's invariant: what the records on the stack emit is left of the run
 pub record Working (table : List ℕ) (room : ℕ) (ns page₀ s page : List ℕ) (w : Work) : Type 0 where
   pub size : length s ≡ room
   pub inside : InLog (limit (systemIn table)) (stackOf s (w .top))
   pub low : Low 64 (length (limit (systemIn table))) (stackOf s (w .top))
-  pub going : Going (systemIn table) (emitted (limit (systemIn table)) ns) page₀ (emitted (limit (systemIn table)) (stackOf s (w .top))) page (w .rules) (w .length) (w .highest)
+  pub going : Going (systemIn table) (emitted (limit (systemIn table)) ns) page₀ (emitted (limit (systemIn table)) (stackOf s (w .top))) page (w .rules) (w .lengths) (w .highest)
 
-module _ {table : List ℕ} {t : Table} {log : List ℕ} {count room : ℕ} {ns page₀ : List ℕ}
-    (pre : LimitLog table t log count × (scratchFor count ≤ room) × Unfoldable (systemIn table) ns page₀) where
+module _ {table : List ℕ} {t : Table} {changes log : List ℕ} {count room : ℕ} {ns page₀ : List ℕ}
+    (pre : LimitLog table t log count × (scratchFor count ≤ room) × Unfoldable (systemIn table) ns page₀ × Noted table (t .rules) changes) where
   abbrev sys : System
   sys = systemIn table
 
@@ -53,23 +58,25 @@ module _ {table : List ℕ} {t : Table} {log : List ℕ} {count room : ℕ} {ns 
   located : Located (sys .loc)
   located = holds-well-formed table t (pre .0 .holds) .cooperating .located
 
-  pub working-start : {s₀ : List ℕ} {top : ℕ} → length s₀ ≡ room → stackOf s₀ top ≡ ns → (w : Work) → w ≡ record { top = top; rules = 0; length = t .pile; highest = t .pile } → Working table room ns page₀ s₀ page₀ w
-  working-start size is w e = rw e (record {
+  pub working-start : {s₀ : List ℕ} {top : ℕ} → length s₀ ≡ room → stackOf s₀ top ≡ ns → (l : Lengths) → LengthsOf (sys .loc) (sys .start .word) l
+      → Working table room ns page₀ s₀ page₀ (record { top = top; rules = 0; lengths = l; highest = l })
+  working-start size is l lengths = record {
     size = size;
     inside = rw is (pre .2 .inside);
     low = rw is (low-start 64 (length records) ns (pre .2 .low) (pre .2 .inside));
-    going = rw (is, ← pile-count table t (pre .0 .holds)) (going-start (omega (arith, pile-count table t (pre .0 .holds), table-modest table t (pre .0 .holds) .pile)) (pre .2 .walks));
-  })
+    going = rw is (going-start (omega (arith, pile-count table t (pre .0 .holds), table-modest table t (pre .0 .holds) .pile)) (pre .2 .walks) l lengths);
+  }
 
-  pub working-small : {s page : List ℕ} {w : Work} → Working table room ns page₀ s page w → w .highest ≤ 3000064
-  working-small v = omega (arith, v .going .small, going-count (v .going), pre .2 .few)
+  -- the rules are a number of 32 bits, and the greatest length is counted with them
+  pub working-small : {s page : List ℕ} {w : Work} → Working table room ns page₀ s page w → (w .rules ≤ 1000000) × (w .rules ≤ greatest (lengthAt (w .highest)))
+  working-small {w = w} v = (omega (arith, going-count (v .going), pre .2 .few), omega (arith, v .going .lengths p0, v .going .under p0, greatest-most (lengthAt (w .highest)) p0))
 
-  pub working-end : {s page : List ℕ} {w : Work} → w .top ≤ 0 → Working table room ns page₀ s page w → Unfolded (systemIn table) ns page₀ page (w .highest)
+  pub working-end : {s page : List ℕ} {w : Work} → w .top ≤ 0 → Working table room ns page₀ s page w → Unfolded (systemIn table) ns page₀ page (greatest (lengthAt (w .highest)) - w .rules)
   unfolding numbersDown
   working-end {s} {page} {w} h v =
       let z : w .top ≡ 0 = omega arith in
-      let e = going-end (subst (λ (k : ℕ). Going sys all page₀ (emitted records (stackOf s k)) page (w .rules) (w .length) (w .highest)) z (v .going)) in
-      record { written = e .0; highest = e .1 }
+      let e = going-end (subst (λ (k : ℕ). Going sys all page₀ (emitted records (stackOf s k)) page (w .rules) (w .lengths) (w .highest)) z (v .going)) in
+      record { written = e .0; highest = omega (arith, e .1) }
 
   module _ {s page : List ℕ} {w : Work} (some : 0 < w .top) (v : Working table room ns page₀ s page w) where
     abbrev x : ℕ
@@ -115,47 +122,60 @@ module _ {table : List ℕ} {t : Table} {log : List ℕ} {count room : ℕ} {ns 
 
       -- its places are its path
       path-is : places log x ≡ first .path
-      path-is = places-from log x (first .path) few
-          (each-map (λ (m : ℕ). m < x) (λ (m : ℕ). m < noNumber) (λ m l. omega (arith, inside, pre .0 .short)) (first .path) earlier) (reads .place) 4 0 refl
+      path-is = path-places log x (first .path) few
+          (each-map (λ (m : ℕ). m < x) (λ (m : ℕ). m < noNumber) (λ m l. omega (arith, inside, pre .0 .short)) (first .path) earlier) (reads .place)
 
-      fires : Going sys all page₀ (first .rule ∷ emitted records (first .path ++ xs)) page (w .rules) (w .length) (w .highest)
-      fires = subst (λ (l : List ℕ). Going sys all page₀ l page (w .rules) (w .length) (w .highest))
+      fires : Going sys all page₀ (first .rule ∷ emitted records (first .path ++ xs)) page (w .rules) (w .lengths) (w .highest)
+      fires = subst (λ (l : List ℕ). Going sys all page₀ l page (w .rules) (w .lengths) (w .highest))
           (ap (emitted records) opened ∙ emitted-replace records (limit-earlier table) x xs in-log later) (v .going)
 
-      replaceable : Replaceable table t log s page w x
+      -- what is noted of its rule
+      inside-rules : first .rule < t .rules
+      inside-rules = omega (arith, rule-inside located fires, rules-count table t (pre .0 .holds))
+
+      abbrev change : Process → ℕ
+      change = noted changes (first .rule)
+
+      changes-rule : Change (sys .loc) (ruleIn table (first .rule)) change
+      changes-rule = pre .3 .rule (first .rule) inside-rules
+
+      change-few : (i : Process) → change i ≤ 5
+      change-few i = omega (arith, changes-rule i, project-shorter (sys .loc) i (ruleIn table (first .rule) .written), written-few table t (pre .0 .holds) (first .rule) inside-rules)
+
+      replaceable : Replaceable changes log s page w x
       replaceable = record {
         room = let whole : length (first .path ++ xs) ≡ length (first .path) + length xs = length-append (first .path) xs in
             omega (arith, high (first .path ++ xs) low-after, ap length path-is, length-down s stackAt (w .top - 1));
         page-room = page-room located fires (pre .2 .fits);
-        rule = omega (arith, reads .rule, rule-inside located fires, rules-count table t (pre .0 .holds));
-        letter = rw (reads .rule) (letter-read located fires);
-        small = omega (arith, v .going .under, v .going .small, going-count (v .going), pre .2 .few);
+        few = omega (arith, going-count (v .going), pre .2 .few);
+        rule = omega (arith, reads .rule, inside-rules, table-modest table t (pre .0 .holds) .rules);
+        size = pre .3 .size;
+        addable = λ i. rw (reads .rule) (omega (arith, change-few i, v .going .under i, v .going .small i, going-count (v .going), pre .2 .few));
+        countable = λ i. omega (arith, v .going .small i, going-count (v .going), pre .2 .few);
       }
 
-      replaced : {s′ page′ : List ℕ} {w′ : Work} → Replaced table log s page w x s′ page′ w′ → Working table room ns page₀ s′ page′ w′
+      replaced : {s′ page′ : List ℕ} {w′ : Work} → Replaced changes log s page w x s′ page′ w′ → Working table room ns page₀ s′ page′ w′
       replaced {s′} {page′} {w′} q =
           let stack : stackOf s′ (w′ .top) ≡ first .path ++ xs = q .pushed .stack ∙ ap (λ (l : List ℕ). l ++ xs) path-is in
           let paged : page′ ≡ set page (w .rules) (first .rule) = q .emits ∙ ap (λ (k : ℕ). set page (w .rules) k) (reads .rule) in
-          let grows : w′ .length + 1 ≡ w .length + length (ruleIn table (first .rule) .written) = q .word ∙ ap (λ (k : ℕ). w .length + length (ruleIn table k .written)) (reads .rule) in
+          let added : Added change (w .lengths) (w′ .lengths) = subst (λ (k : ℕ). Added (noted changes k) (w .lengths) (w′ .lengths)) (reads .rule) (q .lengths) in
           record {
             size = q .pushed .size ∙ v .size;
             inside = rw stack (each-append (λ (m : ℕ). m < length records) (first .path) xs
                 (each-map (λ (m : ℕ). m < x) (λ (m : ℕ). m < length records) (λ m l. omega (arith, in-log .0)) (first .path) earlier) (in-log .1));
             low = rw stack low-after;
-            going = rw (stack, paged, q .rules) (going-fire located fires (pre .2 .fits)
-                (written-few table t (pre .0 .holds) (first .rule) (omega (arith, rule-inside located fires, rules-count table t (pre .0 .holds)))) grows (q .highest));
+            going = rw (stack, paged, q .rules) (going-fire located fires change changes-rule (pre .2 .fits) change-few added (q .highest));
           }
 
-    pub working-workable : Workable table t log s page w
+    pub working-workable : Workable changes log s page w
     working-workable = record {
-      holds = pre .0 .holds;
       some = some;
       room = omega (arith, high (stackOf s (w .top)) (v .low), length-down s stackAt (w .top));
       has = round-has (pre .0) x inside;
       replaceable = replaceable;
     }
 
-    module _ {s′ page′ : List ℕ} {w′ : Work} (d : Worked table log s page w s′ page′ w′) where
+    module _ {s′ page′ : List ℕ} {w′ : Work} (d : Worked changes log s page w s′ page′ w′) where
       pub working-turn : Working table room ns page₀ s′ page′ w′
       working-turn = elim (ℕ-discrete (roundAt log x) 0) [
         | yes z ↦
@@ -164,7 +184,7 @@ module _ {table : List ℕ} {t : Table} {log : List ℕ} {count room : ℕ} {ns 
               size = v .size;
               inside = in-log .1;
               low = low .1;
-              going = subst (λ (l : List ℕ). Going sys all page₀ l page (w .rules) (w .length) (w .highest)) e (v .going);
+              going = subst (λ (l : List ℕ). Going sys all page₀ l page (w .rules) (w .lengths) (w .highest)) e (v .going);
             })
         | no n ↦ replaced n (d .replaced n)
       ]
@@ -180,15 +200,15 @@ module _ {table : List ℕ} {t : Table} {log : List ℕ} {count room : ℕ} {ns 
       ]
 
 -- ---- one turn: x is the record on top, and this is its round
-module _ {table log s page : List ℕ} {w : Work} {x round : ℕ} (top : x ≡ topRecord s w) (is : round ≡ roundAt log x) where
-  pub worked-skipped : round ≡ 0 → Worked table log s page w s page (record { top = w .top - 1; rules = w .rules; length = w .length; highest = w .highest })
+module _ {changes log s page : List ℕ} {w : Work} {x round : ℕ} (top : x ≡ topRecord s w) (is : round ≡ roundAt log x) where
+  pub worked-skipped : round ≡ 0 → Worked changes log s page w s page (record { top = w .top - 1; rules = w .rules; lengths = w .lengths; highest = w .highest })
   worked-skipped z = record { skipped = λ _. (refl, refl, refl); replaced = λ n. absurd (n (ap (roundAt log) (sym top) ∙ sym is ∙ z)) }
 
-  pub worked-replaced : {s′ page′ : List ℕ} {w′ : Work} → (round ≡ 0 → ⊥) → Replaced table log s page w x s′ page′ w′ → Worked table log s page w s′ page′ w′
+  pub worked-replaced : {s′ page′ : List ℕ} {w′ : Work} → (round ≡ 0 → ⊥) → Replaced changes log s page w x s′ page′ w′ → Worked changes log s page w s′ page′ w′
   worked-replaced n r = record { skipped = λ z. absurd (n (is ∙ ap (roundAt log) top ∙ z)); replaced = λ _. rw (← top) r }
 
-  pub turn-replaceable : {t : Table} → (round ≡ 0 → ⊥) → Workable table t log s page w → Holds table t × HasRecord log x × (0 < w .top) × Replaceable table t log s page w x
-  turn-replaceable n h = (h .holds, rw top (h .has), h .some, rw top (h .replaceable (λ z. n (is ∙ ap (roundAt log) top ∙ z))))
+  pub turn-replaceable : (round ≡ 0 → ⊥) → Workable changes log s page w → HasRecord log x × (0 < w .top) × Replaceable changes log s page w x
+  turn-replaceable n h = (rw top (h .has), h .some, rw top (h .replaceable (λ z. n (is ∙ ap (roundAt log) top ∙ z))))
 
 -- ---- for the callers: the start's path is unfoldable where its steps fit the page
 pub path-unfoldable : {table : List ℕ} {t : Table} {log : List ℕ} {count : ℕ} → LimitLog table t log count → (p : Path) → startPath (systemIn table) ≡ some p → (ns page : List ℕ) → ns ≡ p .numbers

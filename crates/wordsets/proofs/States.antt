@@ -7,7 +7,7 @@ use native.Mathlib.Omega.{arith}
 use lib.Dec.{leb, ltb}
 use borrow.Author.Tests.{le-leb, lt-ltb, leb-true, ltb-true}
 use Rattle.model.specs.Groups.{Process, p0, p1, p2, p3}
-use Rattle.model.proofs.Tests.{and-left, and-right}
+use Rattle.model.proofs.Tests.{and-left, and-right, each-process}
 use Rattle.wordsets.specs.WordSets.{hasBit, inSet, RestBits, gains, inBlock}
 
 -- a number by the states of the processes
@@ -59,12 +59,6 @@ by-process a b c d p0 = a
 by-process a b c d p1 = b
 by-process a b c d p2 = c
 by-process a b c d p3 = d
-
-pub each-process : (P : Process → Type 0) → P p0 → P p1 → P p2 → P p3 → (i : Process) → P i
-each-process P a b c d p0 = a
-each-process P a b c d p1 = b
-each-process P a b c d p2 = c
-each-process P a b c d p3 = d
 
 -- The record's own states are X before and Y after, 0 at the other processes. Of process i the offsets below hi i are added to both: its states if
 -- the record has no part in it, else 0 alone. The bits of rest are those of processes 2 and 3.

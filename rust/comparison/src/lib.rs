@@ -2,10 +2,12 @@
 
 mod cases;
 mod counts;
+mod peaks;
 mod rules;
 
 pub use cases::{Case, Cases, Make, Maker, random_table};
 pub use counts::{Counts, Demand};
+pub use peaks::{note_peak, peak_situations};
 pub use rules::{RULES, absent, rule};
 
 use std::path::PathBuf;

@@ -4,7 +4,7 @@ use crate::equations::Equation;
 use crate::sequences::{self, DeskCall};
 use second_engine::{Answer, Refusal, Run, Walk, answer, run, scratch_needed, walk};
 use tables::random::{self, Shape};
-use tables::{Rng, damage, named};
+use tables::{Rng, Table, damage, named};
 
 /// How many random tables, and how many damaged ones.
 const EACH: usize = 200;
@@ -41,8 +41,8 @@ pub struct Case {
     call: Call,
 }
 
-/// The small tables of document 01, random ones and damaged ones, each with one of the calls; and
-/// a desk whose pile is filled.
+/// The small tables of documents 01 and 02, random ones and damaged ones, each with one of the
+/// calls; the runs of three of them, for their peaks; and a desk whose pile is filled.
 pub fn all(seed: u64) -> Vec<Case> {
     let mut rng = Rng::new(seed);
     let mut tables: Vec<Vec<u8>> = Vec::new();
@@ -68,6 +68,13 @@ pub fn all(seed: u64) -> Vec<Case> {
             table,
         })
         .collect();
+    for table in [named::t(), named::idle_station(), named::spread_word()] {
+        let table = table.bytes();
+        cases.push(Case {
+            call: exact_run(&table),
+            table,
+        });
+    }
     let (table, calls) = sequences::filling();
     cases.push(Case {
         table: table.bytes(),
@@ -76,42 +83,56 @@ pub fn all(seed: u64) -> Vec<Case> {
     cases
 }
 
-/// The figures of a table with room for everything: its records, its run and the run's peak.
+/// The figures of a table with room for everything: its records, its run and the greatest length
+/// of the word along the run.
+#[derive(Default)]
 struct Size {
     records: usize,
     run: Vec<u16>,
-    peak: usize,
+    longest: usize,
 }
 
 fn size(table: &[u8]) -> Option<Size> {
     let mut log = vec![0; 24 * (RECORDS + 1)];
     let mut scratch = vec![0; scratch_needed(log.len())];
     let mut page = vec![0; STEPS];
-    let (records, steps, peak) = match run(table, &mut log, &mut scratch, &mut page) {
+    match run(table, &mut log, &mut scratch, &mut page) {
         Run::Reachable {
-            transitions,
-            steps,
-            peak,
-            ..
-        } => (transitions, steps as usize, peak as usize),
+            transitions, steps, ..
+        } => {
+            page.truncate(steps as usize);
+            Some(Size {
+                records: transitions as usize,
+                longest: Table::read(table).longest_word(&page),
+                run: page,
+            })
+        }
         Run::Refused(Refusal {
             number: 10 | 11, ..
-        }) => return None,
+        }) => None,
         Run::Refused(_) => match answer(table, &mut log, &mut scratch) {
-            Answer::Unreachable { transitions, .. } => (transitions, 0, 0),
-            _ => (0, 0, 0),
+            Answer::Unreachable { transitions, .. } => Some(Size {
+                records: transitions as usize,
+                ..Size::default()
+            }),
+            _ => Some(Size::default()),
         },
-    };
-    page.truncate(steps);
-    Some(Size {
-        records: records as usize,
-        run: page,
-        peak,
-    })
+    }
 }
 
 fn is_small(table: &[u8]) -> bool {
     table.len() <= 400 && size(table).is_some_and(|size| size.records <= RECORDS)
+}
+
+/// The run call with buffers that just serve.
+fn exact_run(table: &[u8]) -> Call {
+    let size = size(table).expect("a small table");
+    let log = 24 * size.records;
+    Call::Run {
+        log,
+        scratch: scratch_needed(log),
+        page: size.run.len(),
+    }
 }
 
 /// Each call in turn, its buffers about as long as it needs them.
@@ -129,7 +150,7 @@ fn call(rng: &mut Rng, number: usize, table: &[u8]) -> Call {
         },
         2 => Call::Walk {
             rules: list(rng, size.run),
-            pile: (size.peak + rng.below(6)).saturating_sub(rng.below(3)),
+            pile: (size.longest + rng.below(6)).saturating_sub(rng.below(3)),
             scratch: 2_048 + rng.below(2) - rng.below(12) / 11,
         },
         _ => {

@@ -7,7 +7,7 @@ use mathlib.Core.Path.{_≡_, refl}
 use mathlib.Core.List.{List, [], _∷_}
 use Prim.Native.Nat.{ℕ}
 use lib.ListN.{take}
-use Rattle.model.specs.Groups.{sameGroup, restrict, merge}
+use Rattle.model.specs.Groups.{greatest, sameGroup, restrict, merge}
 use Rattle.model.specs.Words.{tops}
 use Rattle.model.specs.Systems.{enabled, fire}
 use Rattle.model.specs.Tables.{isOutOfTurn, groupFits, transitionFits, writtenFit, valueFits, cooperates, leavesControl, isTwin, refusal, readFrom, read, systemOf}
@@ -32,7 +32,7 @@ walked table list pile scratch =
 ";
 
 /// The definitions that an equation may unfold.
-const UNFOLDING: &str = "unfolding sameGroup restrict merge tops enabled fire isOutOfTurn groupFits transitionFits writtenFit valueFits cooperates leavesControl isTwin refusal readFrom read systemOf readsAt keyLess sameKey additions logAt firstSaturated saturatedAt acceptingPath emittedBy recordBytes recordsOf runOf scratchAfter logAfter pageAfter answerGiven answerCall runGiven runCall walkGiven walkCall checks deskCall";
+const UNFOLDING: &str = "unfolding greatest sameGroup restrict merge tops enabled fire isOutOfTurn groupFits transitionFits writtenFit valueFits cooperates leavesControl isTwin refusal readFrom read systemOf readsAt keyLess sameKey additions logAt firstSaturated saturatedAt acceptingPath emittedBy recordBytes recordsOf runOf scratchAfter logAfter pageAfter answerGiven answerCall runGiven runCall walkGiven walkCall checks deskCall";
 
 /// A call's outcome by the definitions, and the lists that it shall be.
 pub struct Equation {

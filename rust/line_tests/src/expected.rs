@@ -1,7 +1,7 @@
 //! What `line` shall write for a table, by the second engine.
 
 use crate::situations::{self, refused};
-use comparison::Counts;
+use comparison::{Case, Counts, Make, note_peak};
 use second_engine::{Answer, RECORD_BYTES, Refusal, Run, answer, run, scratch_needed};
 use std::fmt::Write;
 
@@ -32,7 +32,8 @@ impl Engine {
     }
 
     /// The lines for a table; counts the situations that they tell of.
-    pub fn lines(&mut self, table: &[u8], counts: &mut Counts) -> String {
+    pub fn lines(&mut self, case: &Case, counts: &mut Counts) -> String {
+        let table = &case.bytes;
         match table.len() {
             0 => counts.meet(situations::EMPTY_INPUT),
             length if length > INPUT_BYTES => counts.meet(situations::LONG_INPUT),
@@ -68,18 +69,23 @@ impl Engine {
                     STEPS_CAP => counts.meet(situations::PAST_CAP),
                     _ => (),
                 }
-                self.add_run(table, &mut lines, counts);
+                self.add_run(case, &mut lines, counts);
                 lines
             }
         }
     }
 
     /// Adds the lines after the steps of a reachable table.
-    fn add_run(&mut self, table: &[u8], lines: &mut String, counts: &mut Counts) {
-        match run(table, &mut self.log, &mut self.scratch, &mut self.page) {
+    fn add_run(&mut self, case: &Case, lines: &mut String, counts: &mut Counts) {
+        let bytes = &case.bytes;
+        match run(bytes, &mut self.log, &mut self.scratch, &mut self.page) {
             Run::Reachable { steps, peak, .. } => {
+                let rules = &self.page[..steps as usize];
+                if let Make::Random(table) = &case.make {
+                    note_peak(table, rules, counts);
+                }
                 *lines += &format!("peak {peak}\nrun");
-                for rule in &self.page[..steps as usize] {
+                for rule in rules {
                     write!(lines, " {rule}").expect("a string takes all");
                 }
                 *lines += "\n";

@@ -6,7 +6,7 @@
 mod expected;
 mod situations;
 
-use comparison::{Cases, Counts, Program};
+use comparison::{Case, Cases, Counts, Program};
 use expected::Engine;
 use std::env;
 use std::io::{self, ErrorKind, Write};
@@ -38,7 +38,7 @@ fn compare(line: &str, seed: u64) -> io::Result<bool> {
     };
     program.compare(&Cases::new(seed, EACH), || {
         let mut engine = Engine::new();
-        move |case, counts: &mut Counts| compare_one(line, &mut engine, &case.bytes, counts)
+        move |case: &Case, counts: &mut Counts| compare_one(line, &mut engine, case, counts)
     })
 }
 
@@ -46,11 +46,11 @@ fn compare(line: &str, seed: u64) -> io::Result<bool> {
 fn compare_one(
     line: &str,
     engine: &mut Engine,
-    table: &[u8],
+    case: &Case,
     counts: &mut Counts,
 ) -> io::Result<Option<String>> {
-    let expected = engine.lines(table, counts);
-    let given = run_line(line, table)?;
+    let expected = engine.lines(case, counts);
+    let given = run_line(line, &case.bytes)?;
     let same = given.stdout == expected.as_bytes();
     if same && given.status.success() && given.stderr.is_empty() {
         return Ok(None);

@@ -1,6 +1,6 @@
 //! The situations that the comparison is for: all of them must be met.
 
-use comparison::Demand;
+use comparison::{Demand, peak_situations};
 
 pub const REACHABLE: &str = "reachable";
 pub const UNREACHABLE: &str = "unreachable";
@@ -37,5 +37,6 @@ pub fn refused(number: u8) -> String {
 /// enough, and it asks for a run where there is one. Refusals 12 to 14 belong to the walk.
 pub fn all() -> Vec<Demand> {
     let refusals = (1..=10).map(|number| Demand::once(refused(number)));
-    refusals.chain(OTHERS.map(Demand::once)).collect()
+    let others = OTHERS.into_iter().chain(peak_situations());
+    refusals.chain(others.map(Demand::once)).collect()
 }

@@ -39,7 +39,7 @@ const BUFFERS: [(&str, &[&[Bound]]); 6] = [
     ("scratch", &[&AROUND]),
     ("page", &[&AROUND]),
     ("start pile", &[&AROUND]),
-    ("peak pile", &[&AROUND]),
+    ("longest pile", &[&AROUND]),
     ("walk scratch", &[&AROUND]),
 ];
 

@@ -4,7 +4,7 @@ use second_engine::{
     Answer, RECORD_BYTES, RECORD_CEILING, Run, WALK_SCRATCH, Walk, answer, run, scratch_needed,
     walk,
 };
-use tables::Rng;
+use tables::{Rng, Table};
 
 /// Records that most limits fit in.
 const USUAL: usize = 2_000;
@@ -21,7 +21,8 @@ pub struct Facts {
     pub steps: usize,
     /// The length of the start pile.
     pub start: usize,
-    pub peak: usize,
+    /// The greatest length of the word along the run.
+    pub longest: usize,
     /// The run, or nothing if there is none or it is too long.
     pub run: Vec<u16>,
     /// The log of the limit, or nothing if it has too many records.
@@ -40,7 +41,7 @@ impl Facts {
             accepted: true,
             records: RECORD_CEILING + 1,
             start,
-            peak: start + 3,
+            longest: start + 3,
             ..Facts::default()
         };
         if !facts.learn_limit(table, USUAL) {
@@ -55,7 +56,7 @@ impl Facts {
             records: rng.below(20),
             steps: rng.below(10),
             start: rng.below(10),
-            peak: rng.between(10, 12),
+            longest: rng.between(10, 12),
             ..Facts::default()
         }
     }
@@ -88,8 +89,8 @@ impl Facts {
         let mut log = vec![0; self.log.len()];
         let mut scratch = vec![0; scratch_needed(log.len())];
         let mut page = vec![0; self.steps];
-        if let Run::Reachable { peak, .. } = run(table, &mut log, &mut scratch, &mut page) {
-            self.peak = peak as usize;
+        if let Run::Reachable { .. } = run(table, &mut log, &mut scratch, &mut page) {
+            self.longest = Table::read(table).longest_word(&page);
             self.run = page;
         }
     }

@@ -3,7 +3,7 @@
 use crate::facts::Facts;
 use crate::reasons::Several;
 use crate::{bounds, lists};
-use comparison::{Counts, Demand};
+use comparison::{Counts, Demand, note_peak, peak_situations};
 use tables::Table;
 
 /// How many random tables must be accepted, and how many damaged ones refused.
@@ -51,6 +51,7 @@ pub fn note_shape(table: &Table, facts: &Facts, counts: &mut Counts) {
     {
         counts.meet(format!("tables with kind {kind} at its ceiling"));
     }
+    note_peak(table, &facts.run, counts);
     if facts.rounds >= 100 {
         counts.meet("limits of 100 rounds or more");
     }
@@ -84,6 +85,7 @@ pub fn all() -> Vec<Demand> {
     let kinds = [1, 2, 3, 4, 5, 7];
     names.extend(kinds.map(|kind| format!("tables with kind {kind} at its ceiling")));
     names.extend(OUTCOMES.map(str::to_string));
+    names.extend(peak_situations().map(str::to_string));
     names.extend(bounds::names());
     names.extend(lists::NAMES.map(str::to_string));
     let mut situations: Vec<_> = names.into_iter().map(Demand::once).collect();

@@ -83,7 +83,7 @@ impl Trials<'_> {
         let (list_name, list) = lists::any(&mut self.rng, self.table, self.facts, self.rules);
         let pile = match self.rng.below(2) {
             0 => around(&mut self.rng, "start pile", self.facts.start),
-            _ => around(&mut self.rng, "peak pile", self.facts.peak),
+            _ => around(&mut self.rng, "longest pile", self.facts.longest),
         };
         let scratch = around(&mut self.rng, "walk scratch", WALK_SCRATCH);
         let lengths = [pile.value, scratch.value];

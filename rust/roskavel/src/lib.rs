@@ -37,7 +37,7 @@
 //! assert_eq!(given, Answer::Reachable { transitions: 3, rounds: 2, steps: 3 });
 //!
 //! let given = roskavel::run(&table, &mut log, &mut scratch, &mut page);
-//! assert_eq!(given, Run::Reachable { transitions: 3, rounds: 2, steps: 3, peak: 2 });
+//! assert_eq!(given, Run::Reachable { transitions: 3, rounds: 2, steps: 3, peak: 1 });
 //! assert_eq!(page[..3], [0, 1, 2]);
 //!
 //! let mut pile = [0; 2];
@@ -209,7 +209,10 @@ pub enum Answer {
 /// What [`run`] gives.
 #[derive(Clone, Copy, PartialEq, Eq, Debug)]
 pub enum Run {
-    /// The first `steps` numbers of the page are a run; its pile grows to `peak` letters.
+    /// The first `steps` numbers of the page are a run. `peak` is the greatest length of any one
+    /// process's own pile along the run, the start included; a process's own pile is the pile
+    /// without the letters that it has no part in. The pile buffer of a [`walk`], which holds the
+    /// whole pile, may need more.
     Reachable {
         transitions: usize,
         rounds: usize,

@@ -1,15 +1,17 @@
 //! A second engine for document 01, of independent make: reachability of cooperating
-//! multi-pushdown systems by saturation of a watch automaton, and the desk of request 2.1. Every
-//! call works on tables of any bytes and on buffers of any length.
+//! multi-pushdown systems by saturation of a watch automaton, with the desk of request 2.1 and
+//! the peak of request 2.2. Every call works on tables of any bytes and on buffers of any length.
 
 mod desk;
 mod group;
+mod peak;
 mod saturation;
 mod table;
 mod walk;
 
 pub use desk::{DESK_PILE, Desk, NAMES};
 
+use peak::peak;
 use saturation::{Limit, Record, STEPS_CAP};
 use table::Table;
 use walk::Configuration;
@@ -54,6 +56,7 @@ pub enum Answer {
 /// What the run call gives.
 #[derive(Clone, Copy, PartialEq, Eq, Debug)]
 pub enum Run {
+    /// `peak` is the greatest length of any process's own pile along the run, start included.
     Reachable {
         transitions: u32,
         rounds: u32,
@@ -133,7 +136,7 @@ pub fn run(table: &[u8], log: &mut [u8], scratch: &mut [u8], page: &mut [u16]) -
         transitions: limit.records.len() as u32,
         rounds: u32::from(limit.rounds()),
         steps,
-        peak: peak(&limit.table, &rules),
+        peak: peak(&limit.table, &rules) as u32,
     }
 }
 
@@ -227,18 +230,6 @@ fn check_scratch(scratch: &[u8], needed: usize) -> Result<(), Refusal> {
         });
     }
     Ok(())
-}
-
-/// The greatest length of the pile's word along a run: each rule takes one letter and writes
-/// its own.
-fn peak(table: &Table, rules: &[u16]) -> u32 {
-    let mut height = table.pile.len();
-    let mut peak = height;
-    for &rule in rules {
-        height = height - 1 + table.rules[usize::from(rule)].written.len();
-        peak = peak.max(height);
-    }
-    peak as u32
 }
 
 /// A record's 24 bytes: letter, before, after, round, rule, path, steps, little-endian.

@@ -1,5 +1,5 @@
-//! Tables for comparing engines: a builder, the small tables of document 01, benchmark tables,
-//! random accepted tables and damaged ones.
+//! Tables for comparing engines: a builder, the small tables of documents 01 and 02, benchmark
+//! tables, random accepted tables and damaged ones; and how long piles become along a run.
 
 pub mod bench;
 pub mod damage;
@@ -7,6 +7,7 @@ pub mod named;
 pub mod random;
 
 mod model;
+mod piles;
 mod rng;
 
 pub use model::{Group, NO_PART, Process, Rule, Table, Transition, drop_twin, group, restrict};

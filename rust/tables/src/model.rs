@@ -3,6 +3,9 @@
 /// The byte of a process that has no part, and of a spare written place.
 pub const NO_PART: u8 = 0xFF;
 
+/// The length of an item's body by its kind.
+const BODY: [usize; 9] = [0, 2, 1, 14, 9, 4, 4, 1, 0];
+
 /// A state group, one byte for each process.
 pub type Group = [u8; 4];
 
@@ -55,6 +58,44 @@ impl Table {
             accepting: Vec::new(),
             start: group(&vec![0; count]),
             pile: Vec::new(),
+        }
+    }
+
+    /// Reads the bytes of an accepted table.
+    pub fn read(bytes: &[u8]) -> Self {
+        let mut table = Table::new(0, 0, 0);
+        let mut rest = bytes;
+        while let Some((&kind, behind)) = rest.split_first() {
+            let (body, next) = behind.split_at(BODY[usize::from(kind)]);
+            table.add(kind, body);
+            rest = next;
+        }
+        table
+    }
+
+    /// Adds an item.
+    fn add(&mut self, kind: u8, body: &[u8]) {
+        match kind {
+            1 => self.processes.push(Process {
+                line: body[0],
+                all: body[1],
+            }),
+            2 => self.letters.push(body[0]),
+            3 => self.rules.push(Rule {
+                letter: body[0],
+                before: group(&body[1..5]),
+                after: group(&body[5..9]),
+                written: body[10..][..usize::from(body[9])].to_vec(),
+            }),
+            4 => self.watch.push(Transition {
+                letter: body[0],
+                before: group(&body[1..5]),
+                after: group(&body[5..9]),
+            }),
+            5 => self.accepting.push(group(body)),
+            6 => self.start = group(body),
+            7 => self.pile.push(body[0]),
+            _ => (),
         }
     }
 

@@ -1,4 +1,4 @@
-//! The small tables of document 01.
+//! The small tables of document 01, and those of request 2.2.
 
 use crate::model::{Group, Table, group};
 
@@ -86,6 +86,33 @@ pub fn count(count: usize) -> Table {
     table
 }
 
+/// Rule 0 removes the one letter of process 0; process 1 has three letters, which no rule reads
+/// and the automaton does.
+pub fn idle_station() -> Table {
+    let mut table = Table::new(2, 2, 2);
+    table.processes[1].line = 1;
+    let first = table.letter(0b01);
+    let second = table.letter(0b10);
+    table.rule(first, ZERO, ONE, &[]);
+    table.transition(second, ZERO, ONE);
+    table.transition(second, ONE, ONE);
+    table.accepting.push(group(&[1, 1]));
+    table.pile = vec![first, second, second, second];
+    table
+}
+
+/// Four processes with one letter and four of its occurrences each, in turn; rules remove them.
+pub fn spread_word() -> Table {
+    let mut table = Table::new(4, 1, 1);
+    let letters = [0, 1, 2, 3].map(|process| table.letter(1 << process));
+    for letter in letters {
+        table.rule(letter, ZERO, ZERO, &[]);
+    }
+    table.accepting.push(ZERO);
+    table.pile = letters.repeat(4);
+    table
+}
+
 /// The smallest accepted table: one process and its start.
 pub fn smallest() -> Table {
     Table::new(1, 1, 1)
@@ -100,6 +127,8 @@ pub fn all() -> Vec<(String, Table)> {
         ("T at its goal".to_string(), t_at_goal()),
         ("re-entry".to_string(), re_entry()),
         ("smallest".to_string(), smallest()),
+        ("idle station".to_string(), idle_station()),
+        ("spread word".to_string(), spread_word()),
     ];
     for letters in [1, 2, 3, 19, 20, 32] {
         tables.push((format!("doubling {letters}"), doubling(letters)));

@@ -5,7 +5,7 @@ use tables::{Table, bench, named};
 
 #[test]
 fn shipped_tables_are_the_tested_ones() {
-    let tables: [(&str, Table); 10] = [
+    let tables: [(&str, Table); 12] = [
         ("T", named::t()),
         ("T-without-rule-2", named::t_without_rule_2()),
         ("T-at-goal", named::t_at_goal()),
@@ -13,6 +13,8 @@ fn shipped_tables_are_the_tested_ones() {
         ("doubling-3", named::doubling(3)),
         ("doubling-19", named::doubling(19)),
         ("doubling-20", named::doubling(20)),
+        ("idle-station", named::idle_station()),
+        ("spread-word", named::spread_word()),
         ("2000-records", bench::wide(2_000, 5)),
         ("1500-rounds", bench::slow(187, 4)),
         ("full", bench::full_table()),

@@ -21,6 +21,8 @@ struct Tally {
     most_steps: u64,
     /// Tables with a record that several reasons add in its first round.
     choices: usize,
+    /// Tables with a run whose peak is below the greatest length of the word.
+    spread: usize,
 }
 
 /// The bytes of all records.
@@ -84,14 +86,16 @@ fn compare_calls(table: &Table, records: &[Record], path: Option<&[u16]>) -> Opt
 /// Replays a run by the definition of firing and by the engine's walk; gives its peak.
 fn replay(table: &Table, rules: &[u16]) -> usize {
     let mut at = Configuration::start(table);
-    let mut peak = at.word.len();
+    let mut peak = at.height(table);
+    let mut room = at.word.len();
     for &rule in rules {
         let next = at.fire(table, &table.rules[usize::from(rule)]);
         at = next.expect("every rule of a run fires");
-        peak = peak.max(at.word.len());
+        peak = peak.max(at.height(table));
+        room = room.max(at.word.len());
     }
     assert!(at.watched(table));
-    let (walk, pile) = walked(&table.bytes(), rules, peak);
+    let (walk, pile) = walked(&table.bytes(), rules, room);
     let expected = Walk::Walked {
         states: at.states,
         length: at.word.len(),
@@ -99,7 +103,7 @@ fn replay(table: &Table, rules: &[u16]) -> usize {
         rest: rules.len(),
     };
     assert_eq!(walk, expected);
-    assert_eq!(pile, log_of(&at.word, peak));
+    assert_eq!(pile, log_of(&at.word, room));
     peak
 }
 
@@ -113,7 +117,9 @@ fn compare(table: &Table, budget: usize, tally: &mut Tally) {
         tally.skipped += 1;
         return;
     };
-    compare_calls(table, &records, path.as_deref());
+    let run = compare_calls(table, &records, path.as_deref());
+    let is_spread = |run: Vec<u16>| table.peak(&run) < table.longest_word(&run);
+    tally.spread += usize::from(run.is_some_and(is_spread));
     match &path {
         Some(path) => {
             tally.reachable += 1;
@@ -142,7 +148,7 @@ fn compare_shape(shape: &Shape, seeds: std::ops::Range<u64>) -> Tally {
 fn tiny_tables_follow_the_definitions() {
     let tally = compare_shape(&Shape::TINY, 0..6_000);
     assert!(tally.reachable > 2_000 && tally.unreachable > 2_000);
-    assert!(tally.skipped < 100);
+    assert!(tally.spread > 100 && tally.skipped < 100);
 }
 
 #[test]
@@ -156,7 +162,7 @@ fn dense_tables_follow_the_definitions() {
 fn middle_tables_follow_the_definitions() {
     let tally = compare_shape(&Shape::MIDDLE, 100_000..101_000);
     assert!(tally.reachable > 300 && tally.unreachable > 300);
-    assert!(tally.choices > 300 && tally.skipped < 100);
+    assert!(tally.choices > 300 && tally.spread > 100 && tally.skipped < 100);
 }
 
 #[test]

@@ -206,10 +206,21 @@ impl Configuration {
         self.word.iter().filter(part).copied().collect()
     }
 
+    /// The own piles of all processes.
+    fn own_piles(&self, table: &Table) -> Vec<Vec<u8>> {
+        let piles = (0..table.processes.len()).map(|process| self.own_pile(table, process));
+        piles.collect()
+    }
+
+    /// The greatest length of any process's own pile.
+    pub fn height(&self, table: &Table) -> usize {
+        let piles = self.own_piles(table);
+        piles.iter().map(Vec::len).max().unwrap_or(0)
+    }
+
     /// What decides equality: the states and all own piles.
     fn key(&self, table: &Table) -> (Group, Vec<Vec<u8>>) {
-        let piles = (0..table.processes.len()).map(|process| self.own_pile(table, process));
-        (self.states, piles.collect())
+        (self.states, self.own_piles(table))
     }
 
     /// The configuration after a rule, if it fires.

@@ -1,8 +1,8 @@
-//! The small tables of document 01.
+//! The small tables of document 01, and those of request 2.2.
 
 use crate::calls::{answered, ran, walked};
 use second_engine::{Answer, Refusal, Run, Walk, answer};
-use tables::{Table, named};
+use tables::{Table, group, named};
 
 const LOG: usize = 24 * 2_000;
 const PAGE: usize = 10_000;
@@ -33,7 +33,7 @@ fn reachable(transitions: u32, rounds: u32, steps: u32, peak: u32) -> Run {
 #[test]
 fn t_gives_its_listing() {
     assert_eq!(named::t().bytes().len(), 70);
-    assert_eq!(run_of(&named::t()), (reachable(3, 2, 3, 2), vec![0, 1, 2]));
+    assert_eq!(run_of(&named::t()), (reachable(3, 2, 3, 1), vec![0, 1, 2]));
 }
 
 #[test]
@@ -156,6 +156,35 @@ fn doubling() {
     assert_eq!(given, reachable(19, 19, 524_287, 19));
     let (given, _, _) = ran(&named::doubling(20).bytes(), LOG, 1_200_000);
     assert_eq!(given, Run::Refused(refused(11, 0)));
+}
+
+#[test]
+fn idle_processes_have_their_part_in_the_peak() {
+    let table = named::idle_station();
+    assert_eq!(run_of(&table), (reachable(3, 1, 1, 3), vec![0]));
+    assert_eq!(table.longest_word(&[0]), 4);
+}
+
+#[test]
+fn letters_of_different_processes_are_not_added() {
+    let table = named::spread_word();
+    let run = [0, 1, 2, 3].repeat(4);
+    assert_eq!(table.longest_word(&run), 16);
+    assert_eq!(run_of(&table), (reachable(4, 1, 16, 4), run));
+}
+
+/// Rule 0 writes a letter of both processes and one of process 1, which has both then.
+#[test]
+fn letters_of_several_processes_count_at_each() {
+    let mut table = Table::new(2, 1, 1);
+    let [first, both, second] = [0b11, 0b11, 0b10].map(|bits| table.letter(bits));
+    let states = group(&[0, 0]);
+    table.rule(first, states, states, &[both, second]);
+    table.rule(both, states, states, &[]);
+    table.rule(second, states, states, &[]);
+    table.accepting.push(states);
+    table.pile.push(first);
+    assert_eq!(run_of(&table), (reachable(3, 2, 3, 2), vec![0, 1, 2]));
 }
 
 #[test]

@@ -1,0 +1,42 @@
+-- The rules written so far and what the stack still emits are the whole run; each turn uses up a place of the page or of the stack (Working).
+use mathlib.Core.Path.{refl}
+use Prim.Native.Nat.{_+_, _-_, _*_}
+use native.Mathlib.Omega.{arith}
+use lib.ListN.{length}
+use borrow.Author.Needs.{needs}
+use Rattle.stack.specs.StackNumbers.{stackOf}
+use Rattle.unfold.proofs.Working.{Working, working-start, working-workable, working-turn, working-less, working-small, working-end}
+use Rattle.unfold.proofs.work_off.Statement.{statement}
+use Rattle.unfold.proofs.work_off.Tie as tie
+
+abbrev Inv-loop : tie.InvT-loop
+Inv-loop table changes log scratch₀ page₀ count top w₀ scratch page w = Working table (length scratch₀) (stackOf scratch₀ top) page₀ scratch page w
+
+abbrev μ-loop : tie.MeasureT-loop
+μ-loop table changes log scratch₀ page₀ count top w₀ scratch page w = 5 * (length page₀ - w .rules) + w .top
+
+pub work-off-spec : {M : Type 1} → statement M
+work-off-spec = tie.close (tie.spec Inv-loop μ-loop (λ c κs. c .before .before .before .before .before .pre .0 .holds)
+    (λ c. working-start (c .before .before .before .before .before .before .pre) refl refl (c .start-lengths .result) (c .start-lengths .ensures))
+    (λ c κs.
+    let at-loop = c .before .before .before .before in
+    working-workable (at-loop .before .before .before .before .before .before .before .pre) (c .before .before .if1 .taken) (at-loop .loop .inv))
+    (λ c.
+    let at-call = c .before .before .before .before in
+    let at-loop = at-call .before .before .before .before .before in
+    working-less (at-loop .before .before .before .before .before .before .before .pre) (at-call .before .before .before .if1 .taken) (at-loop .loop .inv) (at-call .work-one .ensures))
+    (λ c.
+    let at-call = c .before .before .before .before in
+    let at-loop = at-call .before .before .before .before .before in
+    working-turn (at-loop .before .before .before .before .before .before .before .pre) (at-call .before .before .before .if1 .taken) (at-loop .loop .inv) (at-call .work-one .ensures))
+    (λ c κs. search needs)
+    (λ c.
+    let at-loop = c .before .before .before .before in
+    omega (arith, working-small (at-loop .before .before .before .before .before .before .before .pre) (at-loop .loop .inv) .0))
+    (λ c.
+    let at-loop = c .before .before .before .before in
+    omega (arith, c .before .highest .ensures, working-small (at-loop .before .before .before .before .before .before .before .pre) (at-loop .loop .inv) .1))
+    (λ c. c .before .before .before .before .loop .inv .size) (λ c. c .before .before .before .before .loop .inv .going .size)
+    (λ c.
+    let at-loop = c .before .before .before .before in
+    rw (c .before .highest .ensures) (working-end (at-loop .before .before .before .before .before .before .before .pre) (c .before .before .if1 .left) (at-loop .loop .inv))))
