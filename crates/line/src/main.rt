@@ -4,15 +4,12 @@ use libc::STDOUT_FILENO;
 use listing::put_answer;
 use listing::put_ran;
 use model::Answered;
-use reach::answer;
-use reach::run;
+use reach::answer_and_run;
 ghost use mathlib.Core.Path.{_≡_};
-ghost use Prim.Native.Nat.{_+_, _≤_};
+ghost use Prim.Native.Nat.{_≤_};
 ghost use lib.ListN.{length, take};
-ghost use Rattle.model.specs.Calls.{runCall};
 ghost use Rattle.listing.specs.LineText.{Lent, lineText};
-ghost use Rattle.listing.specs.Listing.{isReachable, runLines};
-ghost use Rattle.listing.specs.Puts.{Puts};
+ghost use Rattle.listing.specs.Listing.{isReachable};
 
 fn is_reachable(answered: Answered) -> bool
     ensures { λ r. ⌜ r ≡ isReachable answered ⌝ }
@@ -37,23 +34,7 @@ fn is_reachable(answered: Answered) -> bool
     }
 }
 
-// The run's lines behind the answer's.
-fn add_run(
-    input: &[u8],
-    log: &mut [u8],
-    scratch: &mut [u8],
-    page: &mut [u16],
-    out: &mut [u8],
-    at: usize,
-) -> usize
-    requires { ⌜ (length (now page) ≡ 10000) × (at + 60064 ≤ length (now out)) ⌝ }
-    ensures { λ r. ⌜ Puts (now (out .entry)) at (runLines (runCall (now (input .entry)) (now (log .entry)) (now (scratch .entry)) (now (page .entry)) .answer) (runCall (now (input .entry)) (now (log .entry)) (now (scratch .entry)) (now (page .entry)) .page)) 60064 r (now (out .exit)) ⌝ }
-{
-    let ran = run(input, log, scratch, page);
-    put_ran(out, at, ran, page)
-}
-
-// Document 01's text for an input: the answer's lines, and behind a reachable answer the run's.
+// Document 01's text for an input: the answer's lines, and behind a reachable answer the run's. The table is saturated once.
 fn respond(
     input: &[u8],
     log: &mut [u8],
@@ -64,10 +45,12 @@ fn respond(
     requires { ⌜ Lent (now log) (now scratch) (now page) × (65536 ≤ length (now out)) ⌝ }
     ensures { λ r. ⌜ (take r (now (out .exit)) ≡ lineText (now (input .entry))) × (r ≤ length (now (out .exit))) ⌝ }
 {
-    let answered = answer(input, log, scratch);
+    let both = answer_and_run(input, log, scratch, page);
+    let answered = both.answered;
+    let ran = both.ran;
     let end = put_answer(out, 0, answered);
     if is_reachable(answered) {
-        return add_run(input, log, scratch, page, out, end);
+        return put_ran(out, end, ran, page);
     }
     end
 }

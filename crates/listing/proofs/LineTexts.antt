@@ -58,20 +58,17 @@ text-of input log scratch page b =
     (b .page-length ∙ zeros-length 10000)
 
 -- ---- a reachable answer with the run behind it, or another answer alone, is the whole text
-pub text-with-run : (input log scratch page log′ scratch′ : List ℕ) (a : Answered) → Lent log scratch page → Lent log′ scratch′ page → a ≡ answerCall input log scratch .answer → isReachable a ≡ true
-    → answerLines a ++ ranLines input log′ scratch′ page ≡ lineText input
-unfolding textWith listing
-text-with-run input log scratch page log′ scratch′ a b b′ e y =
-    let first : answerLines a ++ ranLines input log′ scratch′ page ≡ answerLines a ++ cond (isReachable a) (ranLines input log′ scratch′ page) [] = rw y in
-    first
-    ∙ ap (λ (x : Answered). answerLines x ++ cond (isReachable x) (ranLines input log′ scratch′ page) []) (e ∙ answer-lengths input log scratch log′ scratch′ (b .log-length ∙ sym (b′ .log-length)) (b .scratch-length ∙ sym (b′ .scratch-length)))
-    ∙ text-of input log′ scratch′ page b′
+module _ (input log scratch page : List ℕ) (a : Answered) (b : Lent log scratch page) (e : a ≡ answerCall input log scratch .answer) where
+  text-is : answerLines a ++ cond (isReachable a) (ranLines input log scratch page) [] ≡ lineText input
+  unfolding textWith listing
+  text-is = ap (λ (x : Answered). answerLines x ++ cond (isReachable x) (ranLines input log scratch page) []) e ∙ text-of input log scratch page b
 
-pub text-alone : (input log scratch page : List ℕ) (a : Answered) → Lent log scratch page → a ≡ answerCall input log scratch .answer → isReachable a ≡ false → answerLines a ≡ lineText input
-unfolding textWith listing
-text-alone input log scratch page a b e n =
-    let first : answerLines a ≡ answerLines a ++ cond (isReachable a) (ranLines input log scratch page) [] = rw n (sym (append-nil (answerLines a))) in
-    first ∙ ap (λ (x : Answered). answerLines x ++ cond (isReachable x) (ranLines input log scratch page) []) e ∙ text-of input log scratch page b
+  pub text-with-run : isReachable a ≡ true → {ran : Ran} {left : List ℕ} → ran ≡ runCall input log scratch page .answer → left ≡ runCall input log scratch page .page
+      → answerLines a ++ runLines ran left ≡ lineText input
+  text-with-run y r l = let t = text-is in ap₂ (λ (x : Ran) (p : List ℕ). answerLines a ++ runLines x p) r l ∙ rw y at t
+
+  pub text-alone : isReachable a ≡ false → answerLines a ≡ lineText input
+  text-alone n = let t = text-is in sym (append-nil (answerLines a)) ∙ rw n at t
 
 -- ---- bytes behind the input's buffer change nothing
 pub line-prefix : (n : ℕ) (input : List ℕ) → 5545 ≤ n → lineText (take n input) ≡ lineText input

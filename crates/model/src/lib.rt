@@ -43,6 +43,12 @@ pub enum Ran {
     },
 }
 
+// What the answer call and the run call give where one saturation serves both.
+pub struct AnswerAndRun {
+    pub answered: Answered,
+    pub ran: Ran,
+}
+
 // What the walk call gives: the end states, the length of the pile and whether the situation is watched, or a refusal.
 pub enum Walked {
     Ended {

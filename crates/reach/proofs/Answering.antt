@@ -122,3 +122,9 @@ answer-demands table log scratch a = (a, (rw (a .answer, a .log-left) (demand-2-
 pub run-demands : (table log scratch page : List ℕ) {r : Ran} {log′ scratch′ page′ : List ℕ} → Runs (runCall table log scratch page) r log′ scratch′ page′
     → Runs (runCall table log scratch page) r log′ scratch′ page′ × (LogHolds table (runRefusal r) log′ × Demand3 table log scratch page (answerCall table log scratch .answer) r page′)
 run-demands table log scratch page a = (a, (rw (a .answer, a .log-left) (demand-2-run table log scratch page), rw (a .answer, a .page-left) (demand-3 table log scratch page)))
+
+pub both-demands : (table log scratch page : List ℕ) {a : Answered} {r : Ran} {log′ scratch′ page′ : List ℕ} → Answers (answerCall table log scratch) a log′ scratch′
+    → Runs (runCall table log scratch page) r log′ scratch′ page′
+    → Answers (answerCall table log scratch) a log′ scratch′ × (Runs (runCall table log scratch page) r log′ scratch′ page′
+    × (LogHolds table (runRefusal r) log′ × Demand3 table log scratch page a r page′))
+both-demands table log scratch page a r = let d = run-demands table log scratch page r in (a, (r, (d .1 .0, rw (a .answer) (d .1 .1))))

@@ -38,7 +38,7 @@ module _ {table : List ℕ} {t : Table} {n : ℕ} {log scratch : List ℕ} (pre 
   bytes-long = length-log (limit sys) ∙ ap (λ (k : ℕ). k * recordLength) count-is
 
   few-rounds : saturatedAt sys ≤ 65535
-  few-rounds = omega (arith, rounds-short sys, count-is, whole .fits, pre .1 .short)
+  few-rounds = omega (arith, rounds-short sys, count-is, whole .fits, pre .1 .log-room)
 
   pub limit-left : {log₂ : List ℕ} → log₂ ≡ take (count * recordLength) log₁ ++ replicate (length log₁ - count * recordLength) 0
       → LimitLeft table t n log scratch count most log₂ scratch₁
@@ -50,9 +50,9 @@ module _ {table : List ℕ} {t : Table} {n : ℕ} {log scratch : List ℕ} (pre 
             holds = pre .0;
             rest = replicate (length log₁ - count * recordLength) 0;
             logged = is;
-            fits = log-fits table t (pre .0) (saturatedAt sys) few-rounds (omega (arith, count-is, whole .fits, pre .1 .short));
+            fits = log-fits table t (pre .0) (saturatedAt sys) few-rounds (omega (arith, count-is, whole .fits, pre .1 .log-room));
             size = count-is;
-            short = omega (arith, whole .fits, pre .1 .short);
+            short = omega (arith, whole .fits, pre .1 .log-room);
           };
           linked = linked-cleared p (record { room = whole .linked .0; ringed = whole .linked .1 });
           highest = whole .last-round;

@@ -1,13 +1,13 @@
 -- What the calls answer and run leave, as one equation with their outcome each.
 use mathlib.Core.Path.{_≡_}
 use mathlib.Core.List.{List}
-use Prim.Native.Nat.{ℕ, _*_, _≤_, _<_}
+use Prim.Native.Nat.{ℕ, _≤_, _<_}
 use lib.ListN.{length}
 use Rattle.model.specs.declared.Answered.{Answered}
 use Rattle.model.specs.declared.Ran.{Ran}
-use Rattle.model.specs.Calls.{AnswerOutcome, RunOutcome, answerFigures, runFigures, filled, scratchFor, zeros}
+use Rattle.model.specs.Calls.{AnswerOutcome, RunOutcome, answerFigures, capacity, runFigures, filled, scratchFor, zeros}
 use Rattle.model.specs.Log.{limit}
-use Rattle.model.specs.Records.{logBytes, recordLength}
+use Rattle.model.specs.Records.{logBytes}
 use Rattle.table.specs.declared.Table.{Table}
 use Rattle.table.specs.Reading.{systemIn}
 use Rattle.saturate.specs.declared.Saturated.{Saturated}
@@ -29,10 +29,9 @@ pub record Runs (o : RunOutcome) (r : Ran) (log scratch page : List ℕ) : Type 
   pub scratch-left : scratch ≡ o .scratch
   pub page-left : page ≡ o .page
 
--- the log has room for n records, and the scratch for a saturation of n records
+-- the log can hold n records, and the scratch has room for their saturation
 pub record Roomy (n : ℕ) (log scratch : List ℕ) : Type 0 where
-  pub short : n ≤ 65535
-  pub log-room : n * recordLength ≤ length log
+  pub log-room : n ≡ capacity (length log)
   pub scratch-room : scratchFor n ≤ length scratch
 
 -- the log holds the limit's records and then zeros

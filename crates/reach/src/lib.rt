@@ -1,5 +1,6 @@
 // The calls answer and run: whether a run joins the start and the watched set, and such a run.
 use automaton::sets::clear;
+use model::AnswerAndRun;
 use model::Answered;
 use model::Ran;
 use records::RECORD_LENGTH;
@@ -10,17 +11,15 @@ use scratch::NEEDED_PER_RECORD;
 use table::Parsed;
 use table::Table;
 use table::read;
+use verdict::answer_and_run_limit;
 use verdict::answer_limit;
 use verdict::clear_behind;
 use verdict::figure;
-use verdict::run_limit;
 ghost use mathlib.Core.Path.{_≡_};
-ghost use Prim.Native.Nat.{ℕ, _+_, _*_, _≤_, _<_};
-ghost use lib.ListN.{length};
+ghost use Prim.Native.Nat.{ℕ};
 ghost use mathlib.Core.List.{List};
 ghost use Rattle.model.specs.Calls.{capacity, answerCall, answerRefusal, runCall, runRefusal};
 ghost use Rattle.model.specs.Demands.{LogHolds, Demand3};
-ghost use Rattle.model.specs.Records.{recordLength};
 ghost use Rattle.table.specs.Reading.{Holds};
 ghost use Rattle.reach.specs.Outcomes.{Roomy, LogLeft, Answers, Runs};
 
@@ -28,7 +27,7 @@ const MOST_RECORDS: usize = 65535;
 
 // The number of whole records that a log of this length can hold, at most 65,535.
 fn records_in(size: usize) -> usize
-    ensures { λ r. ⌜ (r ≡ capacity size) × (r ≤ 65535) × (r * recordLength ≤ size) ⌝ }
+    ensures { λ r. ⌜ r ≡ capacity size ⌝ }
 {
     let whole = size / RECORD_LENGTH;
     if whole < MOST_RECORDS {
@@ -84,24 +83,35 @@ fn answer_table(table: &[u8], t: Table, log: &mut [u8], scratch: &mut [u8]) -> A
     }
 }
 
-// The run for an accepted table.
-fn run_table(table: &[u8], t: Table, log: &mut [u8], scratch: &mut [u8], page: &mut [u16]) -> Ran
+// Both calls refused alike.
+fn refused(number: u8, place: usize) -> AnswerAndRun
+    ensures { λ r. ⌜ (r .answered ≡ Answered.Refused number place) × (r .ran ≡ Ran.Refused number place) ⌝ }
+{
+    AnswerAndRun {
+        answered: Answered::Refused { number, place },
+        ran: Ran::Refused { number, place },
+    }
+}
+
+// The answer and the run for an accepted table.
+fn answer_and_run_table(
+    table: &[u8],
+    t: Table,
+    log: &mut [u8],
+    scratch: &mut [u8],
+    page: &mut [u16],
+) -> AnswerAndRun
     requires { ⌜ Holds (now table) t ⌝ }
-    ensures { λ r. ⌜ Runs (runCall (now (table .entry)) (now (log .entry)) (now (scratch .entry)) (now (page .entry))) r (now (log .exit)) (now (scratch .exit)) (now (page .exit)) ⌝ }
+    ensures answer { λ r. ⌜ Answers (answerCall (now (table .entry)) (now (log .entry)) (now (scratch .entry))) (r .answered) (now (log .exit)) (now (scratch .exit)) ⌝ }
+    ensures run { λ r. ⌜ Runs (runCall (now (table .entry)) (now (log .entry)) (now (scratch .entry)) (now (page .entry))) (r .ran) (now (log .exit)) (now (scratch .exit)) (now (page .exit)) ⌝ }
 {
     let n = records_in(log.len());
     if scratch.len() < NEEDED + NEEDED_PER_RECORD * n {
-        return Ran::Refused {
-            number: 15,
-            place: 0,
-        };
+        return refused(15, 0);
     }
     match fill_log(table, t, log, scratch, n) {
-        Saturated::Full => Ran::Refused {
-            number: 10,
-            place: 0,
-        },
-        Saturated::Limit { count, rounds } => run_limit(
+        Saturated::Full => refused(10, 0),
+        Saturated::Limit { count, rounds } => answer_and_run_limit(
             table,
             t,
             log,
@@ -127,14 +137,31 @@ pub fn answer(table: &[u8], log: &mut [u8], scratch: &mut [u8]) -> Answered
     }
 }
 
+// Request 2.3: the answer call and the run call of the same buffers, by one saturation. The first two clauses are the outcomes of the two calls, which leave the
+// same log and scratch; the others are as those of `answer` and `run`.
+pub fn answer_and_run(
+    table: &[u8],
+    log: &mut [u8],
+    scratch: &mut [u8],
+    page: &mut [u16],
+) -> AnswerAndRun
+    ensures answer { λ r. ⌜ Answers (answerCall (now (table .entry)) (now (log .entry)) (now (scratch .entry))) (r .answered) (now (log .exit)) (now (scratch .exit)) ⌝ }
+    ensures run { λ r. ⌜ Runs (runCall (now (table .entry)) (now (log .entry)) (now (scratch .entry)) (now (page .entry))) (r .ran) (now (log .exit)) (now (scratch .exit)) (now (page .exit)) ⌝ }
+    ensures demand_2 { λ r. ⌜ LogHolds (now (table .entry)) (runRefusal (r .ran)) (now (log .exit)) ⌝ }
+    ensures demand_3 { λ r. ⌜ Demand3 (now (table .entry)) (now (log .entry)) (now (scratch .entry)) (now (page .entry)) (r .answered) (r .ran) (now (page .exit)) ⌝ }
+{
+    match read(table) {
+        Parsed::Refused { number, place } => refused(number, place),
+        Parsed::Accepted(t) => answer_and_run_table(table, t, log, scratch, page),
+    }
+}
+
 // Document 01, the run call: also a run that joins the start and the watched set, on the page, and its peak. The clauses are as those of `answer`.
 pub fn run(table: &[u8], log: &mut [u8], scratch: &mut [u8], page: &mut [u16]) -> Ran
     ensures demand_1 { λ r. ⌜ Runs (runCall (now (table .entry)) (now (log .entry)) (now (scratch .entry)) (now (page .entry))) r (now (log .exit)) (now (scratch .exit)) (now (page .exit)) ⌝ }
     ensures demand_2 { λ r. ⌜ LogHolds (now (table .entry)) (runRefusal r) (now (log .exit)) ⌝ }
     ensures demand_3 { λ r. ⌜ Demand3 (now (table .entry)) (now (log .entry)) (now (scratch .entry)) (now (page .entry)) (answerCall (now (table .entry)) (now (log .entry)) (now (scratch .entry)) .answer) r (now (page .exit)) ⌝ }
 {
-    match read(table) {
-        Parsed::Refused { number, place } => Ran::Refused { number, place },
-        Parsed::Accepted(t) => run_table(table, t, log, scratch, page),
-    }
+    let both = answer_and_run(table, log, scratch, page);
+    both.ran
 }

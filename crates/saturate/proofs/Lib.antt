@@ -1,3 +1,4 @@
 pub mod ScratchParts
 pub mod RoundSteps
+pub mod RoundEnds
 pub mod Saturating

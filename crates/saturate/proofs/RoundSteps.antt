@@ -25,7 +25,8 @@ use Rattle.model.proofs.Skipping.{freshIn}
 use Rattle.model.proofs.Tests.{and-both, and-left, and-right, by-test, or-right}
 use Rattle.automaton.specs.StateSets.{firstFrom}
 use Rattle.automaton.proofs.StateSets.{first-at}
-use Rattle.scratch.specs.Regions.{activeAt}
+use Rattle.scratch.specs.Regions.{activeAt, ringsAt}
+use Rattle.rings.specs.Rings.{Ringed}
 use Rattle.table.specs.declared.Table.{Table}
 use Rattle.table.specs.Reading.{Holds, ruleIn, systemIn}
 use Rattle.table.proofs.Layouts.{table-modest}
@@ -37,9 +38,9 @@ use Rattle.rules.proofs.RuleOrder.{heads-rise, same-between}
 use Rattle.heads.specs.declared.Reached.{Reached}
 use Rattle.heads.specs.declared.Round.{Round}
 use Rattle.heads.specs.Heads.{HeadAdded, Leading, NextHead, beforeOf, letterOf}
-use Rattle.heads.specs.Rounds.{InRound, earlierLog, headAdditions, headAt, isActive}
+use Rattle.heads.specs.Rounds.{InRound, Prepared, earlierLog, headAdditions, headAt, isActive}
 use Rattle.heads.proofs.InRounds.{Keeps, active-kept, order-kept, round-kept}
-use Rattle.saturate.specs.Rounds.{Logged, RoundAdded}
+use Rattle.saturate.specs.Rounds.{Logged}
 use Rattle.saturate.proofs.ScratchParts.{letter-is}
 
 -- ---- lists
@@ -195,6 +196,16 @@ pub record HeadsAdded (table : List ℕ) (t : Table) (round : Round) (log₀ s�
   pub log-length : length log ≡ length log₀
   pub scratch-length : length s ≡ length s₀
 
+-- no head is left: the log of the round stands, or there is no room for it, and count is then more than n
+pub record HeadsDone (table : List ℕ) (t : Table) (round : Round) (log₀ s₀ : List ℕ) (count : ℕ) (log s : List ℕ) : Type 0 where
+  pub within : count ≤ round .n → Logged (logAt (systemIn table) (round .number)) count log
+  pub over : round .n < count → round .n < length (logAt (systemIn table) (round .number))
+  pub earlier : take (round .base * recordLength) log ≡ take (round .base * recordLength) log₀
+  pub ringed : Ringed log (round .base) (round .n) ringsAt s
+  pub prepared : Prepared table t s
+  pub log-length : length log ≡ length log₀
+  pub scratch-length : length s ≡ length s₀
+
 module _ {table : List ℕ} {t : Table} {round : Round} {log s : List ℕ} (stands : InRound table t round log s) where
   -- a rule that the round looks at stands at an active position
   rules-at : (P : Rule → Type 0) → ((p : ℕ) → p < t .rules → inSet s activeAt p ≡ true → P (ruleIn table (orderedRule s p)))
@@ -228,17 +239,16 @@ module _ {table : List ℕ} {t : Table} {round : Round} {log₀ s₀ : List ℕ}
   abbrev S : InRound table t round log s
   S = h .standing
 
-  -- no position is left; the round began with a scratch of the same length
-  pub heads-end : {s₁ : List ℕ} → length s₀ ≡ length s₁ → going ≡ false → RoundAdded table t (round .base) (round .n) (round .number) log₀ s₁ count log s
-  heads-end e stops = record {
+  -- no position is left
+  pub heads-end : going ≡ false → HeadsDone table t round log₀ s₀ count log s
+  heads-end stops = record {
     within = λ l. subst (λ (rs : List Record). Logged rs count log) (whole l) (h .logged l);
     over = h .over;
-    small = h .small;
     earlier = h .earlier;
     ringed = S .ringed;
     prepared = S .prepared;
     log-length = h .log-length;
-    scratch-length = h .scratch-length ∙ e;
+    scratch-length = h .scratch-length;
   }
     where
       whole : count ≤ round .n → logUpTo table (round .number) (h .last) ≡ logAt (systemIn table) (round .number)

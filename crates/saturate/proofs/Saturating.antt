@@ -1,28 +1,25 @@
 -- Rounds until one adds nothing: the limit.
-use mathlib.Core.Path.{_∙_, _≡_, ap, refl, subst, sym}
-use mathlib.Core.Bool.{Bool, _&&_, false, not, true}
-use mathlib.Core.List.{List, _++_, append-nil, map}
-use Prim.Native.Nat.{_*_, _+_, _-_, _<_, _≤_, suc, ℕ}
+use mathlib.Core.Path.{_∙_, _≡_, ap, ap₂, refl, subst, sym}
+use mathlib.Core.Bool.{Bool, false, not, true}
+use mathlib.Core.List.{List, _++_}
+use Prim.Native.Nat.{_*_, _+_, _-_, _<_, _≤_, ℕ}
 use native.Mathlib.Decide.{decLt}
 use native.Mathlib.Omega.{arith}
 use native.Mathlib.Nat.{not-suc-le-zero}
-use lib.Dec.{leb, ltb}
+use lib.Dec.{ltb}
 use lib.ListN.{drop, length, length-append, length-drop, take}
 use lib.Seq.{take-at}
-use borrow.Author.Tests.{le-leb, leb-true, ltb-false, ltb-true, not-false, not-true}
-use Rattle.model.specs.Log.{Candidate, Record, addedRecord, additions, limit, logAt, saturatedAt}
+use borrow.Author.Tests.{ltb-false, ltb-true, not-false, not-true}
+use Rattle.model.specs.Calls.{capacity}
+use Rattle.model.specs.Log.{additions, logAt, saturatedAt}
 use Rattle.model.specs.Records.{logBytes, recordLength}
 use Rattle.model.specs.Systems.{System}
-use Rattle.model.proofs.Lists.{length-zero}
-use Rattle.model.proofs.Collecting.{logAt-suc}
-use Rattle.model.proofs.Limit.{ByteSystem, length-suc, limit-saturated}
+use Rattle.model.proofs.Limit.{ByteSystem, limit-saturated}
 use Rattle.model.proofs.Rounds.{before-saturated, limit-longest, rounds-limit}
 use Rattle.model.proofs.AcceptedTables.{accepted-bytes}
-use Rattle.model.proofs.Tests.{and-left, and-right}
 use Rattle.model.proofs.RecordBytes.{length-log}
 use Rattle.scratch.specs.Regions.{ringsAt, transitionCodesAt}
 use Rattle.sorting.specs.Sorting.{keyPlace}
-use Rattle.rings.specs.Rings.{Ringed}
 use Rattle.table.specs.declared.Table.{Table}
 use Rattle.table.specs.Reading.{Holds, itemsIn, systemIn}
 use Rattle.table.proofs.Readings.{holds-complete}
@@ -32,121 +29,112 @@ use Rattle.initial.specs.Initial.{initialLog}
 use Rattle.initial.proofs.RoundZero.{initial-length}
 use Rattle.saturate.specs.declared.Saturated.{Saturated}
 use Rattle.saturate.specs.declared.Saturated.the-variants.{Limit, Full}
+use Rattle.saturate.specs.declared.rounds.Added.{Added}
+use Rattle.saturate.specs.declared.rounds.Added.the-variants.{Records, Nothing, NoRoom}
+use Rattle.saturate.specs.Adding.{CanHold, HoldsRounds, RoundAdded}
 use Rattle.saturate.specs.Limits.{SaturatedDone, SaturatedFull, SaturatedLimit}
-use Rattle.saturate.specs.Rounds.{Logged, RoundAdded, RoundBegins, ScratchReady}
+use Rattle.saturate.specs.Rounds.{Logged, RoundBegins, RoundScratch, ScratchReady}
+use Rattle.saturate.proofs.RoundEnds.{Finding, round-length, told-finding}
+use Rattle.saturate.proofs.ScratchParts.{rounds-logged}
 
 holds-bytes : (bytes : List ℕ) (t : Table) → Holds bytes t → ByteSystem (systemIn bytes)
 unfolding systemIn
 holds-bytes bytes t h = accepted-bytes (itemsIn bytes) (holds-complete bytes t h)
 
--- round k has been added to the `base` records of the rounds before it, each of which added some, and has left `count`, or more than n
-pub record Saturating (table : List ℕ) (t : Table) (n : ℕ) (log₀ s₀ log s : List ℕ) (base k count : ℕ) : Type 0 where
-  pub lo : ℕ
-  pub log₁ : List ℕ
-  pub s₁ : List ℕ
-  pub begins : RoundBegins table t lo base n k log₁ s₁
-  pub added : RoundAdded table t base n k log₁ s₁ count log s
-  pub growing : (j : ℕ) → j < k - 1 → 0 < length (additions (systemIn table) (logAt (systemIn table) j))
+-- the rounds up to k stand, and each added a record
+pub record Saturating (table : List ℕ) (t : Table) (n : ℕ) (log₀ s₀ log s : List ℕ) (lo base k : ℕ) : Type 0 where
+  pub begins : RoundBegins table t lo base n k log s
+  pub growing : (j : ℕ) → j < k → 0 < length (additions (systemIn table) (logAt (systemIn table) j))
   pub log-length : length log ≡ length log₀
   pub scratch-length : length s ≡ length s₀
 
-pub saturating-start : {table : List ℕ} {t : Table} {n base count : ℕ} {log s log′ s′ : List ℕ} → RoundBegins table t 0 base n 1 log s
-    → RoundAdded table t base n 1 log s count log′ s′ → Saturating table t n log′ s′ log′ s′ base 1 count
-saturating-start {log = log} {s = s} b c =
-    record { lo = 0; log₁ = log; s₁ = s; begins = b; added = c; growing = λ j h. absurd (not-suc-le-zero h); log-length = refl; scratch-length = refl }
+pub saturating-start : {table : List ℕ} {t : Table} {n base : ℕ} {log s : List ℕ} → RoundBegins table t 0 base n 0 log s → Saturating table t n log s log s 0 base 0
+saturating-start b = record { begins = b; growing = λ j h. absurd (not-suc-le-zero h); log-length = refl; scratch-length = refl }
 
-module _ {table : List ℕ} {t : Table} {n : ℕ} {log₀ s₀ log s : List ℕ} {base k count : ℕ} (h : Saturating table t n log₀ s₀ log s base k count)
-    {going : Bool} (is : going ≡ (leb count n && ltb base count)) where
+-- a round more
+module _ {table : List ℕ} {t : Table} {n : ℕ} {log₀ s₀ log s : List ℕ} {lo base k : ℕ} (h : Saturating table t n log₀ s₀ log s lo base k)
+    {r : Added} {log′ s′ : List ℕ} (a : RoundAdded (systemIn table) k log r log′) (c : RoundScratch table t base n log′ s s′) where
   abbrev sys : System
   sys = systemIn table
 
-  is-next : k ≡ suc (k - 1)
-  is-next = omega (arith, h .begins .begun)
+  abbrev news : ℕ
+  news = length (additions sys (logAt sys k))
 
-  grown : count ≤ n → count ≡ base + length (additions sys (logAt sys (k - 1)))
-  grown l = omega (arith, h .added .within l .size, ap (λ (j : ℕ). length (logAt sys j)) is-next, length-suc sys (k - 1), h .begins .logged .size)
+  grown : length (logAt sys (k + 1)) ≡ base + news
+  grown = omega (arith, round-length sys k, h .begins .size)
 
-  module _ (goes : going ≡ true) where
-    low : count ≤ n
-    low = leb-true count n (and-left (leb count n) (ltb base count) (sym is ∙ goes))
+  finding : (x : Added) → r ≡ x → Finding sys k (length log) x
+  finding x e = told-finding sys k (length log) (sym e ∙ a .told)
 
-    more : base < count
-    more = ltb-true base count (and-right (leb count n) (ltb base count) (sym is ∙ goes))
-
-    pub measure-falls : n - count < n - base
-    measure-falls = omega (arith, low, more)
-
-    pub next-begins : RoundBegins table t base count n (k + 1) log s
-    next-begins = record {
-      holds = h .begins .holds;
-      begun = omega arith;
-      late = omega (arith, h .begins .late, more);
-      logged = subst (λ (j : ℕ). Logged (logAt sys j) count log) (let e : k ≡ k + 1 - 1 = omega arith in e) (h .added .within low);
-      low = omega (arith, more);
-      last = λ l. h .begins .logged .size ∙ ap (λ (j : ℕ). length (logAt sys j)) (let e : k - 1 ≡ k + 1 - 2 = omega arith in e);
-      fits = low;
-      short = h .begins .short;
-      room = omega (arith, h .begins .room, h .added .log-length);
-      scratch = omega (arith, h .begins .scratch, h .added .scratch-length);
-      ringed = h .added .ringed;
-      prepared = h .added .prepared;
-    }
-
-    pub saturating-turn : {count′ : ℕ} {log′ s′ : List ℕ} → RoundAdded table t count n (k + 1) log s count′ log′ s′ → Saturating table t n log₀ s₀ log′ s′ count (k + 1) count′
-    saturating-turn c = record {
-      lo = base;
-      log₁ = log;
-      s₁ = s;
-      begins = next-begins;
-      added = c;
-      growing = λ j l. elim (decLt j (k - 1)) [
-        | yes y ↦ h .growing j y
-        | no y ↦ let e : k - 1 ≡ j = omega arith in subst (λ (i : ℕ). 0 < length (additions sys (logAt sys i))) e (omega (arith, grown low, more))
-      ];
-      log-length = c .log-length ∙ h .log-length;
-      scratch-length = c .scratch-length ∙ h .scratch-length;
-    }
-
-  pub saturating-full : {log₁ s₁ : List ℕ} → length log₀ ≡ length log₁ → length s₀ ≡ length s₁ → n < count → SaturatedFull table n log₁ s₁ log s
-  saturating-full e f l = record {
-    over = omega (arith, h .added .over l, limit-longest sys (holds-bytes table t (h .begins .holds)) k);
-    log-length = h .log-length ∙ e;
-    scratch-length = h .scratch-length ∙ f;
+  pub saturating-full : r ≡ NoRoom → SaturatedFull table n log₀ s₀ log′ s′
+  saturating-full e = record {
+    over = omega (arith, finding NoRoom e, h .begins .room, limit-longest sys (holds-bytes table t (h .begins .holds)) (k + 1));
+    log-length = a .log-length ∙ h .log-length;
+    scratch-length = c .size ∙ h .scratch-length;
   }
 
-  module _ (stops : going ≡ false) (low : count ≤ n) where
-    -- the last round added nothing, so all records are in rings
-    not-more : count ≤ base
-    not-more = let e = sym is ∙ stops in ltb-false base count (rw (le-leb count n low) at e)
+  -- it added records
+  module _ {count : ℕ} (e : r ≡ Records count) where
+    told : (count ≡ length (logAt sys (k + 1))) × CanHold sys (k + 1) log × (0 < news)
+    told = finding (Records count) e
 
-    nothing : length (additions sys (logAt sys (k - 1))) ≡ 0
-    nothing = omega (arith, grown low, not-more)
+    pub measure-falls : n - count < n - base
+    measure-falls = omega (arith, told .0, told .1, told .2, grown, h .begins .room)
 
-    last-is : saturatedAt sys ≡ k - 1
-    last-is = elim (decLt (k - 1) (saturatedAt sys)) [
-      | yes l ↦ absurd (omega (arith, before-saturated sys (k - 1) l, nothing))
-      | no l ↦ elim (decLt (saturatedAt sys) (k - 1)) [
+    pub saturating-turn : Saturating table t n log₀ s₀ log′ s′ base count (k + 1)
+    saturating-turn = record {
+      begins = record {
+        holds = h .begins .holds;
+        handed = a .left (told .1);
+        size = told .0;
+        late = omega (arith, told .0, told .2, grown, h .begins .late);
+        low = omega (arith, told .0, grown);
+        last = λ l. h .begins .size ∙ ap (λ (j : ℕ). length (logAt sys j)) (let e : k ≡ k + 1 - 1 = omega arith in e);
+        room = h .begins .room ∙ ap capacity (sym (a .log-length));
+        fits = omega (arith, told .0, told .1, h .begins .room);
+        scratch = omega (arith, h .begins .scratch, c .size);
+        ringed = c .ringed;
+        prepared = c .prepared;
+      };
+      growing = λ j l. elim (decLt j k) [
+        | yes y ↦ h .growing j y
+        | no y ↦ let e : k ≡ j = omega arith in subst (λ (i : ℕ). 0 < length (additions sys (logAt sys i))) e (told .2)
+      ];
+      log-length = a .log-length ∙ h .log-length;
+      scratch-length = c .size ∙ h .scratch-length;
+    }
+
+  -- it added nothing, so all records are in rings
+  module _ (e : r ≡ Nothing) where
+    last-is : saturatedAt sys ≡ k
+    last-is = elim (decLt k (saturatedAt sys)) [
+      | yes l ↦ absurd (omega (arith, before-saturated sys k l, finding Nothing e))
+      | no l ↦ elim (decLt (saturatedAt sys) k) [
         | yes m ↦ absurd (omega (arith, h .growing (saturatedAt sys) m, ap length (limit-saturated sys (holds-bytes table t (h .begins .holds)))))
         | no m ↦ omega arith
       ]
     ]
 
-    limit-is : logAt sys k ≡ limit sys
-    limit-is = ap (logAt sys) is-next ∙ logAt-suc sys (k - 1)
-        ∙ ap (λ (cs : List Candidate). logAt sys (k - 1) ++ map (addedRecord (suc (k - 1)) (logAt sys (k - 1))) cs) (length-zero (additions sys (logAt sys (k - 1))) nothing)
-        ∙ append-nil (logAt sys (k - 1)) ∙ ap (logAt sys) (sym last-is)
+    -- the earlier bytes are as they were
+    held : HoldsRounds sys k log′
+    held = a .earlier ∙ h .begins .handed
 
-    pub saturating-limit : {log₁ s₁ : List ℕ} {round : ℕ} → length log₀ ≡ length log₁ → length s₀ ≡ length s₁ → round + 1 ≡ k → SaturatedLimit table n log₁ s₁ count round log s
-    saturating-limit {round = round} e f is = record {
-      logged = subst (λ (rs : List Record). Logged rs count log) limit-is (h .added .within low);
-      last-round = let last : round ≡ k - 1 = omega arith in last ∙ sym last-is ∙ sym (rounds-limit sys);
-      fits = low;
+    pub saturating-limit : SaturatedLimit table n log₀ s₀ base k log′ s′
+    saturating-limit = record {
+      logged = subst (λ (j : ℕ). Logged (logAt sys j) base log′) (sym last-is) (rounds-logged sys k base log′ (h .begins .size) held);
+      last-round = sym last-is ∙ sym (rounds-limit sys);
+      fits = h .begins .fits;
       linked = (
-        record { fits = low; short = h .begins .short; records = omega (arith, low, h .begins .room, h .added .log-length); room = omega (arith, h .begins .scratch, h .added .scratch-length) },
-        subst (λ (i : ℕ). Ringed log i n ringsAt s) (let all : base ≡ count = omega (arith, grown low, not-more) in all) (h .added .ringed),
+        record {
+          fits = h .begins .fits;
+          short = omega (arith, h .begins .room);
+          records = omega (arith, h .begins .fits, h .begins .room, a .log-length);
+          room = omega (arith, h .begins .scratch, c .size);
+        },
+        c .ringed,
       );
-      log-length = h .log-length ∙ e;
-      scratch-length = h .scratch-length ∙ f;
+      log-length = a .log-length ∙ h .log-length;
+      scratch-length = c .size ∙ h .scratch-length;
     }
 
 -- ---- round 0
@@ -158,7 +146,7 @@ module _ (table : List ℕ) (t : Table) (holds : Holds table t) where
   pub codes-room : (n : ℕ) (s : List ℕ) → ringsAt + 6 * n ≤ length s → keyPlace transitionCodesAt (t .transitions + t .transitions) ≤ length s
   codes-room n s scratch = omega (arith, table-modest table t holds .transitions)
 
-module _ {table : List ℕ} {t : Table} {n : ℕ} (log s log′ s′ : List ℕ) (p : Holds table t × (n ≤ 65535) × (n * recordLength ≤ length log) × (ringsAt + 6 * n ≤ length s))
+module _ {table : List ℕ} {t : Table} {n : ℕ} (log s log′ s′ : List ℕ) (p : Holds table t × (n ≡ capacity (length log)) × (ringsAt + 6 * n ≤ length s))
     {r : Bool} (w : (r ≡ not (ltb n (t .transitions))) × ((log′ ≡ initialLog (systemIn table) log (t .transitions) n) × (length s′ ≡ length s))) where
   pub initial-full : not r ≡ true → SaturatedFull table n log s log′ s′
   initial-full y =
@@ -182,26 +170,22 @@ module _ {table : List ℕ} {t : Table} {n : ℕ} (log s log′ s′ : List ℕ)
 
     log-kept : length log′ ≡ length log
     log-kept = ap length written-is ∙ length-append (logBytes (logAt (systemIn table) 0)) (drop (t .transitions * recordLength) log)
-        ∙ omega (arith, p .2, ltb-false n (t .transitions) few, bytes-long, length-drop (t .transitions * recordLength) log)
+        ∙ omega (arith, p .1, ltb-false n (t .transitions) few, bytes-long, length-drop (t .transitions * recordLength) log)
 
     -- the scratch has been made ready
     module _ {s″ : List ℕ} (ready : ScratchReady table t n log′ s′ s″) where
-      pub initial-begins : RoundBegins table t 0 (t .transitions) n 1 log′ s″
+      pub initial-begins : RoundBegins table t 0 (t .transitions) n 0 log′ s″
       initial-begins = record {
         holds = p .0;
-        begun = omega arith;
+        handed = ap₂ (λ (m : ℕ) (l : List ℕ). take m l) bytes-long written-is
+            ∙ take-at (logBytes (logAt (systemIn table) 0)) (drop (t .transitions * recordLength) log) (t .transitions * recordLength) bytes-long;
+        size = sym (initial-size table t (p .0));
         late = omega arith;
-        logged = record {
-          size = sym (initial-size table t (p .0));
-          bytes = ap (take (t .transitions * recordLength)) written-is
-              ∙ take-at (logBytes (logAt (systemIn table) 0)) (drop (t .transitions * recordLength) log) (t .transitions * recordLength) bytes-long;
-        };
         low = omega arith;
         last = λ l. absurd (omega arith);
+        room = p .1 ∙ ap capacity (sym log-kept);
         fits = ltb-false n (t .transitions) few;
-        short = p .1;
-        room = omega (arith, p .2, log-kept);
-        scratch = omega (arith, p .3, w .1 .1, ready .size);
+        scratch = omega (arith, p .2, w .1 .1, ready .size);
         ringed = ready .ringed;
         prepared = ready .prepared;
       }

@@ -10,19 +10,20 @@ use native.Mathlib.Omega.{arith}
 use lib.Pow.{pow-lt, pow-pos}
 use lib.Bits.{bitOr}
 use lib.Dec.{ltb}
-use lib.ListN.{drop, getD, take-append-drop}
+use lib.ListN.{drop, getD, length, take, take-append-drop}
 use borrow.Author.Tests.{eq-eqb, ltb-true, ne-eqb}
-use Rattle.model.specs.Log.{Record, noRecord, recordAt}
+use Rattle.model.specs.Log.{Record, logAt, noRecord, recordAt}
 use Rattle.model.specs.Records.{letterAt, logBytes, recordLength}
+use Rattle.model.specs.Systems.{System}
 use Rattle.model.proofs.Lists.{each-get, getD-mem}
-use Rattle.model.proofs.RecordBytes.{from-letter, record-from}
+use Rattle.model.proofs.RecordBytes.{from-letter, length-log, record-from}
 use Rattle.model.proofs.Tests.{by-test}
 use Rattle.automaton.specs.StateSets.{Cleared, setLength}
 use Rattle.scratch.specs.Regions.{activeAt, orderAt, passedAt, ringsAt, writersAt}
 use Rattle.rings.specs.Rings.{Freshened, OutsideSame, Ringed}
 use Rattle.rings.proofs.Keeping.{freshened-scratch, ringed-scratch}
 use Rattle.table.specs.declared.Table.{Table}
-use Rattle.table.specs.Reading.{Holds, ruleIn}
+use Rattle.table.specs.Reading.{Holds, ruleIn, systemIn}
 use Rattle.table.proofs.Layouts.{table-modest}
 use Rattle.logs.proofs.Logs.{Keyed, log-over}
 use Rattle.rules.specs.Regions.{inSet, positionCeiling}
@@ -32,6 +33,7 @@ use Rattle.rules.proofs.RegionLaws.{bit-or, in-same}
 use Rattle.rules.proofs.RuleOrder.{ordered-same}
 use Rattle.heads.specs.declared.Round.{Round}
 use Rattle.heads.specs.Rounds.{InRound, Prepared, earlierLog, isActive}
+use Rattle.saturate.specs.Adding.{HoldsRounds, roundsLength}
 use Rattle.saturate.specs.Rounds.{Activated, FreshLetters, LetterIn, Logged, RoundBegins, ScratchReady}
 
 -- the bytes from one offset on and below another are the same
@@ -103,6 +105,16 @@ letters-more log lo r x y f d i a b = elim (decLt i r) [
 ]
 
 -- ---- records and their letters
+-- the log's first bytes, counted in bytes and in records
+pub rounds-long : (sys : System) (k base : ℕ) → base ≡ length (logAt sys k) → roundsLength sys k ≡ base * recordLength
+rounds-long sys k base e = length-log (logAt sys k) ∙ ap (λ (m : ℕ). m * recordLength) (sym e)
+
+pub rounds-logged : (sys : System) (k base : ℕ) (log : List ℕ) → base ≡ length (logAt sys k) → HoldsRounds sys k log → Logged (logAt sys k) base log
+rounds-logged sys k base log e h = record { size = e; bytes = ap (λ (m : ℕ). take m log) (sym (rounds-long sys k base e)) ∙ h }
+
+pub logged-rounds : (sys : System) (k base : ℕ) (log : List ℕ) → Logged (logAt sys k) base log → HoldsRounds sys k log
+logged-rounds sys k base log l = ap (λ (m : ℕ). take m log) (rounds-long sys k base (l .size)) ∙ l .bytes
+
 module _ (table : List ℕ) (t : Table) (holds : Holds table t) (base number : ℕ) (log : List ℕ) (logged : Logged (earlierLog table number) base log) where
   split : log ≡ logBytes (earlierLog table number) ++ drop (base * recordLength) log
   split = sym (take-append-drop (base * recordLength) log) ∙ ap (λ (l : List ℕ). l ++ drop (base * recordLength) log) (logged .bytes)
@@ -124,36 +136,39 @@ module _ (table : List ℕ) (t : Table) (holds : Holds table t) (base number : �
       subst (λ (x : ℕ). hasLetter fresh x ≡ true) e (f i a b)
 
 -- ---- the round stands
--- the last round's records are in rings, their letters gathered, and the positions made active
-module _ {table : List ℕ} {t : Table} {lo base n number : ℕ} {log s : List ℕ} {fresh : ℕ} {s₁ s₂ : List ℕ} (b : RoundBegins table t lo base n number log s)
-    (o : OutsideSame n ringsAt s s₁) (letters : FreshLetters log lo base fresh) (a : Activated t number fresh s₁ s₂) where
+-- the records of round k are in rings, their letters gathered, and the positions made active
+module _ {table : List ℕ} {t : Table} {lo base n k : ℕ} {log s : List ℕ} {fresh : ℕ} {s₁ s₂ : List ℕ} (b : RoundBegins table t lo base n k log s)
+    (o : OutsideSame n ringsAt s s₁) (letters : FreshLetters log lo base fresh) (a : Activated t (k + 1) fresh s₁ s₂) where
   abbrev round : Round
-  round = record { number = number; lo = lo; base = base; fresh = fresh; n = n }
+  round = record { number = k + 1; lo = lo; base = base; fresh = fresh; n = n }
 
   prepared-rings : Prepared table t s₁
   prepared-rings = prepared-kept table t (b .holds) s s₁ (λ i p q. o .before i (omega arith)) (λ i p q. o .before i (omega arith)) (b .prepared)
 
   looked-at : (p : ℕ) → p < positionCeiling → inSet s₂ activeAt p ≡ (ltb p (t .rules) && isActive round (ruleIn table (orderedRule s₂ p)))
   unfolding isActive
-  looked-at p l = elim (ℕ-discrete number 1) [
-    | yes e ↦ a .first e .positions p l ∙ rw (eq-eqb number 1 e) (by-test (ltb p (t .rules)) (λ y. rw y) (λ f. rw f))
-    | no e ↦ gathered-active table t (b .holds) fresh s₁ s₂ (prepared-rings .writers) (prepared-rings .ordered) (a .later e) .positions p l ∙ rw (ne-eqb number 1 e)
+  looked-at p l = elim (ℕ-discrete (k + 1) 1) [
+    | yes e ↦ a .first e .positions p l ∙ rw (eq-eqb (k + 1) 1 e) (by-test (ltb p (t .rules)) (λ y. rw y) (λ f. rw f))
+    | no e ↦ gathered-active table t (b .holds) fresh s₁ s₂ (prepared-rings .writers) (prepared-rings .ordered) (a .later e) .positions p l ∙ rw (ne-eqb (k + 1) 1 e)
   ]
 
   pub round-stands : Ringed log base n ringsAt s₁ → Freshened log lo base n ringsAt s₁ → InRound table t round log s₂
-  round-stands r f = record {
-    holds = b .holds;
-    begun = b .begun;
-    late = b .late;
-    size = b .logged .size;
-    bytes = b .logged .bytes;
-    records = b .room;
-    low = b .low;
-    last = b .last;
-    fresh = letters-fresh table t (b .holds) base number log (b .logged) lo fresh letters;
-    room = record { fits = b .fits; short = b .short; records = omega (arith, b .fits, b .room); room = omega (arith, b .scratch, o .size, a .kept .size) };
-    ringed = ringed-scratch log base n ringsAt s₁ s₂ (b .fits) (λ i p q. a .kept .outside i (inr (omega arith))) r;
-    freshened = freshened-scratch log lo base n ringsAt s₁ s₂ (λ i p q. a .kept .outside i (inr (omega arith))) f;
-    prepared = prepared-kept table t (b .holds) s₁ s₂ (λ i p q. a .kept .outside i (inl q)) (λ i p q. a .kept .outside i (inr (omega arith))) prepared-rings;
-    active = looked-at;
-  }
+  round-stands r f =
+      let earlier : k ≡ k + 1 - 1 = omega arith in
+      let logged : Logged (earlierLog table (k + 1)) base log = subst (λ (j : ℕ). Logged (logAt (systemIn table) j) base log) earlier (rounds-logged (systemIn table) k base log (b .size) (b .handed)) in
+      record {
+        holds = b .holds;
+        begun = omega arith;
+        late = omega (arith, b .late);
+        size = logged .size;
+        bytes = logged .bytes;
+        records = omega (arith, b .room);
+        low = b .low;
+        last = λ l. b .last (omega arith) ∙ ap (λ (j : ℕ). length (logAt (systemIn table) j)) (let e : k - 1 ≡ k + 1 - 2 = omega arith in e);
+        fresh = letters-fresh table t (b .holds) base (k + 1) log logged lo fresh letters;
+        room = record { fits = b .fits; short = omega (arith, b .room); records = omega (arith, b .fits, b .room); room = omega (arith, b .scratch, o .size, a .kept .size) };
+        ringed = ringed-scratch log base n ringsAt s₁ s₂ (b .fits) (λ i p q. a .kept .outside i (inr (omega arith))) r;
+        freshened = freshened-scratch log lo base n ringsAt s₁ s₂ (λ i p q. a .kept .outside i (inr (omega arith))) f;
+        prepared = prepared-kept table t (b .holds) s₁ s₂ (λ i p q. a .kept .outside i (inl q)) (λ i p q. a .kept .outside i (inr (omega arith))) prepared-rings;
+        active = looked-at;
+      }

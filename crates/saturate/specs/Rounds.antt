@@ -6,13 +6,15 @@ use Prim.Native.Nat.{ℕ, _+_, _-_, _*_, _%_, _<_, _≤_}
 use lib.ListN.{length, take}
 use Rattle.model.specs.Log.{Record, logAt}
 use Rattle.model.specs.Records.{letterAt, logBytes, recordLength}
+use Rattle.model.specs.Calls.{capacity}
 use Rattle.scratch.specs.Regions.{activeAt, ringsAt}
 use Rattle.rings.specs.Rings.{Ringed}
 use Rattle.table.specs.declared.Table.{Table}
 use Rattle.table.specs.Reading.{Holds, systemIn}
 use Rattle.rules.specs.Regions.{KeptOutside, positionBytes}
 use Rattle.rules.specs.Rules.{AllActive, Gathered, hasLetter, letterCeiling}
-use Rattle.heads.specs.Rounds.{Prepared, earlierLog}
+use Rattle.heads.specs.Rounds.{Prepared}
+use Rattle.saturate.specs.Adding.{HoldsRounds}
 
 -- the first count records of the log are these
 pub record Logged (records : List Record) (count : ℕ) (log : List ℕ) : Type 0 where
@@ -42,31 +44,25 @@ pub record Activated (t : Table) (number fresh : ℕ) (s s′ : List ℕ) : Type
   pub later : (number ≡ 1 → ⊥) → Gathered fresh (t .letters) s s′
 
 -- ---- rounds
--- a round may begin: the log of the rounds before it stands, the records below lo are in rings, and there is room for n records and their rings
-pub record RoundBegins (table : List ℕ) (t : Table) (lo base n number : ℕ) (log s : List ℕ) : Type 0 where
+-- Round k + 1 may begin: the log holds the rounds up to k, the records below lo are in rings, and there is room for n records, as many as the log can
+-- hold, and their rings.
+pub record RoundBegins (table : List ℕ) (t : Table) (lo base n k : ℕ) (log s : List ℕ) : Type 0 where
   pub holds : Holds table t
-  pub begun : 1 ≤ number
-  -- each round before it added a record
-  pub late : number ≤ base + 1
-  pub logged : Logged (earlierLog table number) base log
-  -- the records of the last round are those from lo on
+  pub handed : HoldsRounds (systemIn table) k log
+  pub size : base ≡ length (logAt (systemIn table) k)
+  -- each round added a record
+  pub late : k ≤ base
+  -- the records of round k are those from lo on
   pub low : lo ≤ base
-  pub last : 2 ≤ number → lo ≡ length (logAt (systemIn table) (number - 2))
+  pub last : 1 ≤ k → lo ≡ length (logAt (systemIn table) (k - 1))
+  pub room : n ≡ capacity (length log)
   pub fits : base ≤ n
-  pub short : n ≤ 65535
-  pub room : n * recordLength ≤ length log
   pub scratch : ringsAt + 6 * n ≤ length s
   pub ringed : Ringed log lo n ringsAt s
   pub prepared : Prepared table t s
 
--- The log of the round stands, or there is no room for it, and count is then more than n. The records of the earlier rounds are as they were, and in
--- rings.
-pub record RoundAdded (table : List ℕ) (t : Table) (base n number : ℕ) (log s : List ℕ) (count : ℕ) (log′ s′ : List ℕ) : Type 0 where
-  pub within : count ≤ n → Logged (logAt (systemIn table) number) count log′
-  pub over : n < count → n < length (logAt (systemIn table) number)
-  pub small : count ≤ n + 1
-  pub earlier : take (base * recordLength) log′ ≡ take (base * recordLength) log
-  pub ringed : Ringed log′ base n ringsAt s′
+-- the earlier records are in rings, and the rules in order; what the rest of the scratch holds is not decided
+pub record RoundScratch (table : List ℕ) (t : Table) (base n : ℕ) (log s s′ : List ℕ) : Type 0 where
+  pub ringed : Ringed log base n ringsAt s′
   pub prepared : Prepared table t s′
-  pub log-length : length log′ ≡ length log
-  pub scratch-length : length s′ ≡ length s
+  pub size : length s′ ≡ length s

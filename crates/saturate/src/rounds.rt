@@ -15,16 +15,17 @@ use scratch::PASSED;
 use scratch::RINGS;
 use table::Table;
 ghost use mathlib.Core.Path.{_≡_};
-ghost use mathlib.Core.Bool.{_&&_};
+ghost use mathlib.Core.Bool.{cond, _&&_};
 ghost use Prim.Native.Nat.{_+_, _*_, _≤_};
-ghost use lib.Dec.{leb, ltb};
+ghost use lib.Dec.{eqb, leb, ltb};
 ghost use lib.ListN.{length};
 ghost use Rattle.model.specs.Records.{letterAt, recordLength};
 ghost use Rattle.records.specs.Entries.{HasRecord};
-ghost use Rattle.table.specs.Reading.{Holds};
+ghost use Rattle.table.specs.Reading.{Holds, systemIn};
 ghost use Rattle.scratch.specs.Regions.{ringsAt};
 ghost use Rattle.rules.specs.Rules.{letterCeiling, ruleCeiling, rulesEnd};
-ghost use Rattle.saturate.specs.Rounds.{Activated, FreshLetters, LetterIn, RoundAdded, RoundBegins, ScratchReady};
+ghost use Rattle.saturate.specs.Adding.{RoundAdded};
+ghost use Rattle.saturate.specs.Rounds.{Activated, FreshLetters, LetterIn, RoundBegins, RoundScratch, ScratchReady};
 
 // Makes the scratch ready for the rounds: the rules in order, no state passed, and no record in a ring.
 pub fn prepare(table: &[u8], t: Table, log: &[u8], scratch: &mut [u8], n: usize)
@@ -81,9 +82,28 @@ fn goes_on(t: Table, at: Reached, n: usize) -> bool
     at.position < t.rules
 }
 
-// Adds the records of a round behind those of the rounds before it. The rings have the records below lo, and get those of the last round, which are from
-// lo on. Gives the number of records then, more than n where the log has no room for them. What it leaves in the rest of the scratch, and in the log
-// behind the records, is not decided.
+// What adding a round comes to: records, with how many there are then, or none, or that the log cannot hold them.
+pub enum Added {
+    Records { count: usize },
+    Nothing,
+    NoRoom,
+}
+
+// What a round tells that began with `base` records and has come to `count`, or more than the n that the log can hold.
+fn told(base: usize, count: usize, n: usize) -> Added
+    ensures { λ r. ⌜ r ≡ cond (ltb n count) Added.NoRoom (cond (eqb count base) Added.Nothing (Added.Records count)) ⌝ }
+{
+    if n < count {
+        return Added::NoRoom;
+    }
+    if count == base {
+        return Added::Nothing;
+    }
+    Added::Records { count }
+}
+
+// Adds round k + 1 to the records of rounds up to k, which are `base`, those of round k from lo on. n is the number of records that the log can hold. The
+// rings have the records below lo, and get those of round k. Each record is written with its steps.
 pub fn add_round(
     table: &[u8],
     t: Table,
@@ -92,13 +112,15 @@ pub fn add_round(
     lo: usize,
     base: usize,
     n: usize,
-    number: usize,
-) -> usize
-    requires { ⌜ RoundBegins (now table) t lo base n number (now log) (now scratch) ⌝ }
-    ensures { λ r. ⌜ RoundAdded (now (table .entry)) t base n number (now (log .entry)) (now (scratch .entry)) r (now (log .exit)) (now (scratch .exit)) ⌝ }
+    k: usize,
+) -> Added
+    requires { ⌜ RoundBegins (now table) t lo base n k (now log) (now scratch) ⌝ }
+    ensures request_2_3 { λ r. ⌜ RoundAdded (systemIn (now (table .entry))) k (now (log .entry)) r (now (log .exit)) ⌝ }
+    ensures scratch { λ r. ⌜ RoundScratch (now (table .entry)) t base n (now (log .exit)) (now (scratch .entry)) (now (scratch .exit)) ⌝ }
 {
     append(log, scratch, RINGS, n, lo, base);
     let fresh = fresh_letters(log, lo, base);
+    let number = k + 1;
     set_active(t, scratch, number, fresh);
     let round = Round {
         number,
@@ -111,8 +133,8 @@ pub fn add_round(
         position: next_active(scratch, 0),
         count: base,
     };
-    while goes_on(t, at, round.n) {
+    while goes_on(t, at, n) {
         at = add_head(table, t, log, scratch, round, at.position, at.count);
     }
-    at.count
+    told(base, at.count, n)
 }

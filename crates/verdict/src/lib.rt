@@ -1,5 +1,6 @@
 // What the answer and the run come to where the log holds the limit: the start's path gives the verdict, and unfolds into the run.
 use automaton::sets::clear;
+use model::AnswerAndRun;
 use model::Answered;
 use model::Ran;
 use numbers::wide_four;
@@ -132,8 +133,8 @@ fn write_run(
     }
 }
 
-// The run from the start, where the log holds the limit.
-pub fn run_limit(
+// The verdict on the start and the run from it, by one search for the start's path, where the log holds the limit.
+pub fn answer_and_run_limit(
     table: &[u8],
     t: Table,
     log: &[u8],
@@ -142,20 +143,25 @@ pub fn run_limit(
     n: usize,
     count: usize,
     rounds: u32,
-) -> Ran
+) -> AnswerAndRun
     requires { ⌜ Settled (now table) t (now log) n count rounds (now scratch) ⌝ }
-    ensures { λ r. ⌜ RunLeft (now (table .entry)) (now (scratch .entry)) (now (page .entry)) r (now (scratch .exit)) (now (page .exit)) ⌝ }
+    ensures answer { λ r. ⌜ r .answered ≡ verdict (limit (systemIn (now (table .entry)))) (startPath (systemIn (now (table .entry)))) ⌝ }
+    ensures run { λ r. ⌜ RunLeft (now (table .entry)) (now (scratch .entry)) (now (page .entry)) (r .ran) (now (scratch .exit)) (now (page .exit)) ⌝ }
 {
-    match find(table, t, log, scratch, n, count) {
+    let path = find(table, t, log, scratch, n, count);
+    let answered = stated_verdict(path, figure(count), rounds);
+    match path {
         StartPath::NoPath => {
             clear(scratch);
-            return Ran::Refused {
+            let ran = Ran::Refused {
                 number: 16,
                 place: 0,
             };
+            return AnswerAndRun { answered, ran };
         }
         StartPath::Found { steps } => {
-            return write_run(table, t, log, scratch, page, count, rounds, steps);
+            let ran = write_run(table, t, log, scratch, page, count, rounds, steps);
+            return AnswerAndRun { answered, ran };
         }
     }
 }

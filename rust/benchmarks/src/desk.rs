@@ -1,7 +1,7 @@
 //! The calls at a desk of the proved engine, through its C functions: the time and the
 //! instructions of each, from batches of many.
 
-use crate::measure::{CALLS, collected, median_of, numbers_of, time_of};
+use crate::measure::{CALLS, counted, median_of, numbers_of, time_of};
 use roskavel::{Cause, DESK_PILE, Desk, Refusal};
 use std::hint::black_box;
 use tables::{Table, bench, named};
@@ -201,8 +201,8 @@ fn nanoseconds(row: &Row) -> f64 {
 /// The instructions of a call: those of this program with twice as many calls, less those with
 /// the calls once.
 fn instructions(number: usize) -> Option<u64> {
-    let twice = collected(NAME, &[number, 2 * COUNTED], &[])?;
-    let once = collected(NAME, &[number, COUNTED], &[])?;
+    let twice = counted(NAME, &[number, 2 * COUNTED], &[])?;
+    let once = counted(NAME, &[number, COUNTED], &[])?;
     Some(twice.checked_sub(once)? / COUNTED as u64)
 }
 

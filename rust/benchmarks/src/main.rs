@@ -5,9 +5,11 @@
 //! - `answer`: the same of the answer call.
 //! - `growth`: the instructions of the run call as the records grow, and as the rounds do.
 //! - `walk`: the walk call of both engines over a high pile, its median time.
+//! - `line PROGRAM TABLE..`: the program `line` on tables from files, its instructions.
 //! - `desk`: the calls at a desk of the proved engine, their time and their instructions.
 
 mod desk;
+mod line;
 mod measure;
 
 use measure::{
@@ -30,11 +32,13 @@ fn main() -> ExitCode {
         ["answer"] => print_calls("answer", &ANSWER),
         ["growth"] => print_growth(),
         ["walk"] => print_walks(),
+        ["line", program, ref tables @ ..] => line::print_tables(program, tables),
         ["desk"] => desk::print_calls(),
         [COUNT, desk::NAME, ref numbers @ ..] => desk::be_counted(numbers),
         [COUNT, call, ref numbers @ ..] => be_counted(call, numbers),
         _ => {
             eprintln!("usage: benchmarks [run | answer | growth | walk | desk]");
+            eprintln!("       benchmarks line PROGRAM TABLE..");
             return ExitCode::from(2);
         }
     }

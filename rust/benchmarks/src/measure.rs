@@ -2,6 +2,7 @@
 
 use second_engine::Run;
 use std::io::{self, Read, Write};
+use std::path::PathBuf;
 use std::process::{Command, Stdio};
 use std::time::{Duration, Instant};
 use std::{env, iter};
@@ -143,19 +144,25 @@ fn instructions(bench: &Bench, call: &str) -> Option<u64> {
 
 /// The instructions of this program with some calls. It gets the table by its standard input.
 fn instructions_with(bench: &Bench, call: &str, calls: usize) -> Option<u64> {
-    collected(call, &[bench.records, bench.steps, calls], &bench.table)
+    counted(call, &[bench.records, bench.steps, calls], &bench.table)
 }
 
-/// The instructions of this program as valgrind counts them, with a call's name and numbers as
-/// its arguments; none without valgrind.
-pub fn collected(call: &str, numbers: &[usize], input: &[u8]) -> Option<u64> {
+/// The instructions of this program with a call's name and numbers as its arguments.
+pub fn counted(call: &str, numbers: &[usize], input: &[u8]) -> Option<u64> {
+    let mut arguments = vec![COUNT.to_string(), call.to_string()];
+    arguments.extend(numbers.iter().map(usize::to_string));
+    collected(env::current_exe().ok()?, &arguments, input)
+}
+
+/// The instructions of a program as valgrind counts them; none without valgrind.
+pub fn collected(program: PathBuf, arguments: &[String], input: &[u8]) -> Option<u64> {
     let mut counted = Command::new("valgrind")
         .env("GLIBC_TUNABLES", NO_REPEATS)
         .args(["--tool=callgrind", "--callgrind-out-file=/dev/null"])
-        .arg(env::current_exe().ok()?)
-        .args([COUNT, call])
-        .args(numbers.iter().map(usize::to_string))
+        .arg(program)
+        .args(arguments)
         .stdin(Stdio::piped())
+        .stdout(Stdio::null())
         .stderr(Stdio::piped())
         .spawn()
         .ok()?;

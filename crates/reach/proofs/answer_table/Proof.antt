@@ -7,7 +7,7 @@ use Rattle.reach.proofs.answer_table.Tie as tie
 
 pub answer-table-spec : {M : Type 1} → statement M
 answer-table-spec = tie.close (tie.spec (λ c κs. search needs) (λ c. search needs) (λ c. search needs)
-    (λ c. answers-short (c .before .before .before .before .before .pre) (c .before .records-in .ensures .0) (c .if1 .taken))
+    (λ c. answers-short (c .before .before .before .before .before .pre) (c .before .records-in .ensures) (c .if1 .taken))
     (λ c κs. search needs) (λ c. search needs) (λ c. search needs)
     (λ c κs.
     let at-count = c .before .before .before in
@@ -20,12 +20,12 @@ answer-table-spec = tie.close (tie.spec (λ c κs. search needs) (λ c. search n
     (λ c.
     let at-fill = c .before .before .before .before .before .before in
     let at-records = at-fill .before .before .before .before in
-    answers-full (at-records .before .before .before .before .pre) (at-records .records-in .ensures .0) (at-fill .before .before .before .if1 .left) (rw (c .enum-told .given .1) at (at-fill .fill-log .ensures)))
+    answers-full (at-records .before .before .before .before .pre) (at-records .records-in .ensures) (at-fill .before .before .before .if1 .left) (rw (c .enum-told .given .1) at (at-fill .fill-log .ensures)))
     (λ c. search needs) (λ c. search needs)
     (λ c.
     let at-limit = c .before .before in
     let at-count = at-limit .before .before .before .before .before in
     let at-fill = at-count .before .before .before .before .before .before in
     let at-records = at-fill .before .before .before .before in
-    answers-limit (at-records .before .before .before .before .pre) (at-records .records-in .ensures .0) (at-fill .before .before .before .if1 .left)
+    answers-limit (at-records .before .before .before .before .pre) (at-records .records-in .ensures) (at-fill .before .before .before .if1 .left)
     (rw (at-count .count .given .1) at (at-fill .fill-log .ensures)) (at-limit .answer-limit .ensures .0) (at-limit .answer-limit .ensures .1)))

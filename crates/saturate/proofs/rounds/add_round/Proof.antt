@@ -1,22 +1,25 @@
--- The last round's records are put into rings, the positions that write their letters made active, and their heads added one after the other (RoundSteps).
+-- The records of round k are put into rings, the positions that write their letters made active, and their heads added one after the other (RoundSteps); then the
+-- round is told (RoundEnds).
 use mathlib.Core.Path.{_∙_}
 use Prim.Native.Nat.{_-_}
 use native.Mathlib.Omega.{arith}
 use borrow.Author.Needs.{needs}
 use Rattle.table.proofs.Layouts.{table-modest}
+use Rattle.saturate.proofs.RoundEnds.{round-ends}
 use Rattle.saturate.proofs.RoundSteps.{HeadsAdded, below, fits, head-active, head-leading, heads-end, heads-start, heads-turn, rules-fewer}
 use Rattle.saturate.proofs.ScratchParts.{round-stands}
 use Rattle.saturate.proofs.rounds.add_round.Statement.{statement}
 use Rattle.saturate.proofs.rounds.add_round.Tie as tie
 
 abbrev Inv-loop : tie.InvT-loop
-Inv-loop table t log₀ scratch₀ lo base n number fresh round at₀ log scratch at = HeadsAdded table t round log₀ scratch₀ (at .position) (at .count) log scratch
+Inv-loop table t log₀ scratch₀ lo base n k fresh number round at₀ log scratch at = HeadsAdded table t round log₀ scratch₀ (at .position) (at .count) log scratch
 
 abbrev μ-loop : tie.MeasureT-loop
-μ-loop table t log₀ scratch₀ lo base n number fresh round at₀ log scratch at = t .rules - at .position
+μ-loop table t log₀ scratch₀ lo base n k fresh number round at₀ log scratch at = t .rules - at .position
 
 pub add-round-spec : {M : Type 1} → statement M
 add-round-spec = tie.close (tie.spec Inv-loop μ-loop (λ c κs. search needs) (λ c κs. search needs)
+    (λ c. let begins = c .before .before .before .before .before .before .before .before .before .before .pre in omega (arith, begins .late, begins .fits, begins .room))
     (λ c κs.
     let at-append = c .before .before .before .before .before in
     let entry = at-append .before .before .before .before .before .before in
@@ -47,10 +50,12 @@ add-round-spec = tie.close (tie.spec Inv-loop μ-loop (λ c κs. search needs) (
     let at-head = c .before .before .before .before in
     let at-test = at-head .before .before .before in
     heads-turn (at-test .before .before .loop .inv) (at-test .before .goes-on .ensures) (at-test .if1 .taken) (at-head .add-head .ensures))
-    (λ c. c .before .before .loop .inv .log-length)
+    (λ c κs. search needs) (λ c. c .before .before .before .loop .inv .log-length)
     (λ c.
-    let at-active = c .before .before .before .before .before .before .before in
-    c .before .before .loop .inv .scratch-length ∙ at-active .set-active .ensures .kept .size ∙ at-active .before .before .before .before .before .before .append .ensures .0 .size)
+    let at-active = c .before .before .before .before .before .before .before .before in
+    c .before .before .before .loop .inv .scratch-length ∙ at-active .set-active .ensures .kept .size ∙ at-active .before .before .before .before .before .before .append .ensures .0 .size)
     (λ c.
-    let at-active = c .before .before .before .before .before .before .before in
-    heads-end (c .before .before .loop .inv) (c .before .goes-on .ensures) (at-active .set-active .ensures .kept .size ∙ at-active .before .before .before .before .before .before .append .ensures .0 .size) (c .if1 .left)))
+    let at-active = c .before .before .before .before .before .before .before .before in
+    let at-append = at-active .before .before .before .before .before .before in
+    round-ends (at-append .before .before .before .before .before .before .pre) (heads-end (c .before .before .before .loop .inv) (c .before .before .goes-on .ensures) (c .before .if1 .left))
+    (at-active .set-active .ensures .kept .size ∙ at-append .append .ensures .0 .size) (c .told .ensures)))
