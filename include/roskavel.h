@@ -36,9 +36,13 @@ extern "C" {
 /* How many figures each call gives. */
 #define ROSKAVEL_FIGURES 16
 /* The bytes of one record of the log. */
-#define ROSKAVEL_RECORD_BYTES 24
+#define ROSKAVEL_RECORD_BYTES 28
 /* The most records that a log is used for. */
 #define ROSKAVEL_RECORD_CEILING 65535
+/* The bytes of scratch that answer and run need beside an empty log, and for each record that a log
+   has room for. */
+#define ROSKAVEL_SCRATCH_BASE 34000
+#define ROSKAVEL_SCRATCH_PER_RECORD 10
 /* The bytes of scratch that a walk needs. */
 #define ROSKAVEL_WALK_SCRATCH 2048
 /* The most steps of a run that is written; a count above it is given as one more than it. */
@@ -111,16 +115,16 @@ static inline size_t roskavel_log_records(size_t log_bytes)
 /* The bytes of scratch that answer and run need beside a log of this many bytes. */
 static inline size_t roskavel_scratch_bytes(size_t log_bytes)
 {
-    return 34000 + 6 * roskavel_log_records(log_bytes);
+    return ROSKAVEL_SCRATCH_BASE + ROSKAVEL_SCRATCH_PER_RECORD * roskavel_log_records(log_bytes);
 }
 
 /*
  * Says whether the watched set can be reached. Refused by 1 to 9, 15 and 10.
  *
  * log      holds the transitions of the limit automaton, then zeros; all zeros after refusal 10.
- *          A record has 24 bytes, little-endian: letter 1, states before 4, states after 4,
- *          round 2, rule 2, path 4 times 2, steps 3. FF is a process that has no part in the
- *          letter, FFFF no rule or no place of a path.
+ *          A record has ROSKAVEL_RECORD_BYTES bytes, little-endian: letter 1, states before 4,
+ *          states after 4, round 2, rule 2, path 6 times 2, steps 3. FF is a process that has no
+ *          part in the letter, FFFF no rule or no place of a path.
  * scratch  work memory, at least roskavel_scratch_bytes(log_length) bytes.
  */
 void roskavel_answer(const uint8_t *table, size_t table_length,
@@ -167,7 +171,7 @@ void roskavel_walk(const uint8_t *table, size_t table_length,
  * only the calls below may change it. The calls do not check that: pass no other memory.
  */
 typedef struct roskavel_desk {
-    uint64_t opaque[1013];
+    uint64_t opaque[1063];
 } roskavel_desk;
 
 /* What opening a desk gives. */

@@ -12,11 +12,10 @@ use Rattle.model.specs.declared.Told.{Told}
 use Rattle.model.specs.Desks.{deskPile, nameCount, openTold}
 use Rattle.model.specs.Lists.{Each}
 use Rattle.model.specs.Systems.{Configuration}
-use Rattle.model.specs.Tables.{Reading, accepted, read, readFrom, refused}
+use Rattle.model.specs.Tables.{Reading, accepted, longest, read, readFrom, refused}
 use Rattle.automaton.specs.StateNumbers.{Over}
 use Rattle.table.specs.declared.Parsed.the-variants.{Accepted, Refused}
 use Rattle.table.specs.declared.Table.{Table}
-use Rattle.table.specs.Places.{longest}
 use Rattle.table.specs.Reading.{Holds, countsOf, parsed, systemIn}
 use Rattle.table.proofs.Layouts.{table-length}
 use Rattle.shapes.specs.Shapes.{presentIn}

@@ -10,9 +10,8 @@ use Rattle.model.specs.Calls.{filled}
 use Rattle.model.specs.Desks.{Call, Contents, DeskOutcome, HistoriesLead, Leads, deskCall, deskPile, nameCount, noteCalls, openTold, opened, toldRefusal, unwritten}
 use Rattle.model.specs.Lists.{Each}
 use Rattle.model.specs.Systems.{System, Configuration}
-use Rattle.model.specs.Tables.{read}
+use Rattle.model.specs.Tables.{longest, read}
 use Rattle.table.specs.declared.Table.{Table}
-use Rattle.table.specs.Places.{longest}
 use Rattle.table.specs.Reading.{Holds, countsOf, systemIn}
 use Rattle.firing.specs.declared.Placed.{Placed}
 use Rattle.firing.specs.Piles.{configuration}

@@ -23,9 +23,10 @@ use Rattle.model.proofs.RoundHeads.{isHead-of, isHead-true}
 use Rattle.model.proofs.Tests.{and-left, and-right}
 use Rattle.automaton.specs.StateSets.{firstFrom}
 use Rattle.automaton.proofs.StateSets.{First, first-at}
-use Rattle.scratch.specs.Regions.{activeAt}
+use Rattle.scratch.specs.Regions.{activeAt, keysAt}
 use Rattle.packs.specs.Packs.{Bytes, packed}
 use Rattle.packs.proofs.Packs.{same-bits}
+use Rattle.keys.specs.Keys.{Indexed, heldBelow}
 use Rattle.table.specs.declared.Table.{Table}
 use Rattle.table.specs.Reading.{BitsOf, Holds, ruleIn, systemIn}
 use Rattle.table.proofs.Layouts.{table-modest}
@@ -36,53 +37,54 @@ use Rattle.rules.specs.Rules.{orderedRule}
 use Rattle.rules.proofs.HeadRuns.{head-candidates, offersOf, runOffers}
 use Rattle.rules.proofs.RuleOrder.{same-between}
 use Rattle.paths.specs.Arrivals.{hit, stored, taken}
-use Rattle.paths.specs.Jobs.{seenIn}
-use Rattle.paths.proofs.Arrivals.{hit-append, stored-append, stored-capped, stored-earlier, stored-length, taken-append, taken-same}
+use Rattle.paths.specs.Jobs.{known, seenIn}
+use Rattle.paths.proofs.Glances.{held-same}
+use Rattle.paths.proofs.Arrivals.{hit-append, stored-append, stored-capped, stored-earlier, stored-length, taken-append, taken-known}
 use Rattle.heads.specs.declared.Head.{Head}
 use Rattle.heads.specs.declared.Round.{Round}
-use Rattle.heads.specs.Heads.{Arrived, HeadSearched, Leading, beforeOf, letterOf}
+use Rattle.heads.specs.Heads.{Arrived, HeadSearched, Leading, beforeOf, headHeld, letterOf}
 use Rattle.heads.specs.Jobs.{HeadOf, hasHead}
 use Rattle.heads.specs.Rounds.{InRound, earlierLog, headAt, isActive, isOffered, lookedAt, ruleCandidates, ruleOffers}
 use Rattle.heads.proofs.InRounds.{active-kept, order-kept, round-kept}
 
 -- ---- candidates that arrive one after the other
-arrived-none : (table : List ℕ) (round : Round) (count : ℕ) (log s : List ℕ) → count ≤ round .n + 1 → Arrived table round [] count log s count log s
-arrived-none table round count log s h = record { counted = omega arith; written = refl; seen = λ x l. sym (or-false (seenIn s x)); scratch-length = refl; kept = λ i a b. refl; outside = λ i a. refl }
+pub arrived-none : (table : List ℕ) (round : Round) (held : ℕ → Bool) (count : ℕ) (log s : List ℕ) → count ≤ round .n + 1 → Arrived table round held [] count log s count log s
+arrived-none table round held count log s h = record { counted = omega arith; written = refl; seen = λ x l. sym (or-false (seenIn s x)); scratch-length = refl; kept = λ i a b. refl; outside = λ i a. refl }
 
-module _ {table : List ℕ} {round : Round} {cs ds : List Candidate} {count : ℕ} {log s : List ℕ} {count₁ : ℕ} {log₁ s₁ : List ℕ} {count₂ : ℕ} {log₂ s₂ : List ℕ}
-    (a : Arrived table round cs count log s count₁ log₁ s₁) (b : Arrived table round ds count₁ log₁ s₁ count₂ log₂ s₂) where
+module _ {table : List ℕ} {round : Round} {held : ℕ → Bool} {cs ds : List Candidate} {count : ℕ} {log s : List ℕ} {count₁ : ℕ} {log₁ s₁ : List ℕ} {count₂ : ℕ} {log₂ s₂ : List ℕ}
+    (a : Arrived table round held cs count log s count₁ log₁ s₁) (b : Arrived table round held ds count₁ log₁ s₁ count₂ log₂ s₂) where
   abbrev rec : Candidate → Record
   rec = addedRecord (round .number) (earlierLog table (round .number))
 
-  all-taken : taken (seenIn s) (cs ++ ds) ≡ taken (seenIn s) cs ++ taken (seenIn s₁) ds
-  all-taken = taken-append (seenIn s) cs ds ∙ ap (λ (l : List Candidate). taken (seenIn s) cs ++ l) (taken-same (λ x. seenIn s x || hit cs x) (seenIn s₁) (λ x h. sym (a .seen x h)) ds)
+  all-taken : taken (known held s) (cs ++ ds) ≡ taken (known held s) cs ++ taken (known held s₁) ds
+  all-taken = taken-append (known held s) cs ds ∙ ap (λ (l : List Candidate). taken (known held s) cs ++ l) (taken-known held s s₁ cs (a .seen) ds)
 
-  count-is : length (taken (seenIn s) (cs ++ ds)) ≡ length (taken (seenIn s) cs) + length (taken (seenIn s₁) ds)
-  count-is = ap length all-taken ∙ length-append (taken (seenIn s) cs) (taken (seenIn s₁) ds)
+  count-is : length (taken (known held s) (cs ++ ds)) ≡ length (taken (known held s) cs) + length (taken (known held s₁) ds)
+  count-is = ap length all-taken ∙ length-append (taken (known held s) cs) (taken (known held s₁) ds)
 
-  arrived-both : Arrived table round (cs ++ ds) count log s count₂ log₂ s₂
+  arrived-both : Arrived table round held (cs ++ ds) count log s count₂ log₂ s₂
   arrived-both = record {
     counted = omega (arith, a .counted, b .counted, count-is);
     written = b .written
-        ∙ ap₂ (λ (l : List ℕ) (n : ℕ). stored (round .n) l n (map rec (taken (seenIn s₁) ds))) (a .written) (a .counted)
-        ∙ stored-capped (round .n) (stored (round .n) log count (map rec (taken (seenIn s) cs))) (count + length (taken (seenIn s) cs)) (map rec (taken (seenIn s₁) ds))
-        ∙ ap (λ (n : ℕ). stored (round .n) (stored (round .n) log count (map rec (taken (seenIn s) cs))) (count + n) (map rec (taken (seenIn s₁) ds))) (sym (length-map (taken (seenIn s) cs) rec))
-        ∙ sym (stored-append (round .n) log count (map rec (taken (seenIn s) cs)) (map rec (taken (seenIn s₁) ds)))
-        ∙ ap (stored (round .n) log count) (sym (map-append rec (taken (seenIn s) cs) (taken (seenIn s₁) ds)) ∙ ap (map rec) (sym all-taken));
+        ∙ ap₂ (λ (l : List ℕ) (n : ℕ). stored (round .n) l n (map rec (taken (known held s₁) ds))) (a .written) (a .counted)
+        ∙ stored-capped (round .n) (stored (round .n) log count (map rec (taken (known held s) cs))) (count + length (taken (known held s) cs)) (map rec (taken (known held s₁) ds))
+        ∙ ap (λ (n : ℕ). stored (round .n) (stored (round .n) log count (map rec (taken (known held s) cs))) (count + n) (map rec (taken (known held s₁) ds))) (sym (length-map (taken (known held s) cs) rec))
+        ∙ sym (stored-append (round .n) log count (map rec (taken (known held s) cs)) (map rec (taken (known held s₁) ds)))
+        ∙ ap (stored (round .n) log count) (sym (map-append rec (taken (known held s) cs) (taken (known held s₁) ds)) ∙ ap (map rec) (sym all-taken));
     seen = λ x h. b .seen x h ∙ ap (λ (v : Bool). v || hit ds x) (a .seen x h) ∙ or-assoc (seenIn s x) (hit cs x) (hit ds x) ∙ ap (λ (v : Bool). seenIn s x || v) (sym (hit-append cs ds x));
     scratch-length = b .scratch-length ∙ a .scratch-length;
     kept = λ i p q. b .kept i p q ∙ a .kept i p q;
     outside = λ i p. b .outside i p ∙ a .outside i p;
   }
 
-module _ {table : List ℕ} {t : Table} {round : Round} {cs : List Candidate} {count : ℕ} {log s : List ℕ} {count′ : ℕ} {log′ s′ : List ℕ}
-    (here : InRound table t round log s) (low : round .base ≤ count) (a : Arrived table round cs count log s count′ log′ s′) where
+module _ {table : List ℕ} {t : Table} {round : Round} {held : ℕ → Bool} {cs : List Candidate} {count : ℕ} {log s : List ℕ} {count′ : ℕ} {log′ s′ : List ℕ}
+    (here : InRound table t round log s) (low : round .base ≤ count) (a : Arrived table round held cs count log s count′ log′ s′) where
   pub arrived-front : take (round .base * recordLength) log′ ≡ take (round .base * recordLength) log
   arrived-front = ap (take (round .base * recordLength)) (a .written)
-      ∙ stored-earlier (round .n) log count (map (addedRecord (round .number) (earlierLog table (round .number))) (taken (seenIn s) cs)) (round .base) low (here .records)
+      ∙ stored-earlier (round .n) log count (map (addedRecord (round .number) (earlierLog table (round .number))) (taken (known held s) cs)) (round .base) low (here .records)
 
   pub arrived-length : length log′ ≡ length log
-  arrived-length = ap length (a .written) ∙ stored-length (round .n) log count (map (addedRecord (round .number) (earlierLog table (round .number))) (taken (seenIn s) cs)) (here .records)
+  arrived-length = ap length (a .written) ∙ stored-length (round .n) log count (map (addedRecord (round .number) (earlierLog table (round .number))) (taken (known held s) cs)) (here .records)
 
   pub arrived-count : (round .base ≤ count′) × (count′ ≤ round .n + 1)
   arrived-count = (omega (arith, a .counted, here .room .fits), omega (arith, a .counted))
@@ -153,13 +155,13 @@ pub record Searching (table : List ℕ) (t : Table) (round : Round) (head : Head
   pub idle : (q : ℕ) → from + m ≤ q → q < position → inSet s₀ activeAt q ≡ false
   pub active : position < positionCeiling → inSet s₀ activeAt position ≡ true
   pub inside : position ≤ positionCeiling
-  pub arrived : Arrived table round (filter (isOffered round) (searchedAt table round s₀ from m)) count log₀ s₀ total log s
+  pub arrived : Arrived table round (headHeld table round log₀ s₀ from) (filter (isOffered round) (searchedAt table round s₀ from m)) count log₀ s₀ total log s
 
 pub searching-start : {table : List ℕ} {t : Table} {round : Round} {head : Head} {from count : ℕ} {log s : List ℕ}
     → InRound table t round log s × (from < t .rules) × (inSet s activeAt from ≡ true) × Leading table s from
     × HeadOf table (orderedRule s from) head × (round .base ≤ count) × (count ≤ round .n)
     → Searching table t round head from count log s log s from count
-searching-start {table} {t} {round} {count = count} {log = log} {s = s} p = record {
+searching-start {table} {t} {round} {from = from} {count = count} {log = log} {s = s} p = record {
   here = p .0;
   within = p .1;
   first = p .3;
@@ -173,7 +175,7 @@ searching-start {table} {t} {round} {count = count} {log = log} {s = s} p = reco
   idle = λ q a b. absurd (omega arith);
   active = λ l. p .2;
   inside = omega (arith, p .1, table-modest table t (p .0 .holds) .rules);
-  arrived = arrived-none table round count log s (omega (arith, p .6));
+  arrived = arrived-none table round (headHeld table round log s from) count log s (omega (arith, p .6));
 }
 
 module _ {table : List ℕ} {t : Table} {round : Round} {head : Head} {from count : ℕ} {log₀ s₀ log s : List ℕ} {position total : ℕ} (o : Searching table t round head from count log₀ s₀ log s position total) where
@@ -191,6 +193,9 @@ module _ {table : List ℕ} {t : Table} {round : Round} {head : Head} {from coun
 
   abbrev ok : Rule → Bool
   ok = lookedAt round a g
+
+  abbrev held : ℕ → Bool
+  held = headHeld table round log₀ s₀ from
 
   abbrev offered : ℕ → List Candidate
   offered m = filter (isOffered round) (searchedAt table round s₀ from m)
@@ -257,11 +262,17 @@ module _ {table : List ℕ} {t : Table} {round : Round} {head : Head} {from coun
 
     -- the rule there may be searched
     pub searching-rule : {k : ℕ} → k ≡ orderedRule s position
-        → InRound table t round log s × (k < t .rules) × HeadOf table k head × (round .base ≤ total) × (total ≤ round .n + 1)
-    searching-rule e =
-        (searching-round, rw (e, order-same position below) (ruled-at position below), rw (e, order-same position below) search-head, searching-count .0, searching-count .1)
+        → InRound table t round log s × (k < t .rules) × HeadOf table k head × (round .base ≤ total) × (total ≤ round .n + 1) × Indexed log (round .base) (round .n) (keysAt (round .n)) s
+    searching-rule e = (
+      searching-round,
+      rw (e, order-same position below) (ruled-at position below),
+      rw (e, order-same position below) search-head,
+      searching-count .0,
+      searching-count .1,
+      searching-round .indexed position below (active-kept table t holds s₀ s (λ i a b. o .arrived .kept i (omega arith) b) position (omega (arith, below, few)) ∙ o .active (omega (arith, below, few))),
+    )
 
-    pub searching-turn : {k total′ : ℕ} {log′ s′ : List ℕ} {next : ℕ} → k ≡ orderedRule s position → Arrived table round (ruleOffers table round k) total log s total′ log′ s′
+    pub searching-turn : {k total′ : ℕ} {log′ s′ : List ℕ} {next : ℕ} → k ≡ orderedRule s position → Arrived table round (heldBelow log (head .letter) (head .before) (round .base)) (ruleOffers table round k) total log s total′ log′ s′
         → next ≡ firstFrom (inSet s′ activeAt) (position + 1) (positionCeiling - (position + 1)) → Searching table t round head from count log₀ s₀ log′ s′ next total′
     searching-turn {k} {total′} {log′} {s′} {next} is d e = record {
       here = here;
@@ -277,11 +288,16 @@ module _ {table : List ℕ} {t : Table} {round : Round} {head : Head} {from coun
       idle = λ q a b. sym (active-now q (omega (arith, next-at .high))) ∙ next-at .fails q (omega (arith, o .behind)) b;
       active = λ l. sym (active-now next l) ∙ next-at .passes (omega (arith, below, few));
       inside = omega (arith, next-at .high, below, few);
-      arrived = subst (λ (cs : List Candidate). Arrived table round cs count log₀ s₀ total′ log′ s′) (sym candidates-are) all-arrived;
+      arrived = subst (λ (cs : List Candidate). Arrived table round held cs count log₀ s₀ total′ log′ s′) (sym candidates-are) all-arrived;
     }
       where
-        all-arrived : Arrived table round (offered (o .m) ++ ruleOffers table round k) count log₀ s₀ total′ log′ s′
-        all-arrived = arrived-both (o .arrived) d
+        -- the records before the round's are the same, and so are their ends
+        held-is : heldBelow log (head .letter) (head .before) (round .base) ≡ held
+        held-is = held-same log₀ log (round .base) (arrived-front here (o .low) (o .arrived)) (head .letter) (head .before)
+            ∙ ap₂ (λ (x y : ℕ). heldBelow log₀ x y (round .base)) (o .of .letter) (o .of .before)
+
+        all-arrived : Arrived table round held (offered (o .m) ++ ruleOffers table round k) count log₀ s₀ total′ log′ s′
+        all-arrived = arrived-both (o .arrived) (subst (λ (f : ℕ → Bool). Arrived table round f (ruleOffers table round k) total log s total′ log′ s′) held-is d)
 
         active-now : (p : ℕ) → p < positionCeiling → inSet s′ activeAt p ≡ inSet s₀ activeAt p
         active-now p l = active-kept table t holds s₀ s′ (λ i a b. all-arrived .kept i (omega arith) b) p l
@@ -334,6 +350,6 @@ module _ {table : List ℕ} {t : Table} {round : Round} {head : Head} {from coun
         same = λ r a b l y. elim (decLt r (from + o .m)) [ yes h ↦ o .same r a h | no h ↦ absurd (true≢false (sym y ∙ o .idle r (omega arith) b)) ];
         other = other-head;
       };
-      arrived = subst (λ (cs : List Candidate). Arrived table round (filter (isOffered round) cs) count log₀ s₀ total log s)
+      arrived = subst (λ (cs : List Candidate). Arrived table round held (filter (isOffered round) cs) count log₀ s₀ total log s)
           (sym (head-candidates table t holds s₀ (here .prepared .ordered) (systemIn table .loc) (earlierLog table (round .number)) ok from (o .m) (o .ruled) (o .same) looked-inside)) (o .arrived);
     }

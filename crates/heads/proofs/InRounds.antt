@@ -12,9 +12,10 @@ use Rattle.model.specs.Records.{logBytes, recordLength}
 use Rattle.model.specs.Systems.{Rule}
 use Rattle.model.proofs.Tests.{by-test}
 use Rattle.automaton.specs.StateSets.{setLength}
-use Rattle.scratch.specs.Regions.{activeAt, countsEnd, orderAt, passedAt, ringsAt}
+use Rattle.scratch.specs.Regions.{activeAt, countsEnd, keysAt, orderAt, passedAt, ringsAt}
 use Rattle.records.specs.Entries.{Fits}
 use Rattle.rings.proofs.Keeping.{freshened-log, freshened-scratch, ringed-log, ringed-scratch}
+use Rattle.keys.proofs.Keeping.{indexed-log, indexed-scratch}
 use Rattle.table.specs.declared.Table.{Table}
 use Rattle.table.specs.Reading.{Holds, ruleIn}
 use Rattle.table.proofs.Layouts.{table-modest}
@@ -23,7 +24,7 @@ use Rattle.rules.specs.Regions.{inSet, positionCeiling}
 use Rattle.rules.specs.Rules.{hasLetter, orderedRule, writersOf, writesLetter}
 use Rattle.rules.proofs.RegionLaws.{in-same}
 use Rattle.rules.proofs.RuleOrder.{ordered-same}
-use Rattle.paths.proofs.Glances.{before-same, letter-same}
+use Rattle.paths.proofs.Glances.{after-same, before-same, letter-same}
 use Rattle.heads.specs.declared.Round.{Round}
 use Rattle.heads.specs.Rounds.{InRound, Prepared, earlierLog, isActive}
 
@@ -37,7 +38,7 @@ module _ (table : List ℕ) (t : Table) (holds : Holds table t) (s s′ : List �
   order-kept p l = keeps (orderAt + p) (omega arith) (omega (arith, table-modest table t holds .rules))
 
   -- what is asked of the rule at a position, if there is one
-  rule-kept : (f : Rule → Bool) (p : ℕ) → (ltb p (t .rules) && f (ruleIn table (orderedRule s p))) ≡ (ltb p (t .rules) && f (ruleIn table (orderedRule s′ p)))
+  pub rule-kept : (f : Rule → Bool) (p : ℕ) → (ltb p (t .rules) && f (ruleIn table (orderedRule s p))) ≡ (ltb p (t .rules) && f (ruleIn table (orderedRule s′ p)))
   rule-kept f p = by-test (ltb p (t .rules))
       (λ y. rw y (ap (λ (k : ℕ). f (ruleIn table k)) (sym (order-kept p (ltb-true p (t .rules) y)))))
       (λ n. rw n)
@@ -45,8 +46,8 @@ module _ (table : List ℕ) (t : Table) (holds : Holds table t) (s s′ : List �
   pub active-kept : (p : ℕ) → p < positionCeiling → inSet s′ activeAt p ≡ inSet s activeAt p
   active-kept p l = in-same s s′ activeAt p (keeps (activeAt + p / 8) (omega arith) (omega arith))
 
-  pub prepared-kept : Prepared table t s → Prepared table t s′
-  prepared-kept w = record {
+  pub keep-prepared : Prepared table t s → Prepared table t s′
+  keep-prepared w = record {
     ordered = ordered-same table (t .rules) s s′ order-kept (w .ordered);
     writers = record {
       positions = λ a p l b.
@@ -76,8 +77,12 @@ module _ (table : List ℕ) (t : Table) (holds : Holds table t) (s s′ : List �
             (ringed-scratch log (round .base) (round .n) ringsAt s s′ (w .room .fits) (λ i a b. rings i a) (w .ringed));
         freshened = freshened-log log log′ (round .base) (round .n) ringsAt s′ letters befores (round .lo) (w .low)
             (freshened-scratch log (round .lo) (round .base) (round .n) ringsAt s s′ (λ i a b. rings i a) (w .freshened));
-        prepared = prepared-kept (w .prepared);
+        prepared = keep-prepared (w .prepared);
         active = λ p l. active-kept p l ∙ w .active p l ∙ rule-kept (isActive round) p;
+        links = rw size-s (w .links);
+        indexed = λ p l y. indexed-log log log′ (round .base) (round .n) (keysAt (round .n)) s′ letters befores (after-same log log′ (round .base) front)
+            (indexed-scratch log (round .base) (round .n) (keysAt (round .n)) s s′ (w .room .fits) (λ i a b. rings i (omega arith))
+            (w .indexed p l (sym (active-kept p (omega (arith, table-modest table t holds .rules))) ∙ y)));
       }
 
 -- ---- the records that it starts from

@@ -2,6 +2,7 @@ pub mod StoredRecords
 pub mod Candidates
 pub mod HeadOrder
 pub mod Matching
+pub mod IdleRules
 pub mod RuleSearch
 pub mod InRounds
 pub mod HeadSearch

@@ -11,13 +11,15 @@ use Rattle.model.specs.Records.{logBytes, recordLength}
 use Rattle.model.specs.Lists.{filter}
 use Rattle.automaton.specs.StateNumbers.{Over, stateCount, stateNumber}
 use Rattle.automaton.specs.StateSets.{member, setLength}
-use Rattle.scratch.specs.Regions.{activeAt, countsEnd, passedAt, passedBit, ringsAt, seenAt}
+use Rattle.scratch.specs.Regions.{activeAt, countsEnd, passedAt, passedBit, passedEnd, ringsAt, seenAt}
+use Rattle.packs.specs.Packs.{packed}
+use Rattle.keys.specs.Keys.{heldBelow}
 use Rattle.table.specs.declared.Table.{Table}
 use Rattle.table.specs.Reading.{ruleIn}
 use Rattle.rules.specs.Regions.{inSet}
 use Rattle.rules.specs.Rules.{orderedRule}
 use Rattle.paths.specs.Arrivals.{hit, stored, taken}
-use Rattle.paths.specs.Jobs.{seenIn}
+use Rattle.paths.specs.Jobs.{known, seenIn}
 use Rattle.ranks.specs.Ranks.{RanksOnly, Sorted}
 use Rattle.heads.specs.declared.Reached.{Reached}
 use Rattle.heads.specs.declared.Round.{Round}
@@ -34,24 +36,24 @@ pub record DepthCleared (from depth : ℕ) (s s′ : List ℕ) : Type 0 where
   pub clear : (found : Bool) (m : ℕ) → 8 * from ≤ m → m < stateCount → member s′ (passedBit depth found m) ≡ false
   pub others : (d : ℕ) (found : Bool) (m : ℕ) → (d ≡ depth → ⊥) → m < stateCount → member s′ (passedBit d found m) ≡ member s (passedBit d found m)
   pub before : (i : ℕ) → i < passedAt + 2 * setLength → getD s′ i 0 ≡ getD s i 0
-  pub behind : (i : ℕ) → passedAt + 12 * setLength ≤ i → getD s′ i 0 ≡ getD s i 0
+  pub behind : (i : ℕ) → passedEnd ≤ i → getD s′ i 0 ≡ getD s i 0
 
 -- no state from a number on is passed at the depths behind the first and below `depth`
 pub record PassedCleared (from depth : ℕ) (s s′ : List ℕ) : Type 0 where
   pub size : length s′ ≡ length s
   pub clear : (d : ℕ) (found : Bool) (m : ℕ) → 1 ≤ d → d < depth → 8 * from ≤ m → m < stateCount → member s′ (passedBit d found m) ≡ false
   pub before : (i : ℕ) → i < passedAt + 2 * setLength → getD s′ i 0 ≡ getD s i 0
-  pub behind : (i : ℕ) → passedAt + 12 * setLength ≤ i → getD s′ i 0 ≡ getD s i 0
+  pub behind : (i : ℕ) → passedEnd ≤ i → getD s′ i 0 ≡ getD s i 0
 
 -- ---- searches
--- candidates have arrived one after the other: the first for each end that was not seen before is written, as long as the log has room
-pub record Arrived (table : List ℕ) (round : Round) (cs : List Candidate) (count : ℕ) (log s : List ℕ) (count′ : ℕ) (log′ s′ : List ℕ) : Type 0 where
-  pub counted : count′ ≡ min (count + length (taken (seenIn s) cs)) (round .n + 1)
-  pub written : log′ ≡ stored (round .n) log count (map (addedRecord (round .number) (earlierLog table (round .number))) (taken (seenIn s) cs))
+-- candidates have arrived one after the other: the first for each end that was not seen before and is not held is written, as long as the log has room
+pub record Arrived (table : List ℕ) (round : Round) (held : ℕ → Bool) (cs : List Candidate) (count : ℕ) (log s : List ℕ) (count′ : ℕ) (log′ s′ : List ℕ) : Type 0 where
+  pub counted : count′ ≡ min (count + length (taken (known held s) cs)) (round .n + 1)
+  pub written : log′ ≡ stored (round .n) log count (map (addedRecord (round .number) (earlierLog table (round .number))) (taken (known held s) cs))
   pub seen : (x : ℕ) → x < stateCount → seenIn s′ x ≡ (seenIn s x || hit cs x)
   pub scratch-length : length s′ ≡ length s
   pub kept : (i : ℕ) → seenAt + setLength ≤ i → i < passedAt + 2 * setLength → getD s′ i 0 ≡ getD s i 0
-  pub outside : (i : ℕ) → passedAt + 12 * setLength ≤ i → getD s′ i 0 ≡ getD s i 0
+  pub outside : (i : ℕ) → passedEnd ≤ i → getD s′ i 0 ≡ getD s i 0
 
 -- no active position before p has its head
 abbrev pub Leading : List ℕ → List ℕ → ℕ → Type 0
@@ -71,10 +73,14 @@ letterOf table s p = ruleIn table (orderedRule s p) .letter
 abbrev pub beforeOf : List ℕ → List ℕ → ℕ → Group
 beforeOf table s p = ruleIn table (orderedRule s p) .before
 
+-- the ends of the records that have the head of the rule at p
+abbrev pub headHeld : List ℕ → Round → List ℕ → List ℕ → ℕ → ℕ → Bool
+headHeld table round log s p = heldBelow log (letterOf table s p) (packed (beforeOf table s p)) (round .base)
+
 -- all active rules with the head of the rule at p have been searched
 pub record HeadSearched (table : List ℕ) (t : Table) (round : Round) (p count : ℕ) (log s : List ℕ) (r : Reached) (log′ s′ : List ℕ) : Type 0 where
   pub next : NextHead table t s p (r .position)
-  pub arrived : Arrived table round (filter (isOffered round) (headCandidates table round (letterOf table s p) (beforeOf table s p))) count log s (r .count) log′ s′
+  pub arrived : Arrived table round (headHeld table round log s p) (filter (isOffered round) (headCandidates table round (letterOf table s p) (beforeOf table s p))) count log s (r .count) log′ s′
 
 -- the records from `from` on and below `to` are sorted, where the log can hold them
 pub record SortedNew (from to n : ℕ) (log s log′ s′ : List ℕ) : Type 0 where

@@ -36,7 +36,7 @@ unfoldable pub hasHead : List ℕ → Head → ℕ → Bool
 hasHead table h k = eqb (ruleIn table k .letter) (h .letter) && eqb (packed (ruleIn table k .before)) (h .before)
 
 -- the job of rule k in a round
-pub record JobOf (table : List ℕ) (round : Round) (k : ℕ) (job : Job) : Type 0 where
+pub record JobOf (table : List ℕ) (round : Round) (k : ℕ) (held : Bool) (job : Job) : Type 0 where
   pub letter : job .letter ≡ ruleIn table k .letter
   pub mask : job .mask ≡ maskOf (systemIn table .loc (ruleIn table k .letter))
   pub before : job .before ≡ packed (ruleIn table k .before)
@@ -44,6 +44,7 @@ pub record JobOf (table : List ℕ) (round : Round) (k : ℕ) (job : Job) : Type
   pub label : round .number ≤ 65535 → job .round ≡ round .number
   pub count : job .count ≡ length (ruleIn table k .written)
   pub word : WordTo table (round .fresh) k (length (ruleIn table k .written)) (job .letters) (job .masks) (job .last)
+  pub held-is : job .held ≡ held
   pub lo : job .lo ≡ round .lo
   pub base : job .base ≡ round .base
   pub n : job .n ≡ round .n

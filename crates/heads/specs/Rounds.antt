@@ -12,8 +12,9 @@ use Rattle.model.specs.Records.{letterAt, logBytes, recordLength}
 use Rattle.model.specs.Systems.{Rule}
 use Rattle.model.specs.Searches.{anyFrom, candidatesOf, isHead, ruleHead}
 use Rattle.automaton.specs.StateSets.{setLength}
-use Rattle.scratch.specs.Regions.{activeAt, passedAt, ringsAt}
+use Rattle.scratch.specs.Regions.{activeAt, keysAt, linksEnd, passedAt, ringsAt}
 use Rattle.rings.specs.Rings.{Freshened, RingRoom, Ringed}
+use Rattle.keys.specs.Keys.{Indexed}
 use Rattle.table.specs.declared.Table.{Table}
 use Rattle.table.specs.Reading.{Holds, ruleIn, systemIn}
 use Rattle.rules.specs.Regions.{inSet, positionCeiling}
@@ -55,6 +56,9 @@ pub record InRound (table : List ℕ) (t : Table) (round : Round) (log s : List 
   pub freshened : Freshened log (round .lo) (round .base) (round .n) ringsAt s
   pub prepared : Prepared table t s
   pub active : (p : ℕ) → p < positionCeiling → inSet s activeAt p ≡ (ltb p (t .rules) && isActive round (ruleIn table (orderedRule s p)))
+  -- the keys of the records are indexed, unless the round looks at no rule
+  pub links : linksEnd (round .n) ≤ length s
+  pub indexed : (p : ℕ) → p < t .rules → inSet s activeAt p ≡ true → Indexed log (round .base) (round .n) (keysAt (round .n)) s
 
 -- ---- what is searched
 -- a path without a record of the last round adds nothing, but the first round goes through all

@@ -9,7 +9,7 @@ use table::Table;
 ghost use mathlib.Core.Path.{_≡_};
 ghost use mathlib.Core.Bool.{cond};
 ghost use Prim.Native.Nat.{_+_, _<_, _≤_};
-ghost use lib.ListN.{length, getD, set};
+ghost use lib.ListN.{length, set};
 ghost use Rattle.model.specs.Tables.{writtenPlaces};
 ghost use Rattle.rules.specs.Rules.{hasLetter};
 ghost use Rattle.table.specs.Reading.{Holds, ruleIn};
@@ -88,10 +88,10 @@ fn word_of(table: &[u8], t: Table, fresh: u32, k: usize, count: usize) -> Word
     word
 }
 
-// The job of rule k, which has the head.
-pub fn job_of(table: &[u8], t: Table, round: Round, head: Head, k: usize) -> Job
+// The job of rule k, which has the head; `held` tells whether a record has it too.
+pub fn job_of(table: &[u8], t: Table, round: Round, head: Head, k: usize, held: bool) -> Job
     requires { ⌜ Holds (now table) t × (k < t .rules) × HeadOf (now table) k head ⌝ }
-    ensures { λ r. ⌜ JobOf (now (table .entry)) round k r ⌝ }
+    ensures { λ r. ⌜ JobOf (now (table .entry)) round k held r ⌝ }
 {
     let count = table::written_count(table, t, k);
     let word = word_of(table, t, round.fresh, k, count);
@@ -107,6 +107,7 @@ pub fn job_of(table: &[u8], t: Table, round: Round, head: Head, k: usize) -> Job
         letters,
         masks,
         last: word.last,
+        held,
         lo: round.lo,
         base: round.base,
         n: round.n,

@@ -5,11 +5,17 @@ use listing::put_answer;
 use listing::put_ran;
 use model::Answered;
 use reach::answer_and_run;
+use records::RECORD_LENGTH;
+use scratch::NEEDED;
+use scratch::NEEDED_PER_RECORD;
 ghost use mathlib.Core.Path.{_≡_};
 ghost use Prim.Native.Nat.{_≤_};
 ghost use lib.ListN.{length, take};
 ghost use Rattle.listing.specs.LineText.{Lent, lineText};
 ghost use Rattle.listing.specs.Listing.{isReachable};
+
+// The records that the log can hold.
+const RECORDS: usize = 2000;
 
 fn is_reachable(answered: Answered) -> bool
     ensures { λ r. ⌜ r ≡ isReachable answered ⌝ }
@@ -55,11 +61,11 @@ fn respond(
     end
 }
 
-// A log of 2,000 records, the scratch for it, and a page of 10,000 places.
+// A log of so many records, the scratch for it, and a page of 10,000 places.
 fn main() {
     let mut input = io::large_buffer();
-    let mut log = [0u8; 48000];
-    let mut scratch = [0u8; 46000];
+    let mut log = [0u8; RECORDS * RECORD_LENGTH];
+    let mut scratch = [0u8; NEEDED + NEEDED_PER_RECORD * RECORDS];
     let mut page = [0u16; 10000];
     let mut text = io::large_buffer();
     let n = io::read_full(STDIN_FILENO, &mut input);

@@ -3,21 +3,22 @@ use mathlib.Core.Path.{_≡_, refl, ap, ap₂, sym, _∙_}
 use mathlib.Core.Bool.{Bool, true, false, cond, _||_}
 use mathlib.Core.Option.{Option, none, some}
 use mathlib.Core.List.{List, [], _++_, append-nil}
-use Prim.Native.Nat.{ℕ, _-_, _≤_}
+use Prim.Native.Nat.{ℕ, _-_, _*_, _≤_}
 use native.Mathlib.Omega.{arith}
 use lib.Dec.{ltb}
 use lib.ListN.{length, take, replicate, length-replicate}
 use borrow.Author.Tests.{ltb-false}
 use Rattle.model.specs.declared.Answered.{Answered}
 use Rattle.model.specs.declared.Ran.{Ran}
-use Rattle.model.specs.Calls.{answerCall, answerGiven, capacity, isLong, pageAfter, runCall, runGiven, runOf, runRefusal, runVerdict, scratchNeeded, startPath}
+use Rattle.model.specs.Calls.{answerCall, answerGiven, capacity, isLong, pageAfter, runCall, runGiven, runOf, runRefusal, runVerdict, scratchFor, scratchNeeded, startPath}
+use Rattle.model.specs.Records.{recordLength}
 use Rattle.model.specs.Log.{Path, limit}
 use Rattle.model.specs.Systems.{System}
 use Rattle.model.specs.Tables.{Reading, accepted, refused, read, systemOf}
 use Rattle.model.specs.Unfolding.{pathSteps}
-use Rattle.model.proofs.Prefixes.{answer-prefix, run-prefix}
+use Rattle.model.proofs.Prefixes.{answer-prefix, run-prefix, telling}
 use Rattle.model.proofs.Tests.{by-test}
-use Rattle.listing.specs.LineText.{Lent, lineText, textWith}
+use Rattle.listing.specs.LineText.{Lent, lineLog, linePage, lineRecords, lineScratch, lineText, textWith}
 use Rattle.listing.specs.Listing.{answerLines, isReachable, listed, listing, runLines}
 
 -- ---- lengths alone count
@@ -54,7 +55,7 @@ zeros-length n = sym (length-replicate {A = ℕ} n 0)
 text-of : (input log scratch page : List ℕ) → Lent log scratch page → textWith input log scratch page ≡ lineText input
 unfolding lineText
 text-of input log scratch page b =
-    text-lengths input log scratch page (replicate 48000 0) (replicate 46000 0) (replicate 10000 0) (b .log-length ∙ zeros-length 48000) (b .scratch-length ∙ zeros-length 46000)
+    text-lengths input log scratch page lineLog lineScratch linePage (b .log-length ∙ zeros-length (lineRecords * recordLength)) (b .scratch-length ∙ zeros-length (scratchFor lineRecords))
     (b .page-length ∙ zeros-length 10000)
 
 -- ---- a reachable answer with the run behind it, or another answer alone, is the whole text
@@ -71,9 +72,9 @@ module _ (input log scratch page : List ℕ) (a : Answered) (b : Lent log scratc
   text-alone n = let t = text-is in sym (append-nil (answerLines a)) ∙ rw n at t
 
 -- ---- bytes behind the input's buffer change nothing
-pub line-prefix : (n : ℕ) (input : List ℕ) → 5545 ≤ n → lineText (take n input) ≡ lineText input
+pub line-prefix : (n : ℕ) (input : List ℕ) → telling ≤ n → lineText (take n input) ≡ lineText input
 unfolding lineText textWith
-line-prefix n input h = rw (answer-prefix n input (replicate 48000 0) (replicate 46000 0) h, run-prefix n input (replicate 48000 0) (replicate 46000 0) (replicate 10000 0) h)
+line-prefix n input h = rw (answer-prefix n input lineLog lineScratch h, run-prefix n input lineLog lineScratch linePage h)
 
 -- the buffer of the program
 pub line-buffer : (input : List ℕ) → lineText (take 65536 input) ≡ lineText input

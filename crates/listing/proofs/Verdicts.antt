@@ -3,13 +3,13 @@ use mathlib.Core.Path.{_≡_, ap}
 use mathlib.Core.List.{List, _++_}
 use Prim.Native.Nat.{ℕ}
 use native.Mathlib.Omega.{arith}
-use lib.ListN.{getD, replicate, take}
+use lib.ListN.{getD, take}
 use Rattle.model.specs.declared.Answered.{Answered}
 use Rattle.model.specs.Calls.{answerCall}
 use Rattle.model.specs.Demands.{NoRun, SomeRun, Tells}
 use Rattle.model.specs.Tables.{Item, accepted, read, systemOf}
 use Rattle.model.proofs.Meanings.{answer-tells}
-use Rattle.listing.specs.LineText.{lineText, textWith}
+use Rattle.listing.specs.LineText.{lineLog, lineScratch, lineText, textWith}
 use Rattle.listing.specs.Listing.{answerLines, ascii, counted, line, listing, refusedLine}
 
 -- the texts of the verdicts and of a refusal differ at their first or eighth byte
@@ -29,9 +29,9 @@ module _ (input rest : List ℕ) where
 -- "answer unreachable": the input is an accepted table, and no finite run joins its start and its watched set
 pub text-unreachable : (input : List ℕ) → take 18 (lineText input) ≡ ascii "answer unreachable" → (items : List Item) × (read input ≡ accepted items) × NoRun (systemOf items)
 unfolding lineText textWith listing
-text-unreachable input e = tells-unreachable input _ (answerCall input (replicate 48000 0) (replicate 46000 0) .answer) (answer-tells input (replicate 48000 0) (replicate 46000 0)) e
+text-unreachable input e = tells-unreachable input _ (answerCall input lineLog lineScratch .answer) (answer-tells input lineLog lineScratch) e
 
 -- "answer reachable": some run does
 pub text-reachable : (input : List ℕ) → take 16 (lineText input) ≡ ascii "answer reachable" → (items : List Item) × (read input ≡ accepted items) × SomeRun (systemOf items)
 unfolding lineText textWith listing
-text-reachable input e = tells-reachable input _ (answerCall input (replicate 48000 0) (replicate 46000 0) .answer) (answer-tells input (replicate 48000 0) (replicate 46000 0)) e
+text-reachable input e = tells-reachable input _ (answerCall input lineLog lineScratch .answer) (answer-tells input lineLog lineScratch) e

@@ -12,7 +12,7 @@ use Rattle.model.specs.Tables.{isOutOfTurn, groupFits, transitionFits, writtenF
 use Rattle.model.specs.Log.{readsAt, keyLess, sameKey, additions, logAt, firstSaturated, saturatedAt}
 use Rattle.model.specs.Unfolding.{acceptingPath, emittedBy}
 use Rattle.model.specs.Calls.{recordsOf, runOf, pageAfter, answerGiven, answerCall, runGiven, runCall}
-use Rattle.model.specs.SmallTables.{head-T, rules01-T, rule2-T, accepting-T, start-T, table-T, re-entry, doubling}
+use Rattle.model.specs.SmallTables.{head-T, rules01-T, rule2-T, accepting-T, start-T, table-T, re-entry, doubling, roast, short-bodies-T}
 use Rattle.listing.specs.LineText.{lineText, textWith}
 use Rattle.listing.specs.Listing.{ascii, decimal, line, counted, refusedLine, answerLines, runLine, runLines, listing}
 
@@ -31,7 +31,11 @@ examples =
       text = "answer reachable\ntransitions 3\nrounds 2\nsteps 0\npeak 0\nrun\n";
     }
     ∷ record { input = doubling; text = "answer reachable\ntransitions 3\nrounds 3\nsteps 7\npeak 3\nrun 0 1 2 2 1 2 2\n" }
-    ∷ record { input = re-entry; text = "refused 7 at 22\n" }
+    ∷ record { input = re-entry; text = "refused 7 at 24\n" }
+    -- request 2.4: six written tasks in one rule; a count of 7; bodies in the old length
+    ∷ record { input = roast 6; text = "answer reachable\ntransitions 2\nrounds 2\nsteps 7\npeak 6\nrun 0 1 1 1 1 1 1\n" }
+    ∷ record { input = roast 7; text = "refused 5 at 7\n" }
+    ∷ record { input = short-bodies-T; text = "refused 5 at 12\n" }
     -- the empty file
     ∷ record { input = []; text = "refused 1 at 0\n" }
     ∷ []

@@ -1,4 +1,4 @@
-// The log of three tables, worked out by hand from document 01. One line for each record, in the order of its 24 bytes: task, before, after,
+// The log of four tables, worked out by hand from document 01. One line for each record, in the order of its 28 bytes: task, before, after,
 // round, rule, path, steps; 255 is a station without part, 65535 no rule or no path place. Then the line of the answer.
 use model::Answered;
 use numbers::as_u32;
@@ -7,10 +7,17 @@ use reach::answer;
 ghost use mathlib.Core.Path.{_≡_};
 ghost use lib.ListN.{length};
 
+const RECORD: usize = 28;
+
+// A log of 10 records, and the scratch for it.
+const LOG: usize = 10 * RECORD;
+
+const SCRATCH: usize = 34100;
+
 // Table T. Round 0 is empty. Round 1: rules 1 and 2 write none, so their paths are empty; tasks 1 and 2 become records 0 and 1, of 1 step.
 // Round 2: rule 0 reads 1 2 from (0,0) by records 0 and 1 to (1,1); record 2, of 1 + 1 + 1 steps. Round 3 adds nothing.
 // The start's path is record 2.
-const T: [u8; 70] = [
+const T: [u8; 76] = [
     1,
     2,
     2,
@@ -38,6 +45,8 @@ const T: [u8; 70] = [
     2,
     255,
     255,
+    255,
+    255,
     3,
     1,
     0,
@@ -49,6 +58,8 @@ const T: [u8; 70] = [
     255,
     255,
     0,
+    255,
+    255,
     255,
     255,
     255,
@@ -64,6 +75,8 @@ const T: [u8; 70] = [
     255,
     255,
     0,
+    255,
+    255,
     255,
     255,
     255,
@@ -85,7 +98,7 @@ const T: [u8; 70] = [
 
 // Doubling with tasks 0 to 2. Round 1: task 2 by rule 2, record 0, 1 step. Round 2: task 1 by rule 1 over records 0 0, 1 + 1 + 1 steps.
 // Round 3: task 0 by rule 0 over records 1 1, 1 + 3 + 3 steps.
-const DOUBLING: [u8; 67] = [
+const DOUBLING: [u8; 73] = [
     1,
     1,
     1,
@@ -110,6 +123,8 @@ const DOUBLING: [u8; 67] = [
     1,
     255,
     255,
+    255,
+    255,
     3,
     1,
     0,
@@ -125,6 +140,8 @@ const DOUBLING: [u8; 67] = [
     2,
     255,
     255,
+    255,
+    255,
     3,
     2,
     0,
@@ -136,6 +153,8 @@ const DOUBLING: [u8; 67] = [
     255,
     255,
     0,
+    255,
+    255,
     255,
     255,
     255,
@@ -169,7 +188,7 @@ const DOUBLING: [u8; 67] = [
 // Round 3: rule 0 offers task 2 from 0 to 2 over record 6, which round 1 holds by rule 4: that reason stays. Rules 7 and 6 give task 0 from
 // (0,1) and from (1,0) to (2,0) over record 6, records 7 and 8, 1 + 3 steps. Round 4 adds nothing.
 // The start's path is record 7: record 0 ends in (2,2), which is not accepting.
-const REASONS: [u8; 177] = [
+const REASONS: [u8; 193] = [
     1,
     2,
     3,
@@ -199,6 +218,8 @@ const REASONS: [u8; 177] = [
     255,
     255,
     255,
+    255,
+    255,
     3,
     3,
     0,
@@ -214,19 +235,6 @@ const REASONS: [u8; 177] = [
     2,
     255,
     255,
-    3,
-    1,
-    0,
-    255,
-    255,
-    255,
-    1,
-    255,
-    255,
-    255,
-    0,
-    255,
-    255,
     255,
     255,
     3,
@@ -235,11 +243,30 @@ const REASONS: [u8; 177] = [
     255,
     255,
     255,
+    1,
+    255,
+    255,
+    255,
+    0,
+    255,
+    255,
+    255,
+    255,
+    255,
+    255,
+    3,
+    1,
     0,
     255,
     255,
     255,
     0,
+    255,
+    255,
+    255,
+    0,
+    255,
+    255,
     255,
     255,
     255,
@@ -259,6 +286,8 @@ const REASONS: [u8; 177] = [
     255,
     255,
     255,
+    255,
+    255,
     3,
     3,
     0,
@@ -274,6 +303,8 @@ const REASONS: [u8; 177] = [
     255,
     255,
     255,
+    255,
+    255,
     3,
     0,
     1,
@@ -289,6 +320,8 @@ const REASONS: [u8; 177] = [
     255,
     255,
     255,
+    255,
+    255,
     3,
     0,
     0,
@@ -301,6 +334,8 @@ const REASONS: [u8; 177] = [
     255,
     1,
     3,
+    255,
+    255,
     255,
     255,
     255,
@@ -344,6 +379,174 @@ const REASONS: [u8; 177] = [
     1,
     255,
     255,
+    7,
+    0,
+    8,
+];
+
+// Six written tasks: four stations, q = s = 3; tasks 0 of all four, 1 {0}, 2 {1}, 3 {2}, 4 {3}, 5 {0,1}, 6 {2,3}.
+// rule 0: task 0, from 0 to 0 at each station, writes 1 2 3 4 5 6
+// rules 1 to 4: tasks 1 to 4, 0 to 1, write none; rules 5 and 6: tasks 5 and 6, (1,1) to (2,2), write none. Accepting 2 at each station; start 0
+// at each, pile 0.
+//
+// Round 1: tasks 1 to 6 by rules 1 to 6, records 0 to 5, 1 step each. Round 2: rule 0 reads 1 2 3 4 5 6 by records 0 1 2 3 4 5, a path that has
+// every place; record 6, 1 + 6 steps. Round 3 adds nothing. The start's path is record 6.
+const SIX: [u8; 158] = [
+    1,
+    3,
+    3,
+    1,
+    3,
+    3,
+    1,
+    3,
+    3,
+    1,
+    3,
+    3,
+    2,
+    15,
+    2,
+    1,
+    2,
+    2,
+    2,
+    4,
+    2,
+    8,
+    2,
+    3,
+    2,
+    12,
+    3,
+    0,
+    0,
+    0,
+    0,
+    0,
+    0,
+    0,
+    0,
+    0,
+    6,
+    1,
+    2,
+    3,
+    4,
+    5,
+    6,
+    3,
+    1,
+    0,
+    255,
+    255,
+    255,
+    1,
+    255,
+    255,
+    255,
+    0,
+    255,
+    255,
+    255,
+    255,
+    255,
+    255,
+    3,
+    2,
+    255,
+    0,
+    255,
+    255,
+    255,
+    1,
+    255,
+    255,
+    0,
+    255,
+    255,
+    255,
+    255,
+    255,
+    255,
+    3,
+    3,
+    255,
+    255,
+    0,
+    255,
+    255,
+    255,
+    1,
+    255,
+    0,
+    255,
+    255,
+    255,
+    255,
+    255,
+    255,
+    3,
+    4,
+    255,
+    255,
+    255,
+    0,
+    255,
+    255,
+    255,
+    1,
+    0,
+    255,
+    255,
+    255,
+    255,
+    255,
+    255,
+    3,
+    5,
+    1,
+    1,
+    255,
+    255,
+    2,
+    2,
+    255,
+    255,
+    0,
+    255,
+    255,
+    255,
+    255,
+    255,
+    255,
+    3,
+    6,
+    255,
+    255,
+    1,
+    1,
+    255,
+    255,
+    2,
+    2,
+    0,
+    255,
+    255,
+    255,
+    255,
+    255,
+    255,
+    5,
+    2,
+    2,
+    2,
+    2,
+    6,
+    0,
+    0,
+    0,
+    0,
     7,
     0,
     8,
@@ -393,19 +596,19 @@ fn print_words(bytes: &[u8]) {
 
 // Task and groups; round, rule and path; steps.
 fn print_record(bytes: &[u8])
-    requires { ⌜ length (now bytes) ≡ 24 ⌝ }
+    requires { ⌜ length (now bytes) ≡ 28 ⌝ }
 {
     print_head();
     print_bytes(&bytes[0..9]);
-    print_words(&bytes[9..21]);
-    print_three(bytes[21], bytes[22], bytes[23]);
+    print_words(&bytes[9..25]);
+    print_three(bytes[25], bytes[26], bytes[27]);
     print_end();
 }
 
 fn print_record_at(log: &[u8], i: usize) {
-    if i < log.len() / 24 {
-        let at = 24 * i;
-        print_record(&log[at..at + 24]);
+    if i < log.len() / RECORD {
+        let at = RECORD * i;
+        print_record(&log[at..at + RECORD]);
     }
 }
 
@@ -437,7 +640,7 @@ fn print_refused(number: u8) {
     print_end();
 }
 
-// Each of the three tables is reachable.
+// Each of the four tables is reachable.
 fn print_answered(answered: Answered, log: &[u8]) {
     match answered {
         Answered::Reachable {
@@ -460,10 +663,10 @@ fn print_answered(answered: Answered, log: &[u8]) {
     }
 }
 
-// With a log of 10 records and the scratch for it, both used before.
+// With a log and a scratch that are used before.
 fn show(table: &[u8]) {
-    let mut log = [7u8; 240];
-    let mut scratch = [7u8; 34060];
+    let mut log = [7u8; LOG];
+    let mut scratch = [7u8; SCRATCH];
     let answered = answer(table, &mut log, &mut scratch);
     print_answered(answered, &log);
 }
@@ -475,4 +678,6 @@ fn main() {
     show(&DOUBLING);
     io::write_all(1, b"reasons\n");
     show(&REASONS);
+    io::write_all(1, b"six written tasks\n");
+    show(&SIX);
 }

@@ -1,10 +1,11 @@
 -- The unfolding as a machine with a stack: what each step emits, and how high the stack grows.
 use mathlib.Core.Path.{_≡_}
 use mathlib.Core.List.{List, [], _++_, _∷_}
-use Prim.Native.Nat.{_*_, _+_, _<_, _≤_, ℕ}
+use Prim.Native.Nat.{_*_, _+_, _-_, _<_, _≤_, ℕ}
 use native.Mathlib.Omega.{arith}
 use lib.ListN.{length, length-append}
 use Rattle.model.specs.Lists.{Each}
+use Rattle.model.specs.Tables.{writtenPlaces}
 use Rattle.model.specs.Log.{Record, recordAt}
 use Rattle.model.specs.Unfolding.{emitted, replaced, skipped}
 use Rattle.model.proofs.Emission.{Earlier, emitted-unfolds, unfolds-unique}
@@ -27,25 +28,29 @@ module _ (log : List Record) (earlier : Earlier log) where
       unfolds-unique (replaced z (emitted-unfolds log earlier (recordAt log n .path ++ ns) (each-append (λ (m : ℕ). m < length log) (recordAt log n .path) ns (path-inside n (e .0) z) (e .1))))
       (emitted log (n ∷ ns)) (emitted-unfolds log earlier (n ∷ ns) e)
 
--- what stands on record x is at most p + 3 (N - 1 - x) high, itself counted; p is the height of the first path and N the number of records
+-- a record that gives way to its path makes the stack higher by so much at most
+abbrev pub growth : ℕ
+growth = writtenPlaces - 1
+
+-- what stands on record x is at most p + growth (N - 1 - x) high, itself counted; p is the height of the first path and N the number of records
 abbrev pub Low : ℕ → ℕ → List ℕ → Type 0
 Low p N [] = Unit {0}
-Low p N (x ∷ xs) = (length (x ∷ xs) + (3 * x + 3) ≤ p + 3 * N) × Low p N xs
+Low p N (x ∷ xs) = (length (x ∷ xs) + (growth * x + growth) ≤ p + growth * N) × Low p N xs
 
 pub low-start : (p N : ℕ) (ns : List ℕ) → length ns ≤ p → Each (λ (n : ℕ). n < N) ns → Low p N ns
 low-start p N [] h e = tt
 low-start p N (n ∷ ns) h e = (let l : n < N = e .0 in omega arith, low-start p N ns (omega arith) (e .1))
 
-low-push : (p N n : ℕ) (ps ns : List ℕ) → length ps + length ns + (3 * n) ≤ p + 3 * N → Each (λ (m : ℕ). m < n) ps → Low p N ns → Low p N (ps ++ ns)
+low-push : (p N n : ℕ) (ps ns : List ℕ) → length ps + length ns + growth * n ≤ p + growth * N → Each (λ (m : ℕ). m < n) ps → Low p N ns → Low p N (ps ++ ns)
 low-push p N n [] ns h e l = l
 low-push p N n (x ∷ ps) ns h e l =
     (let b : x < n = e .0 in omega (arith, length-append ps ns), low-push p N n ps ns (omega arith) (e .1) l)
 
 -- a step of the unfolding keeps it so, where a path has at most four places
-pub low-replace : (p N n : ℕ) (ps ns : List ℕ) → length ps ≤ 4 → Each (λ (m : ℕ). m < n) ps → Low p N (n ∷ ns) → Low p N (ps ++ ns)
+pub low-replace : (p N n : ℕ) (ps ns : List ℕ) → length ps ≤ writtenPlaces → Each (λ (m : ℕ). m < n) ps → Low p N (n ∷ ns) → Low p N (ps ++ ns)
 low-replace p N n ps ns h e l = low-push p N n ps ns (omega (arith, l .0)) e (l .1)
 
 -- so the stack is never higher than p + 3 N
-pub low-height : (p N : ℕ) (ns : List ℕ) → Low p N ns → length ns ≤ p + 3 * N
+pub low-height : (p N : ℕ) (ns : List ℕ) → Low p N ns → length ns ≤ p + growth * N
 low-height p N [] l = omega arith
 low-height p N (n ∷ ns) l = omega (arith, l .0)

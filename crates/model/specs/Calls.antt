@@ -22,9 +22,12 @@ use Rattle.model.specs.Records.{recordLength, logBytes}
 abbrev pub capacity : ℕ → ℕ
 capacity logLength = min (logLength / recordLength) 65535
 
--- what check 15 asks of the scratch: of answer and run, for n records and for a log of this length, and of a walk
+-- what check 15 asks of the scratch: of answer and run, for n records (request 2.4) and for a log of this length, and of a walk
+abbrev pub scratchPerRecord : ℕ
+scratchPerRecord = 10
+
 abbrev pub scratchFor : ℕ → ℕ
-scratchFor n = 34000 + 6 * n
+scratchFor n = 34000 + scratchPerRecord * n
 
 abbrev pub scratchNeeded : ℕ → ℕ
 scratchNeeded logLength = scratchFor (capacity logLength)

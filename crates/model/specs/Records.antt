@@ -1,5 +1,5 @@
--- Document 01: a record has 24 bytes, little-endian: task 1, before 4, after 4, round 2, rule 2, path 4 times 2, steps 3. How records are
--- written, and how their fields are read from the log's bytes.
+-- Document 01: a record's bytes, little-endian: task 1, before 4, after 4, round 2, rule 2, path 2 for each place, steps 3; with the six places of
+-- request 2.4 they are 28. How records are written, and how their fields are read from the log's bytes.
 use mathlib.Core.List.{List, [], _∷_, _++_}
 use Prim.Native.Nat.{ℕ, zero, suc, _+_, _*_, _/_, _%_}
 use lib.ListN.{getD}

@@ -1,4 +1,4 @@
--- Document 01, "Small tables": the starred ones, as one table of calls and what they give, with one theorem; rows of requests 2.1 and 2.2.
+-- Document 01, "Small tables": the starred ones, as one table of calls and what they give, with one theorem; rows of requests 2.1, 2.2 and 2.4.
 use mathlib.Core.Path.{_≡_, refl}
 use mathlib.Core.List.{List, [], _∷_, _++_, map}
 use Prim.Native.Nat.{ℕ}
@@ -60,11 +60,11 @@ head-T = 1 ∷ 2 ∷ 2 ∷ 1 ∷ 2 ∷ 2 ∷ 2 ∷ 3 ∷ 2 ∷ 1 ∷ 2 ∷ 2 ∷
 -- rule 0: task 0, (0,0) to (0,0), writes 1 2; rule 1: task 1, 0 to 1, writes none; rule 2: task 2, the same
 abbrev pub rules01-T : List ℕ
 rules01-T =
-    3 ∷ 0 ∷ 0 ∷ 0 ∷ 255 ∷ 255 ∷ 0 ∷ 0 ∷ 255 ∷ 255 ∷ 2 ∷ 1 ∷ 2 ∷ 255 ∷ 255
-    ∷ 3 ∷ 1 ∷ 0 ∷ 255 ∷ 255 ∷ 255 ∷ 1 ∷ 255 ∷ 255 ∷ 255 ∷ 0 ∷ 255 ∷ 255 ∷ 255 ∷ 255 ∷ []
+    3 ∷ 0 ∷ 0 ∷ 0 ∷ 255 ∷ 255 ∷ 0 ∷ 0 ∷ 255 ∷ 255 ∷ 2 ∷ 1 ∷ 2 ∷ 255 ∷ 255 ∷ 255 ∷ 255
+    ∷ 3 ∷ 1 ∷ 0 ∷ 255 ∷ 255 ∷ 255 ∷ 1 ∷ 255 ∷ 255 ∷ 255 ∷ 0 ∷ 255 ∷ 255 ∷ 255 ∷ 255 ∷ 255 ∷ 255 ∷ []
 
 abbrev pub rule2-T : List ℕ
-rule2-T = 3 ∷ 2 ∷ 255 ∷ 0 ∷ 255 ∷ 255 ∷ 255 ∷ 1 ∷ 255 ∷ 255 ∷ 0 ∷ 255 ∷ 255 ∷ 255 ∷ 255 ∷ []
+rule2-T = 3 ∷ 2 ∷ 255 ∷ 0 ∷ 255 ∷ 255 ∷ 255 ∷ 1 ∷ 255 ∷ 255 ∷ 0 ∷ 255 ∷ 255 ∷ 255 ∷ 255 ∷ 255 ∷ 255 ∷ []
 
 -- accepting (1,1); start (0,0), pile 0
 abbrev pub accepting-T : List ℕ
@@ -80,7 +80,7 @@ table-T = head-T ++ rules01-T ++ rule2-T ++ accepting-T ++ start-T
 abbrev pub re-entry : List ℕ
 re-entry =
     1 ∷ 2 ∷ 2 ∷ 2 ∷ 1 ∷ 2 ∷ 1
-    ∷ 3 ∷ 1 ∷ 1 ∷ 255 ∷ 255 ∷ 255 ∷ 1 ∷ 255 ∷ 255 ∷ 255 ∷ 0 ∷ 255 ∷ 255 ∷ 255 ∷ 255
+    ∷ 3 ∷ 1 ∷ 1 ∷ 255 ∷ 255 ∷ 255 ∷ 1 ∷ 255 ∷ 255 ∷ 255 ∷ 0 ∷ 255 ∷ 255 ∷ 255 ∷ 255 ∷ 255 ∷ 255
     ∷ 4 ∷ 0 ∷ 0 ∷ 255 ∷ 255 ∷ 255 ∷ 1 ∷ 255 ∷ 255 ∷ 255
     ∷ 5 ∷ 1 ∷ 255 ∷ 255 ∷ 255 ∷ 6 ∷ 0 ∷ 255 ∷ 255 ∷ 255 ∷ 7 ∷ 0 ∷ 7 ∷ 1 ∷ 8 ∷ []
 
@@ -88,19 +88,36 @@ re-entry =
 abbrev pub doubling : List ℕ
 doubling =
     1 ∷ 1 ∷ 1 ∷ 2 ∷ 1 ∷ 2 ∷ 1 ∷ 2 ∷ 1
-    ∷ 3 ∷ 0 ∷ 0 ∷ 255 ∷ 255 ∷ 255 ∷ 0 ∷ 255 ∷ 255 ∷ 255 ∷ 2 ∷ 1 ∷ 1 ∷ 255 ∷ 255
-    ∷ 3 ∷ 1 ∷ 0 ∷ 255 ∷ 255 ∷ 255 ∷ 0 ∷ 255 ∷ 255 ∷ 255 ∷ 2 ∷ 2 ∷ 2 ∷ 255 ∷ 255
-    ∷ 3 ∷ 2 ∷ 0 ∷ 255 ∷ 255 ∷ 255 ∷ 0 ∷ 255 ∷ 255 ∷ 255 ∷ 0 ∷ 255 ∷ 255 ∷ 255 ∷ 255
+    ∷ 3 ∷ 0 ∷ 0 ∷ 255 ∷ 255 ∷ 255 ∷ 0 ∷ 255 ∷ 255 ∷ 255 ∷ 2 ∷ 1 ∷ 1 ∷ 255 ∷ 255 ∷ 255 ∷ 255
+    ∷ 3 ∷ 1 ∷ 0 ∷ 255 ∷ 255 ∷ 255 ∷ 0 ∷ 255 ∷ 255 ∷ 255 ∷ 2 ∷ 2 ∷ 2 ∷ 255 ∷ 255 ∷ 255 ∷ 255
+    ∷ 3 ∷ 2 ∷ 0 ∷ 255 ∷ 255 ∷ 255 ∷ 0 ∷ 255 ∷ 255 ∷ 255 ∷ 0 ∷ 255 ∷ 255 ∷ 255 ∷ 255 ∷ 255 ∷ 255
     ∷ 5 ∷ 0 ∷ 255 ∷ 255 ∷ 255 ∷ 6 ∷ 0 ∷ 255 ∷ 255 ∷ 255 ∷ 7 ∷ 0 ∷ 8 ∷ []
+
+-- one station, one state, tasks 0 and 1; rule 0: task 0, `count` written tasks in six places; rule 1: task 1, writes none; state 0 accepting, pile 0
+abbrev pub roast : (count : ℕ) → List ℕ
+roast count =
+    1 ∷ 1 ∷ 1 ∷ 2 ∷ 1 ∷ 2 ∷ 1
+    ∷ 3 ∷ 0 ∷ 0 ∷ 255 ∷ 255 ∷ 255 ∷ 0 ∷ 255 ∷ 255 ∷ 255 ∷ count ∷ 1 ∷ 1 ∷ 1 ∷ 1 ∷ 1 ∷ 1
+    ∷ 3 ∷ 1 ∷ 0 ∷ 255 ∷ 255 ∷ 255 ∷ 0 ∷ 255 ∷ 255 ∷ 255 ∷ 0 ∷ 255 ∷ 255 ∷ 255 ∷ 255 ∷ 255 ∷ 255
+    ∷ 5 ∷ 0 ∷ 255 ∷ 255 ∷ 255 ∷ 6 ∷ 0 ∷ 255 ∷ 255 ∷ 255 ∷ 7 ∷ 0 ∷ 8 ∷ []
+
+-- table T as document 01 has it, with four places in a rule
+abbrev pub short-bodies-T : List ℕ
+short-bodies-T =
+    head-T
+    ++ (3 ∷ 0 ∷ 0 ∷ 0 ∷ 255 ∷ 255 ∷ 0 ∷ 0 ∷ 255 ∷ 255 ∷ 2 ∷ 1 ∷ 2 ∷ 255 ∷ 255
+    ∷ 3 ∷ 1 ∷ 0 ∷ 255 ∷ 255 ∷ 255 ∷ 1 ∷ 255 ∷ 255 ∷ 255 ∷ 0 ∷ 255 ∷ 255 ∷ 255 ∷ 255
+    ∷ 3 ∷ 2 ∷ 255 ∷ 0 ∷ 255 ∷ 255 ∷ 255 ∷ 1 ∷ 255 ∷ 255 ∷ 0 ∷ 255 ∷ 255 ∷ 255 ∷ 255 ∷ [])
+    ++ accepting-T ++ start-T
 
 -- one station, one state, tasks 0 to 2, rules 0 and 1 on task 0 write 1 and 2, rules 2 and 3 take these away, state 0 accepting, pile 0
 abbrev pub choice : List ℕ
 choice =
     1 ∷ 1 ∷ 1 ∷ 2 ∷ 1 ∷ 2 ∷ 1 ∷ 2 ∷ 1
-    ∷ 3 ∷ 0 ∷ 0 ∷ 255 ∷ 255 ∷ 255 ∷ 0 ∷ 255 ∷ 255 ∷ 255 ∷ 1 ∷ 1 ∷ 255 ∷ 255 ∷ 255
-    ∷ 3 ∷ 0 ∷ 0 ∷ 255 ∷ 255 ∷ 255 ∷ 0 ∷ 255 ∷ 255 ∷ 255 ∷ 1 ∷ 2 ∷ 255 ∷ 255 ∷ 255
-    ∷ 3 ∷ 1 ∷ 0 ∷ 255 ∷ 255 ∷ 255 ∷ 0 ∷ 255 ∷ 255 ∷ 255 ∷ 0 ∷ 255 ∷ 255 ∷ 255 ∷ 255
-    ∷ 3 ∷ 2 ∷ 0 ∷ 255 ∷ 255 ∷ 255 ∷ 0 ∷ 255 ∷ 255 ∷ 255 ∷ 0 ∷ 255 ∷ 255 ∷ 255 ∷ 255
+    ∷ 3 ∷ 0 ∷ 0 ∷ 255 ∷ 255 ∷ 255 ∷ 0 ∷ 255 ∷ 255 ∷ 255 ∷ 1 ∷ 1 ∷ 255 ∷ 255 ∷ 255 ∷ 255 ∷ 255
+    ∷ 3 ∷ 0 ∷ 0 ∷ 255 ∷ 255 ∷ 255 ∷ 0 ∷ 255 ∷ 255 ∷ 255 ∷ 1 ∷ 2 ∷ 255 ∷ 255 ∷ 255 ∷ 255 ∷ 255
+    ∷ 3 ∷ 1 ∷ 0 ∷ 255 ∷ 255 ∷ 255 ∷ 0 ∷ 255 ∷ 255 ∷ 255 ∷ 0 ∷ 255 ∷ 255 ∷ 255 ∷ 255 ∷ 255 ∷ 255
+    ∷ 3 ∷ 2 ∷ 0 ∷ 255 ∷ 255 ∷ 255 ∷ 0 ∷ 255 ∷ 255 ∷ 255 ∷ 0 ∷ 255 ∷ 255 ∷ 255 ∷ 255 ∷ 255 ∷ 255
     ∷ 5 ∷ 0 ∷ 255 ∷ 255 ∷ 255 ∷ 6 ∷ 0 ∷ 255 ∷ 255 ∷ 255 ∷ 7 ∷ 0 ∷ 8 ∷ []
 
 -- two stations, q = 2 and 1, s = 2; tasks 0 {0}, 1 {1}; rule: task 0, 0 to 1, writes none; watch: task 1, 0 to 1 and 1 to 1; accepting (1,1); start (0,0),
@@ -108,7 +125,7 @@ choice =
 abbrev pub idle-station : List ℕ
 idle-station =
     1 ∷ 2 ∷ 2 ∷ 1 ∷ 1 ∷ 2 ∷ 2 ∷ 1 ∷ 2 ∷ 2
-    ∷ 3 ∷ 0 ∷ 0 ∷ 255 ∷ 255 ∷ 255 ∷ 1 ∷ 255 ∷ 255 ∷ 255 ∷ 0 ∷ 255 ∷ 255 ∷ 255 ∷ 255
+    ∷ 3 ∷ 0 ∷ 0 ∷ 255 ∷ 255 ∷ 255 ∷ 1 ∷ 255 ∷ 255 ∷ 255 ∷ 0 ∷ 255 ∷ 255 ∷ 255 ∷ 255 ∷ 255 ∷ 255
     ∷ 4 ∷ 1 ∷ 255 ∷ 0 ∷ 255 ∷ 255 ∷ 255 ∷ 1 ∷ 255 ∷ 255 ∷ 4 ∷ 1 ∷ 255 ∷ 1 ∷ 255 ∷ 255 ∷ 255 ∷ 1 ∷ 255 ∷ 255
     ∷ 5 ∷ 1 ∷ 1 ∷ 255 ∷ 255 ∷ 6 ∷ 0 ∷ 0 ∷ 255 ∷ 255 ∷ 7 ∷ 0 ∷ 7 ∷ 1 ∷ 7 ∷ 1 ∷ 7 ∷ 1 ∷ 8 ∷ []
 
@@ -120,48 +137,60 @@ pub record Example : Type 0 where
 abbrev pub starred : List Example
 starred =
     -- T: reachable, transitions 3, rounds 2, steps 3; with peak 1 and the run 0 1 2
-    record { call = asks table-T 72 34018; result = (0 ∷ 0 ∷ 1 ∷ 3 ∷ 2 ∷ 3 ∷ []) ∷ [] }
-    ∷ record { call = runs table-T 72 34018 5; result = (0 ∷ 0 ∷ 1 ∷ 3 ∷ 2 ∷ 3 ∷ 1 ∷ []) ∷ (0 ∷ 1 ∷ 2 ∷ 0 ∷ 0 ∷ []) ∷ [] }
-    -- its log of 75 bytes: task 1 from 0 to 1 by rule 1 and task 2 alike by rule 2, both in round 1 with no path; task 0 in round 2 by rule 0 over these
+    record { call = asks table-T 84 34030; result = (0 ∷ 0 ∷ 1 ∷ 3 ∷ 2 ∷ 3 ∷ []) ∷ [] }
+    ∷ record { call = runs table-T 84 34030 5; result = (0 ∷ 0 ∷ 1 ∷ 3 ∷ 2 ∷ 3 ∷ 1 ∷ []) ∷ (0 ∷ 1 ∷ 2 ∷ 0 ∷ 0 ∷ []) ∷ [] }
+    -- its log of 87 bytes: task 1 from 0 to 1 by rule 1 and task 2 alike by rule 2, both in round 1 with no path; task 0 in round 2 by rule 0 over these
     ∷ record {
-      call = logs table-T 75 34018;
+      call = logs table-T 87 34030;
       result = (0 ∷ 0 ∷ 1 ∷ 3 ∷ 2 ∷ 3 ∷ [])
-          ∷ (1 ∷ 0 ∷ 255 ∷ 255 ∷ 255 ∷ 1 ∷ 255 ∷ 255 ∷ 255 ∷ 1 ∷ 0 ∷ 1 ∷ 0 ∷ 255 ∷ 255 ∷ 255 ∷ 255 ∷ 255 ∷ 255 ∷ 255 ∷ 255 ∷ 1 ∷ 0 ∷ 0
-          ∷ 2 ∷ 255 ∷ 0 ∷ 255 ∷ 255 ∷ 255 ∷ 1 ∷ 255 ∷ 255 ∷ 1 ∷ 0 ∷ 2 ∷ 0 ∷ 255 ∷ 255 ∷ 255 ∷ 255 ∷ 255 ∷ 255 ∷ 255 ∷ 255 ∷ 1 ∷ 0 ∷ 0
-          ∷ 0 ∷ 0 ∷ 0 ∷ 255 ∷ 255 ∷ 1 ∷ 1 ∷ 255 ∷ 255 ∷ 2 ∷ 0 ∷ 0 ∷ 0 ∷ 0 ∷ 0 ∷ 1 ∷ 0 ∷ 255 ∷ 255 ∷ 255 ∷ 255 ∷ 3 ∷ 0 ∷ 0
+          ∷ (1 ∷ 0 ∷ 255 ∷ 255 ∷ 255 ∷ 1 ∷ 255 ∷ 255 ∷ 255 ∷ 1 ∷ 0 ∷ 1 ∷ 0 ∷ 255 ∷ 255 ∷ 255 ∷ 255 ∷ 255 ∷ 255 ∷ 255 ∷ 255 ∷ 255 ∷ 255 ∷ 255 ∷ 255 ∷ 1 ∷ 0 ∷ 0
+          ∷ 2 ∷ 255 ∷ 0 ∷ 255 ∷ 255 ∷ 255 ∷ 1 ∷ 255 ∷ 255 ∷ 1 ∷ 0 ∷ 2 ∷ 0 ∷ 255 ∷ 255 ∷ 255 ∷ 255 ∷ 255 ∷ 255 ∷ 255 ∷ 255 ∷ 255 ∷ 255 ∷ 255 ∷ 255 ∷ 1 ∷ 0 ∷ 0
+          ∷ 0 ∷ 0 ∷ 0 ∷ 255 ∷ 255 ∷ 1 ∷ 1 ∷ 255 ∷ 255 ∷ 2 ∷ 0 ∷ 0 ∷ 0 ∷ 0 ∷ 0 ∷ 1 ∷ 0 ∷ 255 ∷ 255 ∷ 255 ∷ 255 ∷ 255 ∷ 255 ∷ 255 ∷ 255 ∷ 3 ∷ 0 ∷ 0
           ∷ 0 ∷ 0 ∷ 0 ∷ [])
           ∷ [];
     }
     -- T without rule 2: unreachable, 1, 1
-    ∷ record { call = asks (head-T ++ rules01-T ++ accepting-T ++ start-T) 72 34018; result = (0 ∷ 0 ∷ 0 ∷ 1 ∷ 1 ∷ 0 ∷ []) ∷ [] }
+    ∷ record { call = asks (head-T ++ rules01-T ++ accepting-T ++ start-T) 84 34030; result = (0 ∷ 0 ∷ 0 ∷ 1 ∷ 1 ∷ 0 ∷ []) ∷ [] }
     -- T without its accepting item: unreachable
-    ∷ record { call = asks (head-T ++ rules01-T ++ rule2-T ++ start-T) 72 34018; result = (0 ∷ 0 ∷ 0 ∷ 3 ∷ 2 ∷ 0 ∷ []) ∷ [] }
+    ∷ record { call = asks (head-T ++ rules01-T ++ rule2-T ++ start-T) 84 34030; result = (0 ∷ 0 ∷ 0 ∷ 3 ∷ 2 ∷ 0 ∷ []) ∷ [] }
     -- T with start (1,1) and no pile: steps 0, transitions 3, peak 0, and an empty run
     ∷ record {
-      call = runs (head-T ++ rules01-T ++ rule2-T ++ accepting-T ++ (6 ∷ 1 ∷ 1 ∷ 255 ∷ 255 ∷ 8 ∷ [])) 72 34018 2;
+      call = runs (head-T ++ rules01-T ++ rule2-T ++ accepting-T ++ (6 ∷ 1 ∷ 1 ∷ 255 ∷ 255 ∷ 8 ∷ [])) 84 34030 2;
       result = (0 ∷ 0 ∷ 1 ∷ 3 ∷ 2 ∷ 0 ∷ 0 ∷ []) ∷ (0 ∷ 0 ∷ []) ∷ [];
     }
-    -- T, log of 71 bytes: refusal 10
-    ∷ record { call = asks table-T 71 34018; result = (10 ∷ 0 ∷ 0 ∷ 0 ∷ 0 ∷ 0 ∷ []) ∷ [] }
+    -- T, log of 83 bytes: refusal 10
+    ∷ record { call = asks table-T 83 34030; result = (10 ∷ 0 ∷ 0 ∷ 0 ∷ 0 ∷ 0 ∷ []) ∷ [] }
     -- the empty file: 1 at 0
-    ∷ record { call = asks [] 72 34018; result = (1 ∷ 0 ∷ 0 ∷ 0 ∷ 0 ∷ 0 ∷ []) ∷ [] }
+    ∷ record { call = asks [] 84 34030; result = (1 ∷ 0 ∷ 0 ∷ 0 ∷ 0 ∷ 0 ∷ []) ∷ [] }
     -- T, walk 0 2 1: (1,1), empty, watched
     ∷ record { call = walks table-T (0 ∷ 2 ∷ 1 ∷ []) 3 2048; result = (0 ∷ 0 ∷ 1 ∷ 0 ∷ 1 ∷ 1 ∷ 255 ∷ 255 ∷ []) ∷ [] ∷ (0 ∷ 0 ∷ 0 ∷ []) ∷ [] }
     -- T, walk 1: 12 at 0
     ∷ record { call = walks table-T (1 ∷ []) 3 2048; result = (12 ∷ 0 ∷ 0 ∷ 0 ∷ 0 ∷ 0 ∷ 0 ∷ 0 ∷ []) ∷ (1 ∷ []) ∷ (0 ∷ 0 ∷ 0 ∷ []) ∷ [] }
     -- re-entry: 7 at the watch transition
-    ∷ record { call = asks re-entry 72 34018; result = (7 ∷ 22 ∷ 0 ∷ 0 ∷ 0 ∷ 0 ∷ []) ∷ [] }
+    ∷ record { call = asks re-entry 84 34030; result = (7 ∷ 24 ∷ 0 ∷ 0 ∷ 0 ∷ 0 ∷ []) ∷ [] }
     -- doubling: run 0 1 2 2 1 2 2, peak 3
-    ∷ record { call = runs doubling 72 34018 7; result = (0 ∷ 0 ∷ 1 ∷ 3 ∷ 3 ∷ 7 ∷ 3 ∷ []) ∷ (0 ∷ 1 ∷ 2 ∷ 2 ∷ 1 ∷ 2 ∷ 2 ∷ []) ∷ [] }
+    ∷ record { call = runs doubling 84 34030 7; result = (0 ∷ 0 ∷ 1 ∷ 3 ∷ 3 ∷ 7 ∷ 3 ∷ []) ∷ (0 ∷ 1 ∷ 2 ∷ 2 ∷ 1 ∷ 2 ∷ 2 ∷ []) ∷ [] }
     -- beside the starred ones: the order 2, 3, 4, 1 of the checks of an item; 16 and 11 of a run; the lowest of two rules as the reason
-    ∷ record { call = asks (9 ∷ []) 72 34018; result = (2 ∷ 0 ∷ 0 ∷ 0 ∷ 0 ∷ 0 ∷ []) ∷ [] }
-    ∷ record { call = asks (2 ∷ []) 72 34018; result = (3 ∷ 0 ∷ 0 ∷ 0 ∷ 0 ∷ 0 ∷ []) ∷ [] }
-    ∷ record { call = asks (1 ∷ 1 ∷ 1 ∷ 1 ∷ 1 ∷ 1 ∷ 1 ∷ 1 ∷ 1 ∷ 1 ∷ 1 ∷ 1 ∷ 1 ∷ []) 72 34018; result = (4 ∷ 12 ∷ 0 ∷ 0 ∷ 0 ∷ 0 ∷ []) ∷ [] }
-    ∷ record { call = runs (head-T ++ rules01-T ++ accepting-T ++ start-T) 72 34018 2; result = (16 ∷ 0 ∷ 0 ∷ 0 ∷ 0 ∷ 0 ∷ 0 ∷ []) ∷ (7 ∷ 7 ∷ []) ∷ [] }
-    ∷ record { call = runs table-T 72 34018 2; result = (11 ∷ 0 ∷ 0 ∷ 0 ∷ 0 ∷ 0 ∷ 0 ∷ []) ∷ (7 ∷ 7 ∷ []) ∷ [] }
-    ∷ record { call = runs choice 72 34018 2; result = (0 ∷ 0 ∷ 1 ∷ 3 ∷ 2 ∷ 2 ∷ 1 ∷ []) ∷ (0 ∷ 2 ∷ []) ∷ [] }
+    ∷ record { call = asks (9 ∷ []) 84 34030; result = (2 ∷ 0 ∷ 0 ∷ 0 ∷ 0 ∷ 0 ∷ []) ∷ [] }
+    ∷ record { call = asks (2 ∷ []) 84 34030; result = (3 ∷ 0 ∷ 0 ∷ 0 ∷ 0 ∷ 0 ∷ []) ∷ [] }
+    ∷ record { call = asks (1 ∷ 1 ∷ 1 ∷ 1 ∷ 1 ∷ 1 ∷ 1 ∷ 1 ∷ 1 ∷ 1 ∷ 1 ∷ 1 ∷ 1 ∷ []) 84 34030; result = (4 ∷ 12 ∷ 0 ∷ 0 ∷ 0 ∷ 0 ∷ []) ∷ [] }
+    ∷ record { call = runs (head-T ++ rules01-T ++ accepting-T ++ start-T) 84 34030 2; result = (16 ∷ 0 ∷ 0 ∷ 0 ∷ 0 ∷ 0 ∷ 0 ∷ []) ∷ (7 ∷ 7 ∷ []) ∷ [] }
+    ∷ record { call = runs table-T 84 34030 2; result = (11 ∷ 0 ∷ 0 ∷ 0 ∷ 0 ∷ 0 ∷ 0 ∷ []) ∷ (7 ∷ 7 ∷ []) ∷ [] }
+    ∷ record { call = runs choice 84 34030 2; result = (0 ∷ 0 ∷ 1 ∷ 3 ∷ 2 ∷ 2 ∷ 1 ∷ []) ∷ (0 ∷ 2 ∷ []) ∷ [] }
     -- request 2.2: the peak is that of the station that has no part in the run
-    ∷ record { call = runs idle-station 72 34018 1; result = (0 ∷ 0 ∷ 1 ∷ 3 ∷ 1 ∷ 1 ∷ 3 ∷ []) ∷ (0 ∷ []) ∷ [] }
+    ∷ record { call = runs idle-station 84 34030 1; result = (0 ∷ 0 ∷ 1 ∷ 3 ∷ 1 ∷ 1 ∷ 3 ∷ []) ∷ (0 ∷ []) ∷ [] }
+    -- request 2.4: six written tasks, whose record has six path places; a count of 7: 5; a body in the old length is read by the new layout only
+    ∷ record {
+      call = logs (roast 6) 56 34020;
+      result = (0 ∷ 0 ∷ 1 ∷ 2 ∷ 2 ∷ 7 ∷ [])
+          ∷ (1 ∷ 0 ∷ 255 ∷ 255 ∷ 255 ∷ 0 ∷ 255 ∷ 255 ∷ 255 ∷ 1 ∷ 0 ∷ 1 ∷ 0 ∷ 255 ∷ 255 ∷ 255 ∷ 255 ∷ 255 ∷ 255 ∷ 255 ∷ 255 ∷ 255 ∷ 255 ∷ 255 ∷ 255 ∷ 1 ∷ 0 ∷ 0
+          ∷ 0 ∷ 0 ∷ 255 ∷ 255 ∷ 255 ∷ 0 ∷ 255 ∷ 255 ∷ 255 ∷ 2 ∷ 0 ∷ 0 ∷ 0 ∷ 0 ∷ 0 ∷ 0 ∷ 0 ∷ 0 ∷ 0 ∷ 0 ∷ 0 ∷ 0 ∷ 0 ∷ 0 ∷ 0 ∷ 7 ∷ 0 ∷ 0 ∷ [])
+          ∷ [];
+    }
+    ∷ record { call = runs (roast 6) 56 34020 7; result = (0 ∷ 0 ∷ 1 ∷ 2 ∷ 2 ∷ 7 ∷ 6 ∷ []) ∷ (0 ∷ 1 ∷ 1 ∷ 1 ∷ 1 ∷ 1 ∷ 1 ∷ []) ∷ [] }
+    ∷ record { call = runs (roast 6) 56 34019 7; result = (15 ∷ 0 ∷ 0 ∷ 0 ∷ 0 ∷ 0 ∷ 0 ∷ []) ∷ (7 ∷ 7 ∷ 7 ∷ 7 ∷ 7 ∷ 7 ∷ 7 ∷ []) ∷ [] }
+    ∷ record { call = asks (roast 7) 56 34020; result = (5 ∷ 7 ∷ 0 ∷ 0 ∷ 0 ∷ 0 ∷ []) ∷ [] }
+    ∷ record { call = asks short-bodies-T 84 34030; result = (5 ∷ 12 ∷ 0 ∷ 0 ∷ 0 ∷ 0 ∷ []) ∷ [] }
     -- a desk on T: refused by 12, 13, 18 and 17; then 0 and 2 fired, each after a save, and a return to where 2 had not fired
     ∷ record {
       call = opens table-T (fires 1 ∷ fires 3 ∷ returns 8 ∷ returns 0 ∷ saves 0 ∷ fires 0 ∷ saves 1 ∷ fires 2 ∷ returns 1 ∷ fires 1 ∷ returns 1 ∷ forgets 0 ∷ returns 0 ∷ []);
@@ -174,7 +203,7 @@ starred =
           ∷ (0 ∷ 0 ∷ 0 ∷ 255 ∷ 255 ∷ 1 ∷ 2 ∷ []) ∷ (17 ∷ 0 ∷ 0 ∷ 255 ∷ 255 ∷ 1 ∷ 2 ∷ []) ∷ [];
     }
     -- and none on the re-entry table
-    ∷ record { call = opens re-entry (fires 0 ∷ []); result = (7 ∷ 22 ∷ []) ∷ [] }
+    ∷ record { call = opens re-entry (fires 0 ∷ []); result = (7 ∷ 24 ∷ []) ∷ [] }
     ∷ []
 
 -- the definitions give each result

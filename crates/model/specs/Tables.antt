@@ -1,11 +1,11 @@
 -- Document 01, "Table bytes": which bytes are a table, the refusals 1 to 9, and the system that an accepted table describes.
 use mathlib.Core.Bool.{Bool, true, false, cond, not, _&&_, _||_}
 use mathlib.Core.List.{List, [], _∷_, _++_, map}
-use Prim.Native.Nat.{ℕ, zero, suc, _+_, _^_}
+use Prim.Native.Nat.{ℕ, zero, suc, _+_, _*_, _^_}
 use lib.Dec.{eqb, ltb, leb}
 use lib.ListN.{length, getD, take, drop}
 use Rattle.model.specs.declared.Group.{Group}
-use Rattle.model.specs.Lists.{allOf, anyOf}
+use Rattle.model.specs.Lists.{allOf, anyOf, sumOver}
 use Rattle.model.specs.Groups.{Process, p0, p1, p2, p3, every, at, Processes, has, processesOf}
 use Rattle.model.specs.Automata.{Transition}
 use Rattle.model.specs.Systems.{Rule, System}
@@ -16,9 +16,9 @@ pub record Item : Type 0 where
   pub kind : ℕ
   pub body : List ℕ
 
--- the places for written letters in a rule
+-- request 2.4: the places for written letters in a rule
 abbrev pub writtenPlaces : ℕ
-writtenPlaces = 4
+writtenPlaces = 6
 
 abbrev pub bodyLength : ℕ → ℕ
 bodyLength k = getD (0 ∷ 2 ∷ 1 ∷ (10 + writtenPlaces) ∷ 9 ∷ 4 ∷ 4 ∷ 1 ∷ 0 ∷ []) k 0
@@ -26,6 +26,13 @@ bodyLength k = getD (0 ∷ 2 ∷ 1 ∷ (10 + writtenPlaces) ∷ 9 ∷ 4 ∷ 4 �
 -- "The ceilings belong to the table"
 abbrev pub ceiling : ℕ → ℕ
 ceiling k = getD (0 ∷ 4 ∷ 32 ∷ 200 ∷ 200 ∷ 64 ∷ 1 ∷ 64 ∷ 1 ∷ []) k 0
+
+-- the bytes of so many items of each kind, without the end, and of the longest table
+abbrev pub bytesOf : (ℕ → ℕ) → ℕ
+bytesOf n = sumOver (λ k. n k * (1 + bodyLength k)) (1 ∷ 2 ∷ 3 ∷ 4 ∷ 5 ∷ 6 ∷ 7 ∷ [])
+
+abbrev pub longest : ℕ
+longest = bytesOf ceiling + 1
 
 -- the bodies of the items of one kind; numbering starts at 0 in order of appearance
 abbrev pub bodies : ℕ → List Item → List (List ℕ)
@@ -96,7 +103,7 @@ groupFits L bound g = every (λ i. cond (has L i) (ltb (at g i) (bound i)) (eqb 
 unfoldable pub transitionFits : List (List ℕ) → (Process → ℕ) → Transition → Bool
 transitionFits ls bound t = ltb (t .letter) (length ls) && groupFits (locOf ls (t .letter)) bound (t .before) && groupFits (locOf ls (t .letter)) bound (t .after)
 
--- the count is at most 4, so many places have letters of the table, and the spare ones have 255
+-- there are as many places as the count says, which have letters of the table, and the spare ones have 255
 unfoldable pub writtenFit : List (List ℕ) → ℕ → List ℕ → Bool
 writtenFit ls n places = leb n writtenPlaces && allOf (λ a. ltb a (length ls)) (take n places) && allOf (λ a. eqb a 255) (drop n places)
 

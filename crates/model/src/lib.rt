@@ -1,7 +1,7 @@
 // The types that the definitions of specs/ and the crates above share, and the one constant. There is no code here.
 
 // The places of a rule's written letters, and of a record's path.
-pub const WRITTEN_PLACES: usize = 4;
+pub const WRITTEN_PLACES: usize = 6;
 
 // Document 01: a state group. One local state for each of the four processes, 255 where a process has no part.
 #[repr(C)]

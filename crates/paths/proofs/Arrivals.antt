@@ -19,6 +19,7 @@ use Rattle.records.specs.declared.Entry.{Entry}
 use Rattle.records.specs.Entries.{HasRecord, entryBytes, recordEntry, withEntry}
 use Rattle.records.proofs.Entries.{length-with}
 use Rattle.paths.specs.Arrivals.{endNumber, hit, stored, taken}
+use Rattle.paths.specs.Jobs.{known, seenIn}
 
 -- ---- hits
 pub hit-append : (xs ys : List Candidate) (x : ℕ) → hit (xs ++ ys) x ≡ (hit xs x || hit ys x)
@@ -51,6 +52,16 @@ taken-append seen (c ∷ xs) ys = by-test (seen (endNumber c))
     (taken-same (λ x. seen x || hit xs x) (λ x. seen x || (eqb x (endNumber c) || hit xs x)) (λ x h. ap (λ (b : Bool). b || hit xs x) (seen-hit seen c y x) ∙ or-assoc (seen x) (eqb x (endNumber c)) (hit xs x)) ys)))
     (λ n. rw n (ap (λ (l : List Candidate). c ∷ l) (taken-append (λ x. seen x || eqb x (endNumber c)) xs ys ∙ ap (λ (l : List Candidate). taken (λ x. seen x || eqb x (endNumber c)) xs ++ l)
     (taken-same (λ x. (seen x || eqb x (endNumber c)) || hit xs x) (λ x. seen x || (eqb x (endNumber c) || hit xs x)) (λ x h. or-assoc (seen x) (eqb x (endNumber c)) (hit xs x)) ys))))
+
+-- what is known after candidates have arrived: their ends too
+pub taken-known : (held : ℕ → Bool) (s s′ : List ℕ) (cs : List Candidate) → ((x : ℕ) → x < stateCount → seenIn s′ x ≡ (seenIn s x || hit cs x)) → (ds : List Candidate)
+    → taken (λ x. known held s x || hit cs x) ds ≡ taken (known held s′) ds
+taken-known held s s′ cs seen ds = taken-same (λ x. known held s x || hit cs x) (known held s′) (λ x h. swap (seenIn s x) (held x) (hit cs x) ∙ ap (λ (v : Bool). v || held x) (sym (seen x h))) ds
+  where
+    swap : (a b c : Bool) → ((a || b) || c) ≡ ((a || c) || b)
+    swap true b c = refl
+    swap false true c = sym (or-true c)
+    swap false false c = sym (or-false c)
 
 -- ---- the log
 has-record : (count n size : ℕ) → count < n → n * recordLength ≤ size → count * recordLength + recordLength ≤ size

@@ -18,12 +18,12 @@ use Rattle.model.specs.Tables.{writtenPlaces}
 use Rattle.model.specs.Searches.{freshPaths}
 use Rattle.model.proofs.FreshPaths.{fresh-paths, found-paths, pathFresh}
 use Rattle.model.proofs.Lists.{each-map}
-use Rattle.model.proofs.Tests.{by-test}
+use Rattle.model.proofs.Tests.{by-test, or-left}
 use Rattle.automaton.specs.StateNumbers.{Over, stateCount, stateNumber}
 use Rattle.automaton.specs.StateSets.{inserted, member, setLength}
 use Rattle.automaton.proofs.StateNumbers.{number-injective, stateNumber-below}
 use Rattle.automaton.proofs.StateSets.{length-inserted, member-inserted}
-use Rattle.scratch.specs.Regions.{passedAt, passedBit, seenAt, seenBit}
+use Rattle.scratch.specs.Regions.{passedAt, passedBit, passedEnd, seenAt, seenBit}
 use Rattle.records.specs.declared.Entry.{Entry}
 use Rattle.records.specs.Entries.{padded, recordEntry, withEntry}
 use Rattle.packs.specs.Packs.{packNumber, restrictedBits, unpacked}
@@ -31,7 +31,8 @@ use Rattle.packs.proofs.Unpacked.{number-unpacked, restrict-below, restrict-unp
 use Rattle.paths.specs.declared.Job.{Job}
 use Rattle.paths.specs.declared.Trail.{Trail}
 use Rattle.paths.specs.Arrivals.{endNumber, stored, taken}
-use Rattle.paths.specs.Jobs.{PassedRight, isPassed, jobLoc, jobProcesses, jobWord, made, offers, seenIn, withPassed, Searchable, Searched, Standing, arrivals, endEntry, glances, storedEnd}
+use Rattle.paths.specs.Jobs.{Lookable, PassedRight, isPassed, jobLoc, jobProcesses, jobWord, made, offers, seenIn, withPassed, Searchable, Searched, Standing, arrivals, endEntry, glances, known, storedEnd, withEnd}
+use Rattle.paths.proofs.Turns.{lookable-kept}
 use Rattle.paths.proofs.Arrivals.{hit-seen, stored-length, taken-none}
 
 -- ---- one bit more
@@ -40,7 +41,7 @@ unfolding inserted
 byte-kept s n i ne = getD-set-other s (n / 8) i _ 0 ne
 
 -- an end more, where bits are set below the states passed
-module _ (s : List ℕ) (x : ℕ) (small : x < stateCount) (room : passedAt + 12 * setLength ≤ length s) where
+module _ (s : List ℕ) (x : ℕ) (small : x < stateCount) (room : passedEnd ≤ length s) where
   pub seen-more : (y : ℕ) → seenIn (inserted s (seenBit x)) y ≡ (eqb y x || seenIn s y)
   seen-more y = member-inserted s (seenBit x) (seenBit y) (omega arith) ∙ ap (λ (b : Bool). b || seenIn s y) same
     where
@@ -52,6 +53,19 @@ module _ (s : List ℕ) (x : ℕ) (small : x < stateCount) (room : passedAt + 12
 
   pub seen-passed : (level : ℕ) (found : Bool) (m : ℕ) → member (inserted s (seenBit x)) (passedBit level found m) ≡ member s (passedBit level found m)
   seen-passed level found m = member-inserted s (seenBit x) (passedBit level found m) (omega arith) ∙ ap (λ (b : Bool). b || member s (passedBit level found m)) (ne-eqb (passedBit level found m) (seenBit x) (λ e. omega arith))
+
+-- ---- an end is noted
+pub end-seen : (held : ℕ → Bool) (s : List ℕ) (x : ℕ) → seenIn s x ≡ true → (true ≡ known held s x) × (s ≡ withEnd s x)
+end-seen held s x y = (rw y refl, rw y refl)
+
+pub end-new : (held : ℕ → Bool) (s : List ℕ) (x : ℕ) {s′ : List ℕ} {r : Bool} → seenIn s x ≡ false → r ≡ held x → s′ ≡ inserted s (seenBit x) → (r ≡ known held s x) × (s′ ≡ withEnd s x)
+end-new held s x n e q = (rw n e, rw n q)
+
+-- the keys may still be looked up
+pub keys-noted : {job : Job} {log s s′ : List ℕ} (x : ℕ) → x < stateCount → Searchable job log s → s′ ≡ inserted s (seenBit x) → Lookable job log s′
+keys-noted {job} {log} {s} x small w q =
+    let room : passedEnd ≤ length s = omega (arith, w .room .room) in
+    lookable-kept job log s log _ refl (w .room .fits) refl (ap length q ∙ length-inserted s (seenBit x)) (λ i h. ap (λ (l : List ℕ). getD l i 0) q ∙ seen-bytes s x small room i (omega arith)) (w .keys)
 
 -- ---- what is passed stays right
 -- more ends seen, the same states passed
@@ -69,20 +83,20 @@ bit-other level level′ m m′ false false h k e = (omega arith, refl, omega ar
 bit-other level level′ m m′ true false h k e = absurd (omega arith)
 bit-other level level′ m m′ false true h k e = absurd (omega arith)
 
-bit-inside : (level m : ℕ) (found : Bool) → level < 6 → m < stateCount → (8 * passedAt + 8192 * level ≤ passedBit level found m) × (passedBit level found m < 8 * (passedAt + 12 * setLength))
+bit-inside : (level m : ℕ) (found : Bool) → level < writtenPlaces → m < stateCount → (8 * passedAt + 8192 * level ≤ passedBit level found m) × (passedBit level found m < 8 * passedEnd)
 bit-inside level m true l h = (omega arith, omega arith)
 bit-inside level m false l h = (omega arith, omega arith)
 
 -- what noting a state leaves
-module _ (s : List ℕ) (level : ℕ) (found : Bool) (m : ℕ) (l : level < 6) (small : m < stateCount) (room : passedAt + 12 * setLength ≤ length s) where
+module _ (s : List ℕ) (level : ℕ) (found : Bool) (m : ℕ) (l : level < writtenPlaces) (small : m < stateCount) (room : passedEnd ≤ length s) where
   pub pass-length : length (withPassed s level found m) ≡ length s
   unfolding withPassed
   pass-length = by-test (eqb level 0) (λ y. rw y refl) (λ n. rw n (length-inserted s (passedBit level found m)))
 
-  pub pass-bytes : (i : ℕ) → (i < passedAt + 2 * setLength) ⊎ (passedAt + 12 * setLength ≤ i) → getD (withPassed s level found m) i 0 ≡ getD s i 0
+  pub pass-bytes : (i : ℕ) → (i < passedAt + 2 * setLength) ⊎ (passedEnd ≤ i) → getD (withPassed s level found m) i 0 ≡ getD s i 0
   unfolding withPassed
   pass-bytes i h = by-test (eqb level 0) (λ y. rw y refl)
-      (λ n. rw n (byte-kept s (passedBit level found m) i (λ e. let high : level ≢ 0 = eqb-false level 0 n in let b = bit-inside level m found l small in ⊎-elim (λ (q : i < passedAt + 2 * setLength). omega (arith, b .0)) (λ (q : passedAt + 12 * setLength ≤ i). omega (arith, b .1)) h)))
+      (λ n. rw n (byte-kept s (passedBit level found m) i (λ e. let high : level ≢ 0 = eqb-false level 0 n in let b = bit-inside level m found l small in ⊎-elim (λ (q : i < passedAt + 2 * setLength). omega (arith, b .0)) (λ (q : passedEnd ≤ i). omega (arith, b .1)) h)))
 
   pub pass-seen : (x : ℕ) → x < stateCount → seenIn (withPassed s level found m) x ≡ seenIn s x
   unfolding withPassed
@@ -103,7 +117,7 @@ each-joined job Q pre pre′ [] e = tt
 each-joined job Q pre pre′ (p ∷ ps) e = (e .0, each-joined job Q pre pre′ ps (e .1))
 
 -- a state all of whose ends were seen may be noted
-pub passed-more : (job : Job) (log : List Record) (s : List ℕ) (level : ℕ) (found : Bool) (g : Group) (pre : List ℕ) → level < job .count → job .count ≤ 6 → passedAt + 12 * setLength ≤ length s → Over (jobProcesses job) g
+pub passed-more : (job : Job) (log : List Record) (s : List ℕ) (level : ℕ) (found : Bool) (g : Group) (pre : List ℕ) → level < job .count → job .count ≤ writtenPlaces → passedEnd ≤ length s → Over (jobProcesses job) g
     → Each (λ (c : Candidate). seenIn s (endNumber c) ≡ true) (offers job log level found g pre) → PassedRight job log s → PassedRight job log (withPassed s level found (stateNumber g))
 passed-more job log s level found g pre l few room over all right k b j h small y g′ o e =
     each-map (λ (c : Candidate). seenIn s (endNumber c) ≡ true) (λ (c : Candidate). seenIn (withPassed s level found (stateNumber g)) (endNumber c) ≡ true)
@@ -140,10 +154,11 @@ passed-seen job log s level found g pre l over right y = each-joined job (λ (x 
         (subst (λ (ps : List Path). Each (λ (c : Candidate). seenIn s (endNumber c) ≡ true) (map (λ (p : Path). made job ([] ++ p .numbers) (p .end)) ps)) (found-paths (jobLoc job) (job .lo) log (drop level (jobWord job)) g) e))
 
 -- candidates whose ends were all seen change nothing
-pub searched-nothing : (job : Job) (cs : List Candidate) (count : ℕ) (log s : List ℕ) → count ≤ job .n + 1 → Each (λ (c : Candidate). seenIn s (endNumber c) ≡ true) cs → PassedRight job (glances log (job .base)) s
-    → Searched job cs count log s count log s
-searched-nothing job cs count log s few all right =
-    let none : taken (seenIn s) cs ≡ [] = taken-none (seenIn s) cs all in
+pub searched-nothing : (job : Job) (held : ℕ → Bool) (cs : List Candidate) (count : ℕ) (log s : List ℕ) → count ≤ job .n + 1 → Each (λ (c : Candidate). seenIn s (endNumber c) ≡ true) cs → PassedRight job (glances log (job .base)) s
+    → Searched job held cs count log s count log s
+searched-nothing job held cs count log s few all right =
+    let none : taken (known held s) cs ≡ [] = taken-none (known held s) cs
+    (each-map (λ (c : Candidate). seenIn s (endNumber c) ≡ true) (λ (c : Candidate). known held s (endNumber c) ≡ true) (λ c y. ap (λ (b : Bool). b || held (endNumber c)) y) cs all) in
     record {
       counted = omega (arith, ap length none);
       written = sym (ap (λ (l : List Candidate). stored (job .n) log count (map (addedRecord (job .round) (glances log (job .base))) l)) none);
@@ -155,8 +170,8 @@ searched-nothing job cs count log s few all right =
     }
 
 -- the log keeps its length
-pub searched-log : (job : Job) (cs : List Candidate) (count : ℕ) (log s : List ℕ) (count′ : ℕ) (log′ s′ : List ℕ) → job .n * recordLength ≤ length log → Searched job cs count log s count′ log′ s′ → length log′ ≡ length log
-searched-log job cs count log s count′ log′ s′ holds d = ap length (d .written) ∙ stored-length (job .n) log count (map (addedRecord (job .round) (glances log (job .base))) (taken (seenIn s) cs)) holds
+pub searched-log : (job : Job) (held : ℕ → Bool) (cs : List Candidate) (count : ℕ) (log s : List ℕ) (count′ : ℕ) (log′ s′ : List ℕ) → job .n * recordLength ≤ length log → Searched job held cs count log s count′ log′ s′ → length log′ ≡ length log
+searched-log job held cs count log s count′ log′ s′ holds d = ap length (d .written) ∙ stored-length (job .n) log count (map (addedRecord (job .round) (glances log (job .base))) (taken (known held s) cs)) holds
 
 -- ---- the record of an end
 module _ {job : Job} {log s : List ℕ} {state : ℕ} {trail : Trail} (ready : Searchable job log s) (stands : Standing job log (job .count) state trail) where
@@ -197,45 +212,49 @@ module _ {job : Job} {log s : List ℕ} {state : ℕ} {trail : Trail} (ready : S
   stored-is count = ap (λ (e : Entry). cond (ltb count (job .n)) (withEntry log count e) log) (sym entry-is)
 
   -- ---- what an arrival leaves
-  module _ (count : ℕ) (few : count ≤ job .n + 1) where
-    pub arrived-stale : {found : Bool} → found ≡ false → Searched job (arrivals job found state trail) count log s count log s
-    arrived-stale f = rw f (searched-nothing job [] count log s few tt (ready .passed))
+  module _ (held : ℕ → Bool) (count : ℕ) (few : count ≤ job .n + 1) where
+    pub arrived-stale : {found : Bool} → found ≡ false → Searched job held (arrivals job found state trail) count log s count log s
+    arrived-stale f = rw f (searched-nothing job held [] count log s few tt (ready .passed))
 
-    pub arrived-seen : {found : Bool} {y x : ℕ} → found ≡ true → y ≡ restrictedBits (job .mask) state → x ≡ packNumber y → seenIn s x ≡ true
-        → Searched job (arrivals job found state trail) count log s count log s
-    arrived-seen f y-is e y =
-        rw f (searched-nothing job (new ∷ []) count log s few (subst (λ (k : ℕ). seenIn s k ≡ true) (e ∙ ap packNumber y-is ∙ end-is) y, tt) (ready .passed))
+    -- the end is noted, and what is taken of it written
+    module _ {y x : ℕ} {s′ : List ℕ} (y-is : y ≡ restrictedBits (job .mask) state) (x-is : x ≡ packNumber y) (q : s′ ≡ withEnd s x) where
+      number-is : x ≡ endNumber new
+      number-is = x-is ∙ ap packNumber y-is ∙ end-is
 
-    pub arrived-new : {found : Bool} {y x count′ : ℕ} {log′ s′ : List ℕ} → found ≡ true → y ≡ restrictedBits (job .mask) state → x ≡ packNumber y
-        → seenIn s x ≡ false → s′ ≡ inserted s (seenBit x)
-        → (count′ ≡ min (count + 1) (job .n + 1)) × (log′ ≡ storedEnd log job y trail count)
-        → Searched job (arrivals job found state trail) count log s count′ log′ s′
-    arrived-new {y = y} {x = x} f y-is x-is n q w = rw (f, q) (record {
-      counted = w .0 ∙ ap (λ (l : List Candidate). min (count + length l) (job .n + 1)) (sym one);
-      written = w .1 ∙ ap (λ (y : ℕ). storedEnd log job y trail count) y-is ∙ stored-is count ∙ ap
-          (λ (l : List Candidate). stored (job .n) log count (map (addedRecord (job .round) (glances log (job .base))) l)) (sym one);
-      seen = λ y h. seen-more s x small room y ∙ turned y;
-      scratch-length = length-inserted s (seenBit x);
-      kept = λ i a b. seen-bytes s x small room i a;
-      outside = λ i a. seen-bytes s x small room i (omega arith);
-      passed = passed-kept job (glances log (job .base)) s (inserted s (seenBit x)) (λ y h v. seen-more s x small room y ∙ rw v (or-true (eqb y x))) (λ l g m h b. seen-passed s x small room l g m) (ready .passed);
-    })
-      where
-        e : x ≡ packNumber (restrictedBits (job .mask) state)
-        e = x-is ∙ ap packNumber y-is
+      small : x < stateCount
+      small = rw number-is (stateNumber-below (new .key .after))
 
-        small : x < stateCount
-        small = rw (e ∙ end-is) (stateNumber-below (new .key .after))
+      room : passedEnd ≤ length s
+      room = omega (arith, ready .room .room)
 
-        room : passedAt + 12 * setLength ≤ length s
-        room = omega (arith, ready .room .room)
+      turned : (z : ℕ) → (eqb z x || seenIn s z) ≡ (seenIn s z || (eqb z (endNumber new) || false))
+      turned z = ap (λ (k : ℕ). eqb z k || seenIn s z) number-is ∙ swap (eqb z (endNumber new)) (seenIn s z)
+        where
+          swap : (a b : Bool) → (a || b) ≡ (b || (a || false))
+          swap true b = sym (or-true b)
+          swap false b = sym (or-false b)
 
-        one : taken (seenIn s) (new ∷ []) ≡ new ∷ []
-        one = rw (ap (seenIn s) (sym (e ∙ end-is)) ∙ n) refl
+      noted : (ds : List Candidate) → taken (known held s) (new ∷ []) ≡ ds → seenIn s x ≡ false → {count′ : ℕ} {log′ : List ℕ} → count′ ≡ min (count + length ds) (job .n + 1)
+          → log′ ≡ stored (job .n) log count (map (addedRecord (job .round) (glances log (job .base))) ds) → Searched job held (new ∷ []) count log s count′ log′ s′
+      noted ds one n counted written =
+          let is : s′ ≡ inserted s (seenBit x) = rw n at q in
+          rw is (record {
+            counted = counted ∙ ap (λ (l : List Candidate). min (count + length l) (job .n + 1)) (sym one);
+            written = written ∙ ap (λ (l : List Candidate). stored (job .n) log count (map (addedRecord (job .round) (glances log (job .base))) l)) (sym one);
+            seen = λ z h. seen-more s x small room z ∙ turned z;
+            scratch-length = length-inserted s (seenBit x);
+            kept = λ i a b. seen-bytes s x small room i a;
+            outside = λ i a. seen-bytes s x small room i (omega arith);
+            passed = passed-kept job (glances log (job .base)) s (inserted s (seenBit x)) (λ z h v. seen-more s x small room z ∙ rw v (or-true (eqb z x))) (λ l g m h b. seen-passed s x small room l g m) (ready .passed);
+          })
 
-        turned : (y : ℕ) → (eqb y x || seenIn s y) ≡ (seenIn s y || (eqb y (endNumber new) || false))
-        turned y = ap (λ (k : ℕ). eqb y k || seenIn s y) (e ∙ end-is) ∙ swap (eqb y (endNumber new)) (seenIn s y)
-          where
-            swap : (a b : Bool) → (a || b) ≡ (b || (a || false))
-            swap true b = sym (or-true b)
-            swap false b = sym (or-false b)
+      pub arrived-known : known held s x ≡ true → Searched job held (new ∷ []) count log s count log s′
+      arrived-known k = by-test (seenIn s x)
+          (λ y. let is : s′ ≡ s = rw y at q in
+          rw is (searched-nothing job held (new ∷ []) count log s few (subst (λ (z : ℕ). seenIn s z ≡ true) number-is y, tt) (ready .passed)))
+          (λ n. noted [] (rw (ap (known held s) (sym number-is) ∙ k) refl) n (omega arith) refl)
+
+      pub arrived-new : known held s x ≡ false → {count′ : ℕ} {log′ : List ℕ} → (count′ ≡ min (count + 1) (job .n + 1)) × (log′ ≡ storedEnd log job y trail count)
+          → Searched job held (new ∷ []) count log s count′ log′ s′
+      arrived-new k w = noted (new ∷ []) (rw (ap (known held s) (sym number-is) ∙ k) refl) (or-left (seenIn s x) (held x) k) (w .0)
+          (w .1 ∙ ap (λ (z : ℕ). storedEnd log job z trail count) y-is ∙ stored-is count)

@@ -1,6 +1,6 @@
 -- The log as far as a search looks at it: logs with the same first records look alike.
 use mathlib.Core.Path.{_≡_, refl, ap, ap₂, sym, _∙_}
-use mathlib.Core.Bool.{_&&_}
+use mathlib.Core.Bool.{Bool, _&&_, _||_}
 use mathlib.Core.List.{List, [], _∷_}
 use Prim.Native.Nat.{ℕ, zero, suc, _+_, _*_, _<_, _≤_}
 use native.Mathlib.Nat.{not-suc-le-zero}
@@ -11,8 +11,9 @@ use lib.Seq.{getD-take}
 use Rattle.model.specs.Log.{Record, noNumber, recordAt}
 use Rattle.model.specs.Records.{letterAt, numberAt, recordLength, stepsAt}
 use Rattle.model.specs.Tables.{writtenPlaces}
-use Rattle.packs.specs.Packs.{packedAfter, packedBefore, unpacked}
+use Rattle.packs.specs.Packs.{packNumber, packedAfter, packedBefore, unpacked}
 use Rattle.rings.specs.Rings.{recordReads}
+use Rattle.keys.specs.Keys.{heldBelow}
 use Rattle.paths.specs.Jobs.{glance, glances, glancesFrom}
 
 pub length-glances : (log : List ℕ) (n k : ℕ) → length (glancesFrom log n k) ≡ k
@@ -56,6 +57,15 @@ module _ (log log′ : List ℕ) (base : ℕ) (same : take (base * recordLength)
   pub reads-same : (letter g i : ℕ) → i < base → recordReads log′ letter g i ≡ recordReads log letter g i
   unfolding recordReads
   reads-same letter g i h = ap₂ (λ (a b : ℕ). eqb a letter && eqb b g) (letter-same i h) (before-same i h)
+
+  -- they hold the same keys
+  held-to : (letter g n x : ℕ) → n ≤ base → heldBelow log′ letter g n x ≡ heldBelow log letter g n x
+  held-to letter g zero x h = refl
+  held-to letter g (suc n) x h =
+      ap₂ (λ (a b : Bool). a || b) (held-to letter g n x (omega arith)) (ap₂ (λ (r : Bool) (y : ℕ). r && eqb x (packNumber y)) (reads-same letter g n h) (after-same n h))
+
+  pub held-same : (letter g : ℕ) → heldBelow log′ letter g base ≡ heldBelow log letter g base
+  held-same letter g = λ i x. held-to letter g base x (omega arith) i
 
   glance-same : (n k : ℕ) → n + k ≤ base → glancesFrom log′ n k ≡ glancesFrom log n k
   glance-same n zero h = refl

@@ -5,4 +5,3 @@ pub mod Extending
 pub mod Turns
 pub mod Looping
 pub mod HeadAdditions
-pub mod Holding

@@ -3,7 +3,7 @@ use mathlib.Core.Path.{_∙_, _≡_, ap, ap₂, refl, subst, sym}
 use mathlib.Core.Bool.{Bool, _||_, true}
 use mathlib.Core.Logic.{inl, inr}
 use mathlib.Core.List.{List, [], _∷_, append-nil, map}
-use Prim.Native.Nat.{_*_, _+_, _-_, _<_, _≤_, suc, ℕ}
+use Prim.Native.Nat.{_+_, _-_, _<_, _≤_, suc, ℕ}
 use native.Mathlib.Numerals.{add-one}
 use native.Mathlib.Omega.{arith}
 use lib.Dec.{leb}
@@ -13,23 +13,23 @@ use Rattle.model.specs.Tables.{writtenPlaces}
 use Rattle.model.specs.Searches.{freshPaths}
 use Rattle.model.proofs.Tests.{by-test}
 use Rattle.automaton.specs.StateNumbers.{stateCount, stateNumber}
-use Rattle.automaton.specs.StateSets.{firstFrom, setLength}
+use Rattle.automaton.specs.StateSets.{firstFrom}
 use Rattle.automaton.proofs.StateNumbers.{stateNumber-below}
-use Rattle.scratch.specs.Regions.{passedAt, ringsAt}
+use Rattle.scratch.specs.Regions.{passedEnd, ringsAt}
 use Rattle.records.specs.Entries.{HasRecord}
 use Rattle.packs.specs.Packs.{mergedBits, packNumber, packedAfter, restrictedBits, unpacked}
 use Rattle.packs.proofs.Unpacked.{number-unpacked}
 use Rattle.rings.specs.Rings.{RingRoom, Ringed, recordReads}
 use Rattle.paths.specs.declared.Job.{Job}
 use Rattle.paths.specs.declared.Trail.{Trail}
-use Rattle.paths.specs.Jobs.{Searchable, Searched, Standing, arrivals, firstTried, glances, isPassed, jobLoc, longerTrail, made, offers, withPassed}
+use Rattle.paths.specs.Jobs.{Searchable, Searched, Standing, arrivals, firstTried, glances, heldBy, isPassed, jobLoc, longerTrail, made, offers, withPassed}
 use Rattle.paths.proofs.Arriving.{searched-nothing, pass-bytes, pass-length, pass-seen, passed-more, passed-seen}
 use Rattle.paths.proofs.Glances.{reads-same}
 use Rattle.paths.proofs.Turns.{Going, by-record, earlier, going-count, going-end, going-ready, going-seen, going-stands, going-start, going-turn, joined, log-size, word-end}
 
 -- what the search from a state comes to
 abbrev pub Explored : Job → ℕ → ℕ → Bool → Trail → ℕ → List ℕ → List ℕ → ℕ → List ℕ → List ℕ → Type 0
-Explored job level state found trail count log s count′ log′ s′ = Searched job (offers job (glances log (job .base)) level found (unpacked state) (take level (trail .places))) count log s count′ log′ s′
+Explored job level state found trail count log s count′ log′ s′ = Searched job (heldBy job log) (offers job (glances log (job .base)) level found (unpacked state) (take level (trail .places))) count log s count′ log′ s′
 
 -- what it asks
 abbrev Asked : Job → ℕ → ℕ → Trail → ℕ → List ℕ → List ℕ → Type 0
@@ -38,9 +38,9 @@ Asked job level state trail count log s = Searchable job log s × Standing job l
 -- ---- without the loop
 module _ {job : Job} {level state : ℕ} (found : Bool) {trail : Trail} {count : ℕ} {log s : List ℕ} (p : Asked job level state trail count log s) where
   -- at the word's end there is one path, the empty one
-  pub explored-end : {count′ : ℕ} {log′ s′ : List ℕ} → level ≡ job .count → Searched job (arrivals job found state trail) count log s count′ log′ s′
+  pub explored-end : {count′ : ℕ} {log′ s′ : List ℕ} → level ≡ job .count → Searched job (heldBy job log) (arrivals job found state trail) count log s count′ log′ s′
       → Explored job level state found trail count log s count′ log′ s′
-  explored-end {count′} {log′} {s′} e d = subst (λ (cs : List Candidate). Searched job cs count log s count′ log′ s′) (sym one) d
+  explored-end {count′} {log′} {s′} e d = subst (λ (cs : List Candidate). Searched job (heldBy job log) cs count log s count′ log′ s′) (sym one) d
     where
       one : offers job (glances log (job .base)) level found (unpacked state) (take level (trail .places)) ≡ arrivals job found state trail
       one = ap (λ (k : ℕ). offers job (glances log (job .base)) k found (unpacked state) (take k (trail .places))) e
@@ -48,10 +48,10 @@ module _ {job : Job} {level state : ℕ} (found : Bool) {trail : Trail} {count :
           ∙ by-test found (λ y. rw y (ap (λ (ns : List ℕ). made job ns (unpacked state) ∷ []) (append-nil (take (job .count) (trail .places))))) (λ n. rw n refl)
 
   -- a state that was passed
-  pub explored-passed : {x : ℕ} → (level ≡ job .count → ⊥) → x ≡ packNumber state → isPassed s level found x ≡ true → Explored job level state found trail count log s count log s
-  explored-passed ne e y =
-      searched-nothing job (offers job (glances log (job .base)) level found (unpacked state) (take level (trail .places))) count log s (p .3)
-      (passed-seen job (glances log (job .base)) s level found (unpacked state) (take level (trail .places)) (omega (arith, p .1 .within)) (p .1 .over) (p .0 .passed)
+  pub explored-passed : {x : ℕ} → level < job .count → x ≡ packNumber state → isPassed s level found x ≡ true → Explored job level state found trail count log s count log s
+  explored-passed more e y =
+      searched-nothing job (heldBy job log) (offers job (glances log (job .base)) level found (unpacked state) (take level (trail .places))) count log s (p .3)
+      (passed-seen job (glances log (job .base)) s level found (unpacked state) (take level (trail .places)) more (p .1 .over) (p .0 .passed)
       (subst (λ (m : ℕ). isPassed s level found m ≡ true) (e ∙ number-unpacked state (p .1 .packed)) y)) (p .0 .passed)
 
 -- ---- the loop
@@ -69,12 +69,11 @@ pub record Looping (log₀ s₀ : List ℕ) (job : Job) (level state : ℕ) (fou
   pub going : Going job level state found trail count log₀ s₀ ready stands more low log s total r
 
 pub looping-start : {log₀ s₀ : List ℕ} {job : Job} {level state : ℕ} {found : Bool} {trail : Trail} {count x letter mask g r : ℕ}
-    → Asked job level state trail count log₀ s₀ → (level ≡ job .count → ⊥)
+    → Asked job level state trail count log₀ s₀ → level < job .count
     → x ≡ packNumber state → letter ≡ getD (job .letters) level 0 → mask ≡ getD (job .masks) level 0 → g ≡ restrictedBits mask state
     → r ≡ firstFrom (recordReads log₀ letter g) (firstTried job level found) (job .base - firstTried job level found)
     → Looping log₀ s₀ job level state found trail count x letter mask g (job .base) (job .n) log₀ s₀ count r
-looping-start {log₀} {s₀} {job} {level} {state} {found} {trail} {count} {g = g} {r = r} (ready, stands, low, few) ne i l m k q =
-    let more : level < job .count = omega (arith, stands .within, ne) in
+looping-start {log₀} {s₀} {job} {level} {state} {found} {trail} {count} {g = g} {r = r} (ready, stands, low, few) more i l m k q =
     let key-is : g ≡ restrictedBits (getD (job .masks) level 0) state = k ∙ ap (λ (y : ℕ). restrictedBits y state) m in
     record {
       ready = ready;
@@ -101,7 +100,7 @@ module _ {log₀ s₀ : List ℕ} {job : Job} {level state : ℕ} {found : Bool}
   pub looping-log : length log ≡ length log₀
   looping-log = log-size job level state found trail count log₀ s₀ (o .ready) (o .stands) (o .more) (o .low) log s total r (o .going)
 
-  pub looping-pass : (level < 6) × (x < stateCount) × (passedAt + 12 * setLength ≤ length s)
+  pub looping-pass : (level < writtenPlaces) × (x < stateCount) × (passedEnd ≤ length s)
   looping-pass = (omega (arith, o .more, o .ready .few), rw (o .is-number) (stateNumber-below (unpacked state)), omega (arith, looping-ready .room .room))
 
   pub looping-scratch : {s′ : List ℕ} → s′ ≡ withPassed s level found x → length s′ ≡ length s₀
@@ -138,12 +137,12 @@ module _ {log₀ s₀ : List ℕ} {job : Job} {level state : ℕ} {found : Bool}
     pub last-asks : level + 1 ≡ job .count → Asked job (job .count) next on total log s
     last-asks w = (looping-asks .0, rw w at (looping-asks .1), looping-asks .2, looping-asks .3)
 
-    pub last-explored : {total′ : ℕ} {log′ s′ : List ℕ} → level + 1 ≡ job .count → Searched job (arrivals job new next on) total log s total′ log′ s′
+    pub last-explored : {total′ : ℕ} {log′ s′ : List ℕ} → level + 1 ≡ job .count → Searched job (heldBy job log) (arrivals job new next on) total log s total′ log′ s′
         → Explored job (level + 1) next new on total log s total′ log′ s′
     last-explored w d = explored-end new looping-asks w d
 
     module _ {total′ : ℕ} {log′ s′ : List ℕ} (d : Explored job (level + 1) next new on total log s total′ log′ s′) where
-      searched : Searched job (by-record job level state found trail count log₀ s₀ (o .ready) (o .stands) (o .more) (o .low) log s total r (o .going) (below-base h)) total log s total′ log′ s′
+      searched : Searched job (heldBy job log) (by-record job level state found trail count log₀ s₀ (o .ready) (o .stands) (o .more) (o .low) log s total r (o .going) (below-base h)) total log s total′ log′ s′
       searched =
           subst (λ (y : Trail). Explored job (suc level) (mergedBits (getD (job .masks) level 0) (packedAfter log r) state) (found || leb (job .lo) r) y total log s total′ log′ s′) t
           (subst (λ (b : Bool). Explored job (suc level) (mergedBits (getD (job .masks) level 0) (packedAfter log r) state) b on total log s total′ log′ s′) f
@@ -187,8 +186,8 @@ module _ {log₀ s₀ : List ℕ} {job : Job} {level state : ℕ} {found : Bool}
   pub looping-end : base ≤ r → {s′ : List ℕ} → s′ ≡ withPassed s level found x → Explored job level state found trail count log₀ s₀ total log s′
   looping-end h e =
       let stop : job .base ≤ r = omega (arith, o .is-base) in
-      let few : level < 6 = omega (arith, o .more, o .ready .few) in
-      let room : passedAt + 12 * setLength ≤ length s = omega (arith, looping-ready .room .room) in
+      let few : level < writtenPlaces = omega (arith, o .more, o .ready .few) in
+      let room : passedEnd ≤ length s = omega (arith, looping-ready .room .room) in
       let small = stateNumber-below (unpacked state) in
       subst (λ (y : List ℕ). Explored job level state found trail count log₀ s₀ total log y) (sym (e ∙ ap (withPassed s level found) (o .is-number)))
       (going-end job level state found trail count log₀ s₀ (o .ready) (o .stands) (o .more) (o .low) log s total r (o .going) stop (withPassed s level found (stateNumber (unpacked state)))

@@ -1,5 +1,5 @@
 -- The loop of the search: the records that read a letter, one after the other.
-use mathlib.Core.Path.{_∙_, _≡_, ap, ap₂, refl, sym}
+use mathlib.Core.Path.{_∙_, _≡_, ap, ap₂, refl, subst, sym}
 use mathlib.Core.Bool.{Bool, _&&_, _||_, cond, false, true, or-assoc, or-false, or-true}
 use mathlib.Core.Logic.{⊎-elim}
 use mathlib.Core.List.{List, List·Memᴰ, List·Memᴰ·cases-cons, List·Memᴰ·not-nil, [], _++_, _∷_, append-assoc, append-nil, map}
@@ -24,18 +24,19 @@ use Rattle.automaton.specs.StateNumbers.{stateCount}
 use Rattle.automaton.specs.StateSets.{firstFrom, setLength}
 use Rattle.automaton.proofs.StateNumbers.{stateNumber-below}
 use Rattle.automaton.proofs.StateSets.{first-at}
-use Rattle.scratch.specs.Regions.{passedAt, ringsAt, seenAt}
+use Rattle.scratch.specs.Regions.{keysAt, passedAt, passedEnd, ringsAt, seenAt}
 use Rattle.packs.specs.Packs.{maskOf, mergedBits, packedAfter, packedBefore, restrictedBits, unpacked}
 use Rattle.packs.proofs.Unpacked.{merge-below, merge-unpacked, restrict-below, restrict-unpacked, same-unpacked}
 use Rattle.rings.specs.Rings.{recordReads}
 use Rattle.rings.proofs.Keeping.{freshened-log, freshened-scratch, ringed-log, ringed-scratch}
+use Rattle.keys.proofs.Keeping.{indexed-log, indexed-scratch}
 use Rattle.paths.specs.declared.Job.{Job}
 use Rattle.paths.specs.declared.Trail.{Trail}
 use Rattle.paths.specs.Arrivals.{endNumber, hit, stored, taken}
-use Rattle.paths.specs.Jobs.{PassedRight, Searchable, Searched, Standing, firstTried, glances, jobLoc, jobWord, laterFresh, longerTrail, made, offers, seenIn}
-use Rattle.paths.proofs.Arrivals.{hit-append, hit-own, stored-append, stored-capped, stored-earlier, stored-length, taken-append, taken-same}
+use Rattle.paths.specs.Jobs.{Lookable, PassedRight, Searchable, Searched, Standing, firstTried, glances, heldBy, jobLoc, jobWord, known, laterFresh, longerTrail, made, offers, seenIn}
+use Rattle.paths.proofs.Arrivals.{hit-append, hit-own, stored-append, stored-capped, stored-earlier, stored-length, taken-append, taken-known}
 use Rattle.paths.proofs.Extending.{extend-end, extend-first, extend-hit, extend-late}
-use Rattle.paths.proofs.Glances.{after-same, before-same, glances-at, glances-same, length-glances, letter-same, reads-same}
+use Rattle.paths.proofs.Glances.{after-same, before-same, glances-at, glances-same, held-same, length-glances, letter-same, reads-same}
 
 -- ---- the word, and the candidates at a depth
 length-word : (job : Job) → job .count ≤ length (job .letters) → length (jobWord job) ≡ job .count
@@ -56,7 +57,7 @@ joined-push job pre r [] = refl
 joined-push job pre r (p ∷ ps) =
     ap₂ (λ (c : Candidate) (cs : List Candidate). c ∷ cs) (ap (λ (ns : List ℕ). made job ns (p .end)) (sym (append-assoc pre (r ∷ []) (p .numbers)))) (joined-push job pre r ps)
 
-first-cong : (f h : ℕ → Bool) (m k : ℕ) → ((i : ℕ) → m ≤ i → i < m + k → f i ≡ h i) → firstFrom f m k ≡ firstFrom h m k
+pub first-cong : (f h : ℕ → Bool) (m k : ℕ) → ((i : ℕ) → m ≤ i → i < m + k → f i ≡ h i) → firstFrom f m k ≡ firstFrom h m k
 unfolding firstFrom
 first-cong f h m zero e = refl
 first-cong f h m (suc k) e = ap₂ (λ (b : Bool) (n : ℕ). cond b m n) (e m (omega arith) (omega arith)) (first-cong f h (suc m) k (λ i a b. e i (omega arith) (omega arith)))
@@ -81,8 +82,17 @@ capped-sum : (t a b c d : ℕ) → t ≡ min (1 + a) stepsCap → c ≡ a + b �
 capped-sum t a b c d p q e = omega arith
 
 -- ---- buffers in which the search may go on
+pub lookable-kept : (job : Job) (log s log′ s′ : List ℕ) → take (job .base * recordLength) log′ ≡ take (job .base * recordLength) log → job .base ≤ job .n → length log′ ≡ length log → length s′ ≡ length s
+    → ((i : ℕ) → ringsAt ≤ i → getD s′ i 0 ≡ getD s i 0) → Lookable job log s → Lookable job log′ s′
+lookable-kept job log s log′ s′ same fits size-log size-s outside w = record {
+  room = record { fits = w .room .fits; short = w .room .short; records = rw size-log (w .room .records); room = rw size-s (w .room .room) };
+  indexed = indexed-log log log′ (job .base) (job .n) (keysAt (job .n)) s′ (letter-same log log′ (job .base) same) (before-same log log′ (job .base) same) (after-same log log′ (job .base) same)
+      (indexed-scratch log (job .base) (job .n) (keysAt (job .n)) s s′ fits (λ i a b. outside i (omega arith)) (w .indexed));
+  unheld = λ f x. ap (λ (held : ℕ → Bool). held x) (held-same log log′ (job .base) same (job .letter) (job .before)) ∙ w .unheld f x;
+}
+
 pub searchable-kept : (job : Job) (log s log′ s′ : List ℕ) → Searchable job log s → take (job .base * recordLength) log′ ≡ take (job .base * recordLength) log → length log′ ≡ length log → length s′ ≡ length s
-    → ((i : ℕ) → passedAt + 12 * setLength ≤ i → getD s′ i 0 ≡ getD s i 0) → PassedRight job (glances log (job .base)) s′ → Searchable job log′ s′
+    → ((i : ℕ) → passedEnd ≤ i → getD s′ i 0 ≡ getD s i 0) → PassedRight job (glances log (job .base)) s′ → Searchable job log′ s′
 searchable-kept job log s log′ s′ w same size-log size-s outside right =
     let letters = letter-same log log′ (job .base) same in
     let befores = before-same log log′ (job .base) same in
@@ -96,6 +106,7 @@ searchable-kept job log s log′ s′ w same size-log size-s outside right =
       room = record { fits = w .room .fits; short = w .room .short; records = rw size-log (w .room .records); room = rw size-s (w .room .room) };
       ringed = ringed-log log log′ (job .base) (job .n) ringsAt s′ letters befores (w .room .fits) (ringed-scratch log (job .base) (job .n) ringsAt s s′ (w .room .fits) (λ i a b. outside i (omega arith)) (w .ringed));
       freshened = freshened-log log log′ (job .base) (job .n) ringsAt s′ letters befores (job .lo) (w .low) (freshened-scratch log (job .lo) (job .base) (job .n) ringsAt s s′ (λ i a b. outside i (omega arith)) (w .freshened));
+      keys = lookable-kept job log s log′ s′ same (w .room .fits) size-log size-s (λ i a. outside i (omega arith)) (w .keys);
       small = λ i h. rw (befores i h, afters i h) (w .small i h);
       masks = w .masks;
       shapes = λ i j h l e x o. rw (afters i h) (w .shapes i j h l (sym (letters i h) ∙ e) x o);
@@ -127,6 +138,10 @@ module _ (job : Job) (level state : ℕ) (found : Bool) (trail : Trail) (count :
 
   abbrev pub all : List Candidate
   all = offers job A level found g pre
+
+  -- what the search does not take: ends that it came by, and those that the log holds
+  abbrev pub held : ℕ → Bool
+  held = heldBy job log₀
 
   -- the candidates by the records from r on
   abbrev pub remaining : ℕ → List Candidate
@@ -175,13 +190,13 @@ module _ (job : Job) (level state : ℕ) (found : Bool) (trail : Trail) (count :
   -- ---- the loop
   pub record Going (log s : List ℕ) (total r : ℕ) : Type 0 where
     pub got : List Candidate
-    pub taking : taken (seenIn s₀) all ≡ got ++ taken (seenIn s) (remaining r)
+    pub taking : taken (known held s₀) all ≡ got ++ taken (known held s) (remaining r)
     pub hits : (x : ℕ) → x < stateCount → (seenIn s₀ x || hit all x) ≡ (seenIn s x || hit (remaining r) x)
     pub counted : total ≡ min (count + length got) (job .n + 1)
     pub written : log ≡ stored (job .n) log₀ count (records got)
     pub scratch-length : length s ≡ length s₀
     pub kept : (i : ℕ) → seenAt + setLength ≤ i → i < passedAt + 2 * setLength → getD s i 0 ≡ getD s₀ i 0
-    pub outside : (i : ℕ) → passedAt + 12 * setLength ≤ i → getD s i 0 ≡ getD s₀ i 0
+    pub outside : (i : ℕ) → passedEnd ≤ i → getD s i 0 ≡ getD s₀ i 0
     pub below : r ≤ job .base
     pub reads : r < job .base → recordReads log₀ a key r ≡ true
     pub passed : PassedRight job A s
@@ -200,7 +215,7 @@ module _ (job : Job) (level state : ℕ) (found : Bool) (trail : Trail) (count :
       let b = first-bound m (job .base - m) r whole q in
       record {
         got = [];
-        taking = ap (taken (seenIn s₀)) same;
+        taking = ap (taken (known held s₀)) same;
         hits = λ x h. ap (λ (cs : List Candidate). seenIn s₀ x || hit cs x) same;
         counted = omega arith;
         written = refl;
@@ -295,16 +310,16 @@ module _ (job : Job) (level state : ℕ) (found : Bool) (trail : Trail) (count :
               ap₂ (λ (ns : List ℕ) (x : Group). map (joined job ns) (freshPaths (jobLoc job) A (job .lo) (found || leb (job .lo) r) (drop (suc level) (jobWord job)) x)) (sym numbers-are) state-is
               ∙ ap (λ (B : List Record). offers job B (suc level) (found || leb (job .lo) r) (unpacked led) (take (suc level) (longerTrail log trail level r .places))) (sym same-seen)
 
-      pub going-turn : (total′ : ℕ) (log′ s′ : List ℕ) (r′ : ℕ) → Searched job by-record total log s total′ log′ s′ → r′ ≡ firstFrom (recordReads log′ a key) (suc r) (job .base - suc r) → Going log′ s′ total′ r′
-      going-turn total′ log′ s′ r′ d q =
-          let tk = taken (seenIn s) by-record in
+      pub going-turn : (total′ : ℕ) (log′ s′ : List ℕ) (r′ : ℕ) → Searched job (heldBy job log) by-record total log s total′ log′ s′ → r′ ≡ firstFrom (recordReads log′ a key) (suc r) (job .base - suc r) → Going log′ s′ total′ r′
+      going-turn total′ log′ s′ r′ d₀ q =
+          let tk = taken (known held s) by-record in
           let whole : suc r + (job .base - suc r) ≡ job .base = omega arith in
           let b = first-bound (suc r) (job .base - suc r) r′ whole q₀ in
           record {
             got = o .got ++ tk;
-            taking = o .taking ∙ ap (λ (cs : List Candidate). o .got ++ cs) (ap (taken (seenIn s)) remaining-hit ∙ taken-append (seenIn s) by-record (remaining (suc r))
-                ∙ ap₂ (λ (f : List Candidate → List Candidate) (cs : List Candidate). tk ++ f cs) (λ i cs. taken-same (λ x. seenIn s x || hit by-record x) (seenIn s′) (λ x l. sym (d .seen x l)) cs i) next-are)
-                ∙ sym (append-assoc (o .got) tk (taken (seenIn s′) (remaining r′)));
+            taking = o .taking ∙ ap (λ (cs : List Candidate). o .got ++ cs) (ap (taken (known held s)) remaining-hit ∙ taken-append (known held s) by-record (remaining (suc r))
+                ∙ ap₂ (λ (f : List Candidate → List Candidate) (cs : List Candidate). tk ++ f cs) (λ i cs. taken-known held s s′ by-record (d .seen) cs i) next-are)
+                ∙ sym (append-assoc (o .got) tk (taken (known held s′) (remaining r′)));
             hits = λ x l. o .hits x l ∙ ap (λ (cs : List Candidate). seenIn s x || hit cs x) remaining-hit ∙ ap (λ (v : Bool). seenIn s x || v) (hit-append by-record (remaining (suc r)) x)
                 ∙ sym (or-assoc (seenIn s x) (hit by-record x) (hit (remaining (suc r)) x)) ∙ ap₂ (λ (u : Bool) (cs : List Candidate). u || hit cs x) (sym (d .seen x l)) next-are;
             counted = d .counted ∙ omega (arith, o .counted, length-append (o .got) tk);
@@ -319,8 +334,11 @@ module _ (job : Job) (level state : ℕ) (found : Bool) (trail : Trail) (count :
             passed = rw (← same-seen) (d .passed);
           }
         where
+          d : Searched job held by-record total log s total′ log′ s′
+          d = subst (λ (f : ℕ → Bool). Searched job f by-record total log s total′ log′ s′) (held-same log₀ log (job .base) earlier (job .letter) (job .before)) d₀
+
           later : take (job .base * recordLength) log′ ≡ take (job .base * recordLength) log₀
-          later = ap (take (job .base * recordLength)) (d .written) ∙ stored-earlier (job .n) log total (map (addedRecord (job .round) (glances log (job .base))) (taken (seenIn s) by-record)) (job .base) (going-count .0) (going-ready .holds) ∙ earlier
+          later = ap (take (job .base * recordLength)) (d .written) ∙ stored-earlier (job .n) log total (map (addedRecord (job .round) (glances log (job .base))) (taken (known held s) by-record)) (job .base) (going-count .0) (going-ready .holds) ∙ earlier
 
           q₀ : r′ ≡ firstFrom (recordReads log₀ a key) (suc r) (job .base - suc r)
           q₀ = q ∙ first-cong (recordReads log′ a key) (recordReads log₀ a key) (suc r) (job .base - suc r) (λ i u v. reads-same log₀ log′ (job .base) later a key i (omega arith))
@@ -330,10 +348,10 @@ module _ (job : Job) (level state : ℕ) (found : Bool) (trail : Trail) (count :
 
     -- ---- no record is left
     pub going-end : job .base ≤ r → (s′ : List ℕ) → length s′ ≡ length s → ((x : ℕ) → x < stateCount → seenIn s′ x ≡ seenIn s x) → ((i : ℕ) → seenAt + setLength ≤ i → i < passedAt + 2 * setLength → getD s′ i 0 ≡ getD s i 0)
-        → ((i : ℕ) → passedAt + 12 * setLength ≤ i → getD s′ i 0 ≡ getD s i 0) → PassedRight job A s′ → Searched job all count log₀ s₀ total log s′
+        → ((i : ℕ) → passedEnd ≤ i → getD s′ i 0 ≡ getD s i 0) → PassedRight job A s′ → Searched job held all count log₀ s₀ total log s′
     going-end h s′ size seen kept outside right =
         let none : remaining r ≡ [] = ap (map (joined job pre)) (extend-end (jobLoc job) (job .lo) found a g onward A r (rw (length-glances log₀ 0 (job .base)) h)) in
-        let got-is : taken (seenIn s₀) all ≡ o .got = o .taking ∙ ap (λ (cs : List Candidate). o .got ++ taken (seenIn s) cs) none ∙ append-nil (o .got) in
+        let got-is : taken (known held s₀) all ≡ o .got = o .taking ∙ ap (λ (cs : List Candidate). o .got ++ taken (known held s) cs) none ∙ append-nil (o .got) in
         record {
           counted = o .counted ∙ ap (λ (cs : List Candidate). min (count + length cs) (job .n + 1)) (sym got-is);
           written = o .written ∙ ap (λ (cs : List Candidate). stored (job .n) log₀ count (records cs)) (sym got-is);

@@ -1,6 +1,6 @@
 -- A search for what one rule adds, as the code holds it.
 use mathlib.Core.Path.{_≡_}
-use mathlib.Core.Bool.{Bool, true, cond, _||_}
+use mathlib.Core.Bool.{Bool, true, false, cond, _||_}
 use mathlib.Core.List.{List, [], _∷_, _++_, map}
 use Prim.Native.Nat.{ℕ, zero, suc, _+_, _*_, _<_, _≤_, min}
 use lib.Dec.{eqb, ltb}
@@ -14,11 +14,12 @@ use Rattle.model.specs.Records.{recordLength, letterAt, stepsAt}
 use Rattle.model.specs.Searches.{freshPaths}
 use Rattle.automaton.specs.StateNumbers.{stateCount, stateNumber, Over}
 use Rattle.automaton.specs.StateSets.{member, inserted, setLength}
-use Rattle.scratch.specs.Regions.{passedAt, passedBit, ringsAt, seenAt, seenBit}
+use Rattle.scratch.specs.Regions.{keysAt, passedAt, passedBit, passedEnd, ringsAt, seenAt, seenBit}
 use Rattle.records.specs.declared.Entry.{Entry}
 use Rattle.records.specs.Entries.{withEntry}
 use Rattle.packs.specs.Packs.{maskOf, packedAfter, packedBefore, processesIn, unpacked}
 use Rattle.rings.specs.Rings.{RingRoom, Ringed, Freshened}
+use Rattle.keys.specs.Keys.{Indexed, KeyRoom, heldBelow}
 use Rattle.paths.specs.declared.Job.{Job}
 use Rattle.paths.specs.declared.Trail.{Trail}
 use Rattle.paths.specs.Arrivals.{endNumber, hit, stored, taken}
@@ -82,6 +83,20 @@ abbrev pub PassedRight : Job → List Record → List ℕ → Type 0
 PassedRight job log s = (level : ℕ) (found : Bool) (m : ℕ) → level < job .count → m < stateCount → member s (passedBit level found m) ≡ true → (g : Group) → Over (jobProcesses job) g → stateNumber g ≡ m
     → Each (λ (c : Candidate). seenIn s (endNumber c) ≡ true) (offers job log level found g [])
 
+-- an end that the search came by, or that is held by the log
+abbrev pub known : (ℕ → Bool) → List ℕ → ℕ → Bool
+known held s x = seenIn s x || held x
+
+-- the ends that the records with the rule's letter and states before have
+abbrev pub heldBy : Job → List ℕ → ℕ → Bool
+heldBy job log = heldBelow log (job .letter) (job .before) (job .base)
+
+-- the keys of the records may be looked up; where none has the rule's letter and states before, none holds an end
+pub record Lookable (job : Job) (log s : List ℕ) : Type 0 where
+  pub room : KeyRoom log (job .base) (job .n) (keysAt (job .n)) s
+  pub indexed : Indexed log (job .base) (job .n) (keysAt (job .n)) s
+  pub unheld : job .held ≡ false → (x : ℕ) → heldBy job log x ≡ false
+
 -- what does not change during a search
 pub record Searchable (job : Job) (log s : List ℕ) : Type 0 where
   pub few : job .count ≤ writtenPlaces
@@ -92,6 +107,7 @@ pub record Searchable (job : Job) (log s : List ℕ) : Type 0 where
   pub room : RingRoom log (job .base) (job .n) ringsAt s
   pub ringed : Ringed log (job .base) (job .n) ringsAt s
   pub freshened : Freshened log (job .lo) (job .base) (job .n) ringsAt s
+  pub keys : Lookable job log s
   -- groups of the records are numbers of 32 bits
   pub small : (i : ℕ) → i < job .base → (packedBefore log i < 4294967296) × (packedAfter log i < 4294967296)
   -- a written letter has the processes of its place, and its transitions lead from states of the rule's processes to such states
@@ -114,16 +130,16 @@ pub record Standing (job : Job) (log : List ℕ) (level state : ℕ) (trail : Tr
   pub spare : (j : ℕ) → level ≤ j → j < writtenPlaces → getD (trail .places) j noNumber ≡ noNumber
   pub steps : trail .steps ≡ min (1 + sumOver (λ m. recordAt (glances log (job .base)) m .steps) (take level (trail .places))) stepsCap
 
--- what an arrival at, or a search from, some candidates leaves
-pub record Searched (job : Job) (cs : List Candidate) (count : ℕ) (log s : List ℕ) (count′ : ℕ) (log′ s′ : List ℕ) : Type 0 where
+-- what an arrival at, or a search from, some candidates leaves, where these ends are held
+pub record Searched (job : Job) (held : ℕ → Bool) (cs : List Candidate) (count : ℕ) (log s : List ℕ) (count′ : ℕ) (log′ s′ : List ℕ) : Type 0 where
   -- the number of records, or n + 1 where the log has no room for all
-  pub counted : count′ ≡ min (count + length (taken (seenIn s) cs)) (job .n + 1)
-  pub written : log′ ≡ stored (job .n) log count (map (addedRecord (job .round) (glances log (job .base))) (taken (seenIn s) cs))
+  pub counted : count′ ≡ min (count + length (taken (known held s) cs)) (job .n + 1)
+  pub written : log′ ≡ stored (job .n) log count (map (addedRecord (job .round) (glances log (job .base))) (taken (known held s) cs))
   pub seen : (x : ℕ) → x < stateCount → seenIn s′ x ≡ (seenIn s x || hit cs x)
   pub scratch-length : length s′ ≡ length s
   -- of the scratch only the ends seen and the states passed behind the first letter change
   pub kept : (i : ℕ) → seenAt + setLength ≤ i → i < passedAt + 2 * setLength → getD s′ i 0 ≡ getD s i 0
-  pub outside : (i : ℕ) → passedAt + 12 * setLength ≤ i → getD s′ i 0 ≡ getD s i 0
+  pub outside : (i : ℕ) → passedEnd ≤ i → getD s′ i 0 ≡ getD s i 0
   pub passed : PassedRight job (glances log (job .base)) s′
 
 -- ---- the path so far
@@ -148,6 +164,10 @@ endEntry job after trail = record {
 
 unfoldable pub storedEnd : List ℕ → Job → ℕ → Trail → ℕ → List ℕ
 storedEnd log job after trail count = cond (ltb count (job .n)) (withEntry log count (endEntry job after trail)) log
+
+-- the end x is noted
+abbrev pub withEnd : List ℕ → ℕ → List ℕ
+withEnd s x = cond (seenIn s x) s (inserted s (seenBit x))
 
 -- ---- the states passed
 -- one more, unless it is of the first depth

@@ -1,3 +1,2 @@
 pub mod Arrivals
 pub mod Jobs
-pub mod Held

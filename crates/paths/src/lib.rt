@@ -2,6 +2,7 @@
 // are gone through, since no other adds anything. The first path to an end that the head's search has not come by adds a record.
 use automaton::sets;
 use automaton::states::STATES;
+use keys::holds;
 use model::WRITTEN_PLACES;
 use packs::after_at;
 use packs::merged;
@@ -18,26 +19,26 @@ use rings::next_match;
 use scratch::PASSED;
 use scratch::RINGS;
 use scratch::SEEN;
+use scratch::keys_at;
 ghost use mathlib.Core.Path.{_≡_};
-ghost use mathlib.Core.Bool.{Bool, cond, _||_};
+ghost use mathlib.Core.Bool.{true, cond, _||_};
 ghost use Prim.Native.Nat.{_+_, _-_, _*_, _<_, _≤_, min};
 ghost use lib.Dec.{leb};
 ghost use lib.ListN.{length, getD, take};
 ghost use Rattle.model.specs.Log.{stepsCap};
-ghost use Rattle.model.specs.Records.{recordLength, stepsAt};
+ghost use Rattle.model.specs.Records.{recordLength};
 ghost use Rattle.model.specs.Tables.{writtenPlaces};
 ghost use Rattle.automaton.specs.StateNumbers.{stateCount};
-ghost use Rattle.automaton.specs.StateSets.{firstFrom, member, setLength};
+ghost use Rattle.automaton.specs.StateSets.{firstFrom};
 ghost use Rattle.records.specs.Entries.{HasRecord};
 ghost use Rattle.rings.specs.Rings.{recordReads, RingRoom, Ringed, Freshened};
 ghost use Rattle.packs.specs.Packs.{unpacked};
-ghost use Rattle.scratch.specs.Regions.{passedAt, passedBit, ringsAt, seenBit};
-ghost use Rattle.paths.specs.Jobs.{Searchable, Searched, Standing, firstTried, isPassed, longerTrail, glances, offers, storedEnd, withPassed, arrivals};
+ghost use Rattle.scratch.specs.Regions.{passedAt, passedEnd, ringsAt};
+ghost use Rattle.paths.specs.Jobs.{Lookable, Searchable, Searched, Standing, firstTried, heldBy, isPassed, known, longerTrail, glances, offers, storedEnd, withEnd, withPassed, arrivals};
 
-pub mod held;
-
-// A rule of the table with its written letters and their processes as masks; the place of the last letter that a record of the last round reads; the
-// round, the records that it starts from, those from lo on being of the last round, and how many the log can hold.
+// A rule of the table with its written letters and their processes as masks; the place of the last letter that a record of the last round reads; whether a
+// record has the rule's letter and states before; the round, the records that it starts from, those from lo on being of the last round, and how many the log
+// can hold.
 pub struct Job {
     pub letter: u8,
     pub mask: u32,
@@ -48,6 +49,7 @@ pub struct Job {
     pub letters: [u8; WRITTEN_PLACES],
     pub masks: [u32; WRITTEN_PLACES],
     pub last: usize,
+    pub held: bool,
     pub lo: usize,
     pub base: usize,
     pub n: usize,
@@ -130,8 +132,8 @@ fn first_try(
 }
 
 fn slot(level: usize, found: bool) -> usize
-    requires { ⌜ level < 6 ⌝ }
-    ensures { λ r. ⌜ (r ≡ 8 * passedAt + (2 * level + cond found 1 0) * 4096) × (r + 4096 ≤ 8 * (passedAt + 12 * setLength)) ⌝ }
+    requires { ⌜ level < writtenPlaces ⌝ }
+    ensures { λ r. ⌜ (r ≡ 8 * passedAt + (2 * level + cond found 1 0) * 4096) × (r + 4096 ≤ 8 * passedEnd) ⌝ }
 {
     if found {
         return 8 * PASSED + (2 * level + 1) * STATES;
@@ -141,18 +143,21 @@ fn slot(level: usize, found: bool) -> usize
 
 // Whether the search has come by the state at this depth, so that it leads to nothing new.
 fn is_passed(scratch: &[u8], level: usize, found: bool, x: usize) -> bool
-    requires { ⌜ (level < 6) × (x < stateCount) × (passedAt + 12 * setLength ≤ length (now scratch)) ⌝ }
+    requires { ⌜ (level < writtenPlaces) × (x < stateCount) × (passedEnd ≤ length (now scratch)) ⌝ }
     ensures { λ r. ⌜ r ≡ isPassed (now (scratch .entry)) level found x ⌝ }
 {
     if sets::contains(scratch, slot(level, true) + x) {
         return true;
+    }
+    if found {
+        return false;
     }
     sets::contains(scratch, slot(level, found) + x)
 }
 
 // Notes that the search has come by the state. The first depth is come by once only.
 fn pass(scratch: &mut [u8], level: usize, found: bool, x: usize)
-    requires { ⌜ (level < 6) × (x < stateCount) × (passedAt + 12 * setLength ≤ length (now scratch)) ⌝ }
+    requires { ⌜ (level < writtenPlaces) × (x < stateCount) × (passedEnd ≤ length (now scratch)) ⌝ }
     ensures { λ _. ⌜ now (scratch .exit) ≡ withPassed (now (scratch .entry)) level found x ⌝ }
 {
     if level == 0 {
@@ -183,7 +188,31 @@ fn store(log: &mut [u8], job: Job, after: u32, trail: Trail, count: usize) -> us
     job.n + 1
 }
 
-// A path ends in the state: its record is added if its end was not seen before. A path without a record of the last round adds nothing.
+// Whether a record has the rule's letter and states before and the end x.
+fn is_held(log: &[u8], scratch: &[u8], job: Job, x: usize) -> bool
+    requires { ⌜ Lookable job (now log) (now scratch) × (x < stateCount) ⌝ }
+    ensures { λ r. ⌜ r ≡ heldBy job (now (log .entry)) x ⌝ }
+{
+    if !job.held {
+        return false;
+    }
+    let at = keys_at(job.n);
+    holds(log, scratch, at, job.n, job.base, job.letter, job.before, x)
+}
+
+// Whether the search came by the end x before, or the log holds it. Notes it.
+fn is_known(log: &[u8], scratch: &mut [u8], job: Job, x: usize) -> bool
+    requires { ⌜ Searchable job (now log) (now scratch) × (x < stateCount) ⌝ }
+    ensures { λ r. ⌜ (r ≡ known (heldBy job (now (log .entry))) (now (scratch .entry)) x) × (now (scratch .exit) ≡ withEnd (now (scratch .entry)) x) ⌝ }
+{
+    if sets::contains(scratch, 8 * SEEN + x) {
+        return true;
+    }
+    sets::insert(scratch, 8 * SEEN + x);
+    is_held(log, scratch, job, x)
+}
+
+// A path ends in the state: its record is added if its end is not known. A path without a record of the last round adds nothing.
 fn arrive(
     log: &mut [u8],
     scratch: &mut [u8],
@@ -194,18 +223,36 @@ fn arrive(
     count: usize,
 ) -> usize
     requires { ⌜ Searchable job (now log) (now scratch) × Standing job (now log) (job .count) state trail × (job .base ≤ count) × (count ≤ job .n + 1) ⌝ }
-    ensures { λ r. ⌜ Searched job (arrivals job found state trail) count (now (log .entry)) (now (scratch .entry)) r (now (log .exit)) (now (scratch .exit)) ⌝ }
+    ensures { λ r. ⌜ Searched job (heldBy job (now (log .entry))) (arrivals job found state trail) count (now (log .entry)) (now (scratch .entry)) r (now (log .exit)) (now (scratch .exit)) ⌝ }
 {
     if !found {
         return count;
     }
     let after = restricted(job.mask, state);
-    let x = number(after);
-    if sets::contains(scratch, 8 * SEEN + x) {
+    if is_known(log, scratch, job, number(after)) {
         return count;
     }
-    sets::insert(scratch, 8 * SEEN + x);
     store(log, job, after, trail, count)
+}
+
+// A rule that writes no letter ends in its states after. This is `arrive` once more: with one call alone, in the loop below, the compiler lays that one out
+// in the loop, which saves a call for each end.
+pub fn end_at_once(
+    log: &mut [u8],
+    scratch: &mut [u8],
+    job: Job,
+    state: u32,
+    trail: Trail,
+    count: usize,
+) -> usize
+    requires { ⌜ Searchable job (now log) (now scratch) × Standing job (now log) (job .count) state trail × (job .base ≤ count) × (count ≤ job .n + 1) ⌝ }
+    ensures { λ r. ⌜ Searched job (heldBy job (now (log .entry))) (arrivals job true state trail) count (now (log .entry)) (now (scratch .entry)) r (now (log .exit)) (now (scratch .exit)) ⌝ }
+{
+    let end = restricted(job.mask, state);
+    if is_known(log, scratch, job, number(end)) {
+        return count;
+    }
+    store(log, job, end, trail, count)
 }
 
 // Goes through the paths that read the rest of the job's word from a state, first by the records with the lowest numbers. `count` is the number of
@@ -220,13 +267,10 @@ pub fn explore(
     trail: Trail,
     count: usize,
 ) -> usize
-    requires { ⌜ Searchable job (now log) (now scratch) × Standing job (now log) level state trail × (job .base ≤ count) × (count ≤ job .n + 1) ⌝ }
-    ensures { λ r. ⌜ Searched job (offers job (glances (now (log .entry)) (job .base)) level found (unpacked state) (take level (trail .places))) count (now (log .entry)) (now (scratch .entry)) r (now (log .exit)) (now (scratch .exit)) ⌝ }
+    requires { ⌜ Searchable job (now log) (now scratch) × Standing job (now log) level state trail × (job .base ≤ count) × (count ≤ job .n + 1) × (level < job .count) ⌝ }
+    ensures { λ r. ⌜ Searched job (heldBy job (now (log .entry))) (offers job (glances (now (log .entry)) (job .base)) level found (unpacked state) (take level (trail .places))) count (now (log .entry)) (now (scratch .entry)) r (now (log .exit)) (now (scratch .exit)) ⌝ }
 {
     let width = job.count;
-    if level == width {
-        return arrive(log, scratch, job, state, found, trail, count);
-    }
     let x = number(state);
     if is_passed(scratch, level, found, x) {
         return count;

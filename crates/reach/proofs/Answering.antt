@@ -3,14 +3,14 @@ use mathlib.Core.Path.{_∙_, _≡_, ap, refl, sym}
 use mathlib.Core.Bool.{false}
 use mathlib.Core.Option.{Option, none, some}
 use mathlib.Core.List.{List}
-use Prim.Native.Nat.{_*_, _+_, _<_, _≤_, ℕ}
+use Prim.Native.Nat.{_<_, _≤_, ℕ}
 use native.Mathlib.Omega.{arith}
 use lib.Dec.{eqb}
 use lib.ListN.{length}
 use borrow.Author.Tests.{le-ltb, lt-ltb, ne-eqb}
 use Rattle.model.specs.declared.Answered.{Answered}
 use Rattle.model.specs.declared.Ran.{Ran}
-use Rattle.model.specs.Calls.{answerCall, answerGiven, answerRefusal, capacity, changesNothing, isLong, logAfter, pageAfter, recordsOf, runCall, runGiven, runOf, runRefusal, runVerdict, scratchAfter, scratchNeeded, startPath, verdict, zeros}
+use Rattle.model.specs.Calls.{answerCall, answerGiven, answerRefusal, capacity, changesNothing, isLong, logAfter, pageAfter, recordsOf, runCall, runGiven, runOf, runRefusal, runVerdict, scratchAfter, scratchFor, scratchNeeded, startPath, verdict, zeros}
 use Rattle.model.specs.Demands.{Demand3, LogHolds}
 use Rattle.model.specs.Log.{Path, Record, limit}
 use Rattle.model.specs.Systems.{System}
@@ -56,15 +56,15 @@ run-late sys size (some p) = by-test (isLong (pathSteps (limit sys) (p .numbers)
 
 -- ---- an accepted table
 module _ {table : List ℕ} {t : Table} (holds : Holds table t) {n : ℕ} {log scratch : List ℕ} (e : n ≡ capacity (length log)) where
-  pub answers-short : length scratch < 34000 + 6 * n → Answers (answerCall table log scratch) (Answered.Refused 15 0) log scratch
+  pub answers-short : length scratch < scratchFor n → Answers (answerCall table log scratch) (Answered.Refused 15 0) log scratch
   unfolding answerGiven logAfter scratchAfter
   answers-short h = answers table log scratch (holds-read table t holds) (rw (lt-ltb (length scratch) (scratchNeeded (length log)) (omega arith))) (refl, refl)
 
-  pub runs-short : {page : List ℕ} → length scratch < 34000 + 6 * n → Runs (runCall table log scratch page) (Ran.Refused 15 0) log scratch page
+  pub runs-short : {page : List ℕ} → length scratch < scratchFor n → Runs (runCall table log scratch page) (Ran.Refused 15 0) log scratch page
   unfolding runGiven logAfter scratchAfter pageAfter
   runs-short {page} h = runs table log scratch (holds-read table t holds) page (rw (lt-ltb (length scratch) (scratchNeeded (length log)) (omega arith))) (refl, refl) refl
 
-  module _ (long : 34000 + 6 * n ≤ length scratch) {log′ : List ℕ} where
+  module _ (long : scratchFor n ≤ length scratch) {log′ : List ℕ} where
     pub answers-full : {scratch′ : List ℕ} → NoneLeft table n log scratch log′ scratch′ → Answers (answerCall table log scratch) (Answered.Refused 10 0) log′ scratch′
     unfolding answerGiven logAfter scratchAfter systemIn
     answers-full l = answers table log scratch (holds-read table t holds)

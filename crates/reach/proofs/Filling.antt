@@ -55,6 +55,7 @@ module _ {table : List ℕ} {t : Table} {n : ℕ} {log scratch : List ℕ} (pre 
             short = omega (arith, whole .fits, pre .1 .log-room);
           };
           linked = linked-cleared p (record { room = whole .linked .0; ringed = whole .linked .1 });
+          room = omega (arith, pre .1 .scratch-room, whole .scratch-length);
           highest = whole .last-round;
         };
         log-left = is ∙ ap₂ (λ (a b : ℕ). logBytes (limit sys) ++ replicate (a - b) 0) (whole .log-length) (sym bytes-long);

@@ -9,9 +9,9 @@ ghost use mathlib.Core.Path.{_≡_};
 ghost use Prim.Native.Nat.{_≤_};
 ghost use lib.ListN.{length};
 
-// Two stations, q = s = 2; tasks 0 {0,1}, 1 {0}, 2 {1}; rule 0 (byte 12): task 0, (0,0) to (0,0), writes 1 2; rule 1 (27): task 1, 0 to 1, writes
-// none; rule 2 (42): task 2, the same; accepting (1,1) (57); start (0,0) (62), pile 0 (67); the end (69). One byte stands behind it.
-const T: [u8; 71] = [
+// Two stations, q = s = 2; tasks 0 {0,1}, 1 {0}, 2 {1}; rule 0 (byte 12): task 0, (0,0) to (0,0), writes 1 2; rule 1 (29): task 1, 0 to 1, writes
+// none; rule 2 (46): task 2, the same; accepting (1,1) (63); start (0,0) (68), pile 0 (73); the end (75). One byte stands behind it.
+const T: [u8; 77] = [
     1,
     2,
     2,
@@ -39,6 +39,8 @@ const T: [u8; 71] = [
     2,
     255,
     255,
+    255,
+    255,
     3,
     1,
     0,
@@ -50,6 +52,8 @@ const T: [u8; 71] = [
     255,
     255,
     0,
+    255,
+    255,
     255,
     255,
     255,
@@ -65,6 +69,8 @@ const T: [u8; 71] = [
     255,
     255,
     0,
+    255,
+    255,
     255,
     255,
     255,
@@ -85,8 +91,8 @@ const T: [u8; 71] = [
     8,
 ];
 
-// One station, one state; tasks 0, 1; rule 0 (byte 7): task 0 writes 1 1 1 1; rule 1: task 1 writes none; state 0 accepting, pile 0.
-const FOUR: [u8; 50] = [
+// One station, one state; tasks 0, 1; rule 0 (byte 7): task 0 writes 1 six times; rule 1: task 1 writes none; state 0 accepting, pile 0.
+const SIX: [u8; 54] = [
     1,
     1,
     1,
@@ -104,7 +110,9 @@ const FOUR: [u8; 50] = [
     255,
     255,
     255,
-    4,
+    6,
+    1,
+    1,
     1,
     1,
     1,
@@ -120,6 +128,8 @@ const FOUR: [u8; 50] = [
     255,
     255,
     0,
+    255,
+    255,
     255,
     255,
     255,
@@ -140,7 +150,7 @@ const FOUR: [u8; 50] = [
 ];
 
 // The re-entry table of document 01.
-const REENTRY: [u8; 47] = [
+const REENTRY: [u8; 49] = [
     1,
     2,
     2,
@@ -159,6 +169,8 @@ const REENTRY: [u8; 47] = [
     255,
     255,
     0,
+    255,
+    255,
     255,
     255,
     255,
@@ -410,13 +422,13 @@ fn show_run(table: &[u8], l: usize, s: usize, p: usize) {
 // And a page of p places, at most 1,000,000; the log has 20 records.
 fn show_long(table: &[u8], p: usize) {
     let mut page = [7u16; 1000000];
-    run_on_part(table, &mut page, 480, 34120, p);
+    run_on_part(table, &mut page, 560, 34200, p);
 }
 
-// Both calls with a log of 72 bytes, the scratch for it and a page of 4 places.
+// Both calls with a log of 84 bytes, the scratch for it and a page of 4 places.
 fn show_both(table: &[u8]) {
-    show_answer(table, 72, 34018);
-    show_run(table, 72, 34018, 4);
+    show_answer(table, 84, 34030);
+    show_run(table, 84, 34030, 4);
 }
 
 // ---- tables that are built
@@ -471,6 +483,8 @@ fn append_doubling(out: &mut [u8], at: usize, a: u8, b: u8) -> usize {
             b,
             255,
             255,
+            255,
+            255,
         ],
     )
 }
@@ -507,6 +521,8 @@ fn append_removing(out: &mut [u8], at: usize, a: u8) -> usize {
             255,
             255,
             255,
+            255,
+            255,
         ],
     )
 }
@@ -516,7 +532,7 @@ fn append_ends(out: &mut [u8], at: usize) -> usize {
     append(out, at, &[5u8, 0, 255, 255, 255, 6, 0, 255, 255, 255])
 }
 
-// Doubling with tasks 0 to last; 33 + 17 * last bytes.
+// Doubling with tasks 0 to last; 35 + 19 * last bytes.
 fn build_doubling(out: &mut [u8], last: u8) -> usize
     requires { ⌜ last ≤ 31 ⌝ }
 {
@@ -538,40 +554,40 @@ fn build_pile(out: &mut [u8], n: u8) -> usize {
 }
 
 // ---- the cases
-// Table T with a log of 72 bytes, which its three records fill: 15 by one byte of scratch; then a log of 71 bytes, for two records: 15 first, then 10.
+// Table T with a log of 84 bytes, which its three records fill: 15 by one byte of scratch; then a log of 83 bytes, for two records: 15 first, then 10.
 fn show_bounds(t: &[u8]) {
-    show_answer(t, 72, 34018);
-    show_answer(t, 72, 34017);
-    show_run(t, 72, 34017, 4);
-    show_answer(t, 71, 34012);
-    show_answer(t, 71, 34011);
-    show_run(t, 71, 34012, 4);
+    show_answer(t, 84, 34030);
+    show_answer(t, 84, 34029);
+    show_run(t, 84, 34029, 4);
+    show_answer(t, 83, 34020);
+    show_answer(t, 83, 34019);
+    show_run(t, 83, 34020, 4);
 }
 
 // Pages of 0, 2, 3 and 4 places for the run 0 1 2.
 fn show_pages(t: &[u8]) {
-    show_run(t, 72, 34018, 0);
-    show_run(t, 72, 34018, 2);
-    show_run(t, 72, 34018, 3);
-    show_run(t, 72, 34018, 4);
+    show_run(t, 84, 34030, 0);
+    show_run(t, 84, 34030, 2);
+    show_run(t, 84, 34030, 3);
+    show_run(t, 84, 34030, 4);
 }
 
 // A longer log: zeros behind the records.
 fn show_longer_log(t: &[u8]) {
-    show_answer(t, 100, 34024);
-    show_run(t, 100, 34024, 2);
+    show_answer(t, 116, 34040);
+    show_run(t, 116, 34040, 2);
 }
 
 // Refusals 1 and 9, and of the empty table: no buffer changes.
 fn show_ends() {
     show_both(&T[0..0]);
-    show_both(&T[0..69]);
+    show_both(&T[0..75]);
     show_both(&T);
 }
 
-// A table of 70 bytes in three pieces.
+// A table of 76 bytes in three pieces.
 fn show_pieces(front: &[u8], middle: &[u8], back: &[u8]) {
-    let mut out = [0u8; 70];
+    let mut out = [0u8; 76];
     let first = append(&mut out, 0, front);
     let second = append(&mut out, first, middle);
     append(&mut out, second, back);
@@ -580,17 +596,17 @@ fn show_pieces(front: &[u8], middle: &[u8], back: &[u8]) {
 
 // 2 and 3: kinds 0 and 2 in the first place.
 fn show_first_kind(kind: u8) {
-    show_pieces(&[kind], &[2u8], &T[2..70]);
+    show_pieces(&[kind], &[2u8], &T[2..76]);
 }
 
 // 6: rule 1 writes task 0.
 fn show_stray() {
-    show_pieces(&T[0..37], &[1u8, 0], &T[39..70]);
+    show_pieces(&T[0..39], &[1u8, 0], &T[41..76]);
 }
 
 // 8: rule 1 stands in the place of rule 2, too.
 fn show_twin() {
-    show_pieces(&T[0..42], &T[27..42], &T[57..70]);
+    show_pieces(&T[0..46], &T[29..46], &T[63..76]);
 }
 
 fn show_refused() {
@@ -604,55 +620,55 @@ fn show_refused() {
 
 // T without rule 2: unreachable, with the record of rule 1; 16 on any page, after 10 for a log of no record.
 fn show_no_run(t: &[u8]) {
-    show_answer(t, 72, 34018);
-    show_run(t, 72, 34018, 4);
-    show_run(t, 72, 34018, 0);
-    show_run(t, 23, 34000, 4);
+    show_answer(t, 84, 34030);
+    show_run(t, 84, 34030, 4);
+    show_run(t, 84, 34030, 0);
+    show_run(t, 27, 34000, 4);
 }
 
 fn show_unreachable() {
-    let mut out = [0u8; 55];
-    let front = append(&mut out, 0, &T[0..42]);
-    append(&mut out, front, &T[57..70]);
+    let mut out = [0u8; 59];
+    let front = append(&mut out, 0, &T[0..46]);
+    append(&mut out, front, &T[63..76]);
     show_no_run(&out);
 }
 
-// Four written tasks are accepted, with the run 0 1 1 1 1. A count of 5 is refused by 5.
+// Six written tasks are accepted, with the run 0 1 1 1 1 1 1. A count of 7 is refused by 5.
 fn show_written() {
-    show_answer(&FOUR, 72, 34018);
-    show_run(&FOUR, 72, 34018, 5);
-    let mut five = FOUR;
-    five[17] = 5;
-    show_both(&five);
+    show_answer(&SIX, 84, 34030);
+    show_run(&SIX, 84, 34030, 7);
+    let mut seven = SIX;
+    seven[17] = 7;
+    show_both(&seven);
 }
 
 // A start pile of 64: a run of 64 rules, for which a page of 63 is too short. One of 65 is refused by 4.
 fn show_piles() {
-    let mut out = [0u8; 159];
+    let mut out = [0u8; 161];
     build_pile(&mut out, 64);
-    show_answer(&out, 72, 34018);
-    show_run(&out, 72, 34018, 64);
-    show_run(&out, 72, 34018, 63);
-    let mut crowd = [0u8; 161];
+    show_answer(&out, 84, 34030);
+    show_run(&out, 84, 34030, 64);
+    show_run(&out, 84, 34030, 63);
+    let mut crowd = [0u8; 163];
     build_pile(&mut crowd, 65);
     show_both(&crowd);
 }
 
 // Doubling with 19 tasks: 524,287 steps.
 fn show_nineteen() {
-    let mut out = [0u8; 339];
+    let mut out = [0u8; 377];
     build_doubling(&mut out, 18);
-    show_answer(&out, 480, 34120);
+    show_answer(&out, 560, 34200);
     show_long(&out, 524286);
     show_long(&out, 524287);
 }
 
 // With 20: 1,000,001, and 11 on any page.
 fn show_twenty() {
-    let mut out = [0u8; 356];
+    let mut out = [0u8; 396];
     build_doubling(&mut out, 19);
-    show_answer(&out, 480, 34120);
-    show_run(&out, 480, 34120, 0);
+    show_answer(&out, 560, 34200);
+    show_run(&out, 560, 34200, 0);
     show_long(&out, 1000000);
 }
 
@@ -663,16 +679,16 @@ fn show_empty_logs() {
     show_answer(&none, 0, 33999);
     show_run(&none, 0, 34000, 4);
     let accepting = [1u8, 1, 1, 5, 0, 255, 255, 255, 6, 0, 255, 255, 255, 8];
-    show_answer(&accepting, 23, 34000);
+    show_answer(&accepting, 27, 34000);
     show_run(&accepting, 0, 34000, 0);
     show_run(&accepting, 0, 34000, 2);
-    show_answer(&T[0..70], 0, 34000);
+    show_answer(&T[0..76], 0, 34000);
 }
 
 fn main() {
-    show_bounds(&T[0..70]);
-    show_pages(&T[0..70]);
-    show_longer_log(&T[0..70]);
+    show_bounds(&T[0..76]);
+    show_pages(&T[0..76]);
+    show_longer_log(&T[0..76]);
     show_refused();
     show_unreachable();
     show_written();

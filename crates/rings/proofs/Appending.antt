@@ -16,12 +16,12 @@ use Rattle.rings.proofs.Keeping.{ringed-kept}
 -- the records below r are in the rings, and the first from lo on are known
 pub record Appending (log : List ℕ) (n at lo r : ℕ) (s t : List ℕ) : Type 0 where
   pub low : lo ≤ r
-  pub same : OutsideSame n at s t
+  pub same : OutsideSame (6 * n) at s t
   pub ringed : Ringed log r n at t
   pub fresh : Freshened log lo r n at t
 
 pub appending-start : (log : List ℕ) (n at lo : ℕ) (s : List ℕ) → Ringed log lo n at s → Appending log n at lo lo s s
-appending-start log n at lo s w = record { low = omega arith; same = outside-none n at s; ringed = w; fresh = λ h l p q. absurd (omega arith) }
+appending-start log n at lo s w = record { low = omega arith; same = outside-none (6 * n) at s; ringed = w; fresh = λ h l p q. absurd (omega arith) }
 
 module _ (log : List ℕ) (n at lo r : ℕ) (s t : List ℕ) (short : n ≤ noLink) (room : at + 6 * n ≤ length t) (lr : r < n) (w : Appending log n at lo r s t) where
   -- its bucket and the tail there
@@ -80,7 +80,7 @@ module _ (log : List ℕ) (n at lo r : ℕ) (s t : List ℕ) (short : n ≤ noLi
       ] in
       record {
         low = omega (arith, w .low);
-        same = outside-join (w .same) (outside-join (outside-link n at t (2 * n + h) r (omega (arith, lh))) (a .outside));
+        same = outside-join (w .same) (outside-join (outside-link (6 * n) at t (2 * n + h) r (omega (arith, lh))) (a .outside));
         ringed = ring-lengthened log n at begun u r h lr lh short refl begun-ringed tl g a;
         fresh = fresh-begun log n at begun u r h lr lh short refl begun-ringed tl g a lo l (w .low) put known;
       }

@@ -1,4 +1,4 @@
--- Laws of the links, the buckets, and the bytes outside the rings.
+-- Laws of the links, the buckets, and the bytes outside the links.
 use mathlib.Core.Path.{_≡_, refl, sym, subst, _∙_}
 use mathlib.Core.Bool.{true, false}
 use mathlib.Core.Logic.{inl, inr, ⊎-elim}
@@ -15,7 +15,7 @@ use Rattle.model.proofs.Tests.{and-left, and-right}
 use Rattle.numbers.specs.NumberBytes.{withNumber}
 use Rattle.numbers.proofs.NumberBytes.{byte-kept, length-number, number-kept, number-written}
 use Rattle.packs.specs.Packs.{packedBefore}
-use Rattle.rings.specs.Rings.{bucketOf, recordBucket, inBucket, recordReads, noLink, linkPlace, linkAt, Ringed, OutsideSame, withLink}
+use Rattle.rings.specs.Rings.{mixer, scaledTo, bucketOf, recordBucket, inBucket, recordReads, noLink, linkPlace, linkAt, OutsideSame, Ringed, withLink}
 
 -- ---- links
 pub link-same : (s : List ℕ) (at k x : ℕ) → linkPlace at k + 2 ≤ length s → x ≤ noLink → linkAt (withNumber 2 s (linkPlace at k) x) at k ≡ x
@@ -26,29 +26,39 @@ link-other s at k x j ne = number-kept 2 2 s (linkPlace at k) x (linkPlace at j)
 
 -- ---- buckets
 -- a part of n in 65,536 parts is below n
-pub scaled-below : (x n : ℕ) → x < 65536 → 0 < n → x * n / 65536 < n
-scaled-below x n h l = div-lt-iff-lt-mul (zero-lt-suc 65535) .1 (subst (λ (m : ℕ). x * n < m) (mul-comm 65536 n) (mul-lt-mul-of-pos-right h l))
+pub scaled-below : (n mixed : ℕ) → 0 < n → scaledTo n mixed < n
+scaled-below n mixed l =
+    let part : mixed / 65536 % 65536 < 65536 = omega arith in
+    div-lt-iff-lt-mul (zero-lt-suc 65535) .1 (subst (λ (m : ℕ). mixed / 65536 % 65536 * n < m) (mul-comm 65536 n) (mul-lt-mul-of-pos-right part l))
 
 pub bucket-below : (n letter g : ℕ) → 0 < n → bucketOf n letter g < n
 unfolding bucketOf
-bucket-below n letter g h = scaled-below ((g + 8 * letter) * 820265763 / 65536 % 65536) n (omega arith) h
+bucket-below n letter g h = scaled-below n ((g + 8 * letter) * mixer) h
 
-pub reads-bucket : (log : List ℕ) (n letter g i : ℕ) → recordReads log letter g i ≡ true → recordBucket log n i ≡ bucketOf n letter g
-unfolding recordReads recordBucket
-reads-bucket log n letter g i e = rw (
+pub reads-parts : (log : List ℕ) (letter g i : ℕ) → recordReads log letter g i ≡ true → (letterAt log i ≡ letter) × (packedBefore log i ≡ g)
+unfolding recordReads
+reads-parts log letter g i e = (
   eqb-true (letterAt log i) letter (and-left (eqb (letterAt log i) letter) (eqb (packedBefore log i) g) e),
   eqb-true (packedBefore log i) g (and-right (eqb (letterAt log i) letter) (eqb (packedBefore log i) g) e),
 )
 
--- ---- bytes outside the rings
-pub outside-none : (n at : ℕ) (s : List ℕ) → OutsideSame n at s s
-outside-none n at s = record { size = refl; before = λ i h. refl; behind = λ i h. refl }
+pub reads-bucket : (log : List ℕ) (n letter g i : ℕ) → recordReads log letter g i ≡ true → recordBucket log n i ≡ bucketOf n letter g
+unfolding recordBucket
+reads-bucket log n letter g i e = let parts = reads-parts log letter g i e in rw (parts .0, parts .1)
 
-pub outside-join : {n at : ℕ} {s t u : List ℕ} → OutsideSame n at s t → OutsideSame n at t u → OutsideSame n at s u
+-- ---- bytes outside the links
+pub outside-none : (width at : ℕ) (s : List ℕ) → OutsideSame width at s s
+outside-none width at s = record { size = refl; before = λ i h. refl; behind = λ i h. refl }
+
+pub outside-join : {width at : ℕ} {s t u : List ℕ} → OutsideSame width at s t → OutsideSame width at t u → OutsideSame width at s u
 outside-join p q = record { size = q .size ∙ p .size; before = λ i h. q .before i h ∙ p .before i h; behind = λ i h. q .behind i h ∙ p .behind i h }
 
-pub outside-link : (n at : ℕ) (s : List ℕ) (k x : ℕ) → k < 3 * n → OutsideSame n at s (withLink s at k x)
-outside-link n at s k x l = record {
+-- in a wider part
+pub outside-wider : {at : ℕ} {s t : List ℕ} (width wide : ℕ) → width ≤ wide → OutsideSame width at s t → OutsideSame wide at s t
+outside-wider width wide l p = record { size = p .size; before = p .before; behind = λ i h. p .behind i (omega arith) }
+
+pub outside-link : (width at : ℕ) (s : List ℕ) (k x : ℕ) → 2 * k + 2 ≤ width → OutsideSame width at s (withLink s at k x)
+outside-link width at s k x l = record {
   size = length-number 2 s (linkPlace at k) x;
   before = λ i h. byte-kept 2 s (linkPlace at k) x i (inl (omega arith));
   behind = λ i h. byte-kept 2 s (linkPlace at k) x i (inr (omega arith));

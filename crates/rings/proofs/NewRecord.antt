@@ -18,7 +18,7 @@ none-more : (test : ℕ → Bool) (from to : ℕ) → test to ≡ false → None
 none-more test from to f w j a b = elim (ℕ-discrete j to) [ yes e ↦ ap test e ∙ f | no ne ↦ w j a (omega arith) ]
 
 -- one more number that does not pass changes nothing
-tail-more : (test : ℕ → Bool) (base t : ℕ) → test base ≡ false → NoTail test base t ⊎ Greatest test base t → NoTail test (suc base) t ⊎ Greatest test (suc base) t
+pub tail-more : (test : ℕ → Bool) (base t : ℕ) → test base ≡ false → NoTail test base t ⊎ Greatest test base t → NoTail test (suc base) t ⊎ Greatest test (suc base) t
 tail-more test base t f (inl w) = inl (record { is = w .is; none = none-more test 0 base f (w .none) })
 tail-more test base t f (inr w) = inr (record { below = omega (arith, w .below); passes = w .passes; behind = none-more test (suc t) base f (w .behind) })
 
@@ -44,7 +44,7 @@ pub record Alone (n at h r : ℕ) (s u : List ℕ) : Type 0 where
   pub own : linkAt u at (n + r) ≡ r
   pub first : linkAt u at (2 * n + h) ≡ r
   pub kept : (k : ℕ) → (k ≡ h → ⊥) → (k ≡ n + r → ⊥) → (k ≡ 2 * n + h → ⊥) → linkAt u at k ≡ linkAt s at k
-  pub outside : OutsideSame n at s u
+  pub outside : OutsideSame (6 * n) at s u
 
 -- its tail was t
 pub record Behind (n at h t r : ℕ) (s u : List ℕ) : Type 0 where
@@ -52,7 +52,7 @@ pub record Behind (n at h t r : ℕ) (s u : List ℕ) : Type 0 where
   pub own : linkAt u at (n + r) ≡ linkAt s at (n + t)
   pub last : linkAt u at (n + t) ≡ r
   pub kept : (k : ℕ) → (k ≡ h → ⊥) → (k ≡ n + r → ⊥) → (k ≡ n + t → ⊥) → linkAt u at k ≡ linkAt s at k
-  pub outside : OutsideSame n at s u
+  pub outside : OutsideSame (6 * n) at s u
 
 module _ (n at : ℕ) (s : List ℕ) (short : n ≤ noLink) (room : at + 6 * n ≤ length s) (h : ℕ) (lh : h < n) (r : ℕ) (lr : r < n) where
   pub alone : Alone n at h r s (started n at s h r)
@@ -67,7 +67,7 @@ module _ (n at : ℕ) (s : List ℕ) (short : n ≤ noLink) (room : at + 6 * n �
         own = link-other s2 at h r (n + r) (λ e. omega arith) ∙ link-other s1 at (2 * n + h) r (n + r) (λ e. omega arith) ∙ link-same s at (n + r) r (omega arith) (omega arith);
         first = link-other s2 at h r (2 * n + h) (λ e. omega arith) ∙ link-same s1 at (2 * n + h) r (omega arith) (omega arith);
         kept = λ k a b c. link-other s2 at h r k a ∙ link-other s1 at (2 * n + h) r k c ∙ link-other s at (n + r) r k b;
-        outside = outside-join (outside-link n at s (n + r) r (omega arith)) (outside-join (outside-link n at s1 (2 * n + h) r (omega arith)) (outside-link n at s2 h r (omega arith)));
+        outside = outside-join (outside-link (6 * n) at s (n + r) r (omega arith)) (outside-join (outside-link (6 * n) at s1 (2 * n + h) r (omega arith)) (outside-link (6 * n) at s2 h r (omega arith)));
       }
 
   module _ (t : ℕ) (lt : t < r) (small : linkAt s at (n + t) ≤ noLink) where
@@ -84,7 +84,7 @@ module _ (n at : ℕ) (s : List ℕ) (short : n ≤ noLink) (room : at + 6 * n �
           own = link-other s2 at h r (n + r) (λ e. omega arith) ∙ link-other s1 at (n + t) r (n + r) (λ e. omega arith) ∙ link-same s at (n + r) x (omega arith) small;
           last = link-other s2 at h r (n + t) (λ e. omega arith) ∙ link-same s1 at (n + t) r (omega arith) (omega arith);
           kept = λ k a b c. link-other s2 at h r k a ∙ link-other s1 at (n + t) r k c ∙ link-other s at (n + r) x k b;
-          outside = outside-join (outside-link n at s (n + r) x (omega arith)) (outside-join (outside-link n at s1 (n + t) r (omega arith)) (outside-link n at s2 h r (omega arith)));
+          outside = outside-join (outside-link (6 * n) at s (n + r) x (omega arith)) (outside-join (outside-link (6 * n) at s1 (n + t) r (omega arith)) (outside-link (6 * n) at s2 h r (omega arith)));
         }
 
 -- the rings with record r, which falls into bucket h

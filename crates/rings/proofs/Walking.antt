@@ -50,7 +50,7 @@ last-first {log} {base} {n} {at} {s} {r} {w} letter g rings lr b e l =
     none-first log base n letter g (recordBucket log n r) (suc r) lr b (a .behind)
 
 -- records before r, r itself and those behind it
-passed : (test : ℕ → Bool) (from r to : ℕ) → NoneIn test from r → test r ≡ false → NoneIn test (suc r) to → NoneIn test from to
+pub passed : (test : ℕ → Bool) (from r to : ℕ) → NoneIn test from r → test r ≡ false → NoneIn test (suc r) to → NoneIn test from to
 passed test from r to before f behind j p q = elim (decLt j r) [
   | yes y ↦ before j p y
   | no y ↦ elim (ℕ-discrete j r) [ yes z ↦ ap test z ∙ f | no z ↦ behind j (omega arith) q ]

@@ -14,9 +14,17 @@ use Rattle.automaton.specs.StateSets.{firstFrom}
 use Rattle.packs.specs.Packs.{packedBefore}
 
 -- ---- buckets
--- the bucket, of n, of a letter and the states before as one number: the middle bits of a product, scaled to n
+-- the factor that mixes a letter and the states before
+abbrev pub mixer : ℕ
+mixer = 820265763
+
+-- the middle bits of a mixed number, scaled to n
+abbrev pub scaledTo : ℕ → ℕ → ℕ
+scaledTo n mixed = (mixed / 65536 % 65536) * n / 65536
+
+-- the bucket, of n, of a letter and the states before as one number
 unfoldable pub bucketOf : ℕ → ℕ → ℕ → ℕ
-bucketOf n letter g = ((g + 8 * letter) * 820265763 / 65536 % 65536) * n / 65536
+bucketOf n letter g = scaledTo n ((g + 8 * letter) * mixer)
 
 unfoldable pub recordBucket : List ℕ → ℕ → ℕ → ℕ
 recordBucket log n r = bucketOf n (letterAt log r) (packedBefore log r)
@@ -40,8 +48,18 @@ linkPlace at k = at + 2 * k
 abbrev pub linkAt : List ℕ → ℕ → ℕ → ℕ
 linkAt s at k = numberAt 2 s (linkPlace at k)
 
--- ---- rings
+-- of the bytes s only those from at on and below at + width have changed
+pub record OutsideSame (width at : ℕ) (s t : List ℕ) : Type 0 where
+  pub size : length t ≡ length s
+  pub before : (i : ℕ) → i < at → getD t i 0 ≡ getD s i 0
+  pub behind : (i : ℕ) → at + width ≤ i → getD t i 0 ≡ getD s i 0
 
+-- the first n links are none, and no other byte has changed
+pub record Unlinked (n at : ℕ) (s t : List ℕ) : Type 0 where
+  pub none : (k : ℕ) → k < n → linkAt t at k ≡ noLink
+  pub same : OutsideSame (2 * n) at s t
+
+-- ---- rings
 -- there is room for the rings of the log's first base records in n buckets, from the offset at on
 pub record RingRoom (log : List ℕ) (base n at : ℕ) (s : List ℕ) : Type 0 where
   pub fits : base ≤ n
@@ -85,12 +103,6 @@ pub record Ringed (log : List ℕ) (base n at : ℕ) (s : List ℕ) : Type 0 whe
 -- the first record from lo on is known of each bucket that has one
 abbrev pub Freshened : List ℕ → ℕ → ℕ → ℕ → ℕ → List ℕ → Type 0
 Freshened log lo base n at s = (h : ℕ) → h < n → lo ≤ linkAt s at h → linkAt s at h < base → linkAt s at (2 * n + h) ≡ firstFrom (inBucket log n h) lo (base - lo)
-
--- of the bytes s only those of the rings have changed
-pub record OutsideSame (n at : ℕ) (s t : List ℕ) : Type 0 where
-  pub size : length t ≡ length s
-  pub before : (i : ℕ) → i < at → getD t i 0 ≡ getD s i 0
-  pub behind : (i : ℕ) → at + 6 * n ≤ i → getD t i 0 ≡ getD s i 0
 
 -- ---- one record more
 -- link k is x

@@ -13,19 +13,26 @@ ghost use Prim.Native.Nat.{_+_, _-_, _*_, _<_, _≤_};
 ghost use lib.ListN.{length};
 ghost use Rattle.automaton.specs.StateSets.{firstFrom};
 ghost use Rattle.records.specs.Entries.{HasRecord};
-ghost use Rattle.rings.specs.Rings.{bucketOf, recordBucket, recordReads, noLink, linkPlace, linkAt, RingRoom, Ringed, Freshened, OutsideSame, withLink, started, lengthened, appended};
+ghost use Rattle.rings.specs.Rings.{scaledTo, bucketOf, recordBucket, recordReads, noLink, linkPlace, linkAt, OutsideSame, Unlinked, RingRoom, Ringed, Freshened, withLink, started, lengthened, appended};
 
-const NO_LINK: usize = 65535;
+pub const NO_LINK: usize = 65535;
 
-const MIXER: u64 = 820265763;
+pub const MIXER: u64 = 820265763;
+
+// A mixed number's bucket, of n.
+pub fn scaled(n: usize, mixed: u64) -> usize
+    requires { ⌜ (0 < n) × (n ≤ noLink) ⌝ }
+    ensures { λ r. ⌜ (r ≡ scaledTo n mixed) × (r < n) ⌝ }
+{
+    ((mixed / 65536 % 65536) as usize) * n / 65536
+}
 
 // The bucket of a letter and the states before.
 fn bucket(n: usize, letter: u8, g: u32) -> usize
     requires { ⌜ (0 < n) × (n ≤ noLink) ⌝ }
     ensures { λ r. ⌜ (r ≡ bucketOf n letter g) × (r < n) ⌝ }
 {
-    let mixed = (as_u64(g) + 8 * (letter as u64)) * MIXER;
-    ((mixed / 65536 % 65536) as usize) * n / 65536
+    scaled(n, (as_u64(g) + 8 * (letter as u64)) * MIXER)
 }
 
 fn record_bucket(log: &[u8], n: usize, r: usize) -> usize
@@ -36,30 +43,38 @@ fn record_bucket(log: &[u8], n: usize, r: usize) -> usize
     bucket(n, letter_at(log, r), g)
 }
 
-fn link_at(scratch: &[u8], at: usize, k: usize) -> usize
+pub fn link_at(scratch: &[u8], at: usize, k: usize) -> usize
     requires { ⌜ linkPlace at k + 2 ≤ length (now scratch) ⌝ }
     ensures { λ r. ⌜ (r ≡ linkAt (now (scratch .entry)) at k) × (r < 65536) ⌝ }
 {
     wide_two(two_at(scratch, at + 2 * k))
 }
 
-fn put_link(scratch: &mut [u8], at: usize, k: usize, x: usize)
+pub fn put_link(scratch: &mut [u8], at: usize, k: usize, x: usize)
     requires { ⌜ (linkPlace at k + 2 ≤ length (now scratch)) × (x ≤ noLink) ⌝ }
     ensures { λ _. ⌜ now (scratch .exit) ≡ withLink (now (scratch .entry)) at k x ⌝ }
 {
     put_two(scratch, at + 2 * k, x as u16);
 }
 
+// The first n links are none.
+pub fn unlink(scratch: &mut [u8], at: usize, n: usize)
+    requires { ⌜ at + 2 * n ≤ length (now scratch) ⌝ }
+    ensures { λ _. ⌜ Unlinked n at (now (scratch .entry)) (now (scratch .exit)) ⌝ }
+{
+    let mut k = 0;
+    while k < n {
+        put_link(scratch, at, k, NO_LINK);
+        k += 1;
+    }
+}
+
 // No record is in a ring.
 pub fn clear(log: &[u8], scratch: &mut [u8], at: usize, n: usize)
     requires { ⌜ at + 6 * n ≤ length (now scratch) ⌝ }
-    ensures { λ _. ⌜ OutsideSame n at (now (scratch .entry)) (now (scratch .exit)) × Ringed (now (log .entry)) 0 n at (now (scratch .exit)) ⌝ }
+    ensures { λ _. ⌜ OutsideSame (6 * n) at (now (scratch .entry)) (now (scratch .exit)) × Ringed (now (log .entry)) 0 n at (now (scratch .exit)) ⌝ }
 {
-    let mut h = 0;
-    while h < n {
-        put_link(scratch, at, h, NO_LINK);
-        h += 1;
-    }
+    unlink(scratch, at, n);
 }
 
 // Record r alone in the bucket h.
@@ -105,7 +120,7 @@ fn append_record(log: &[u8], scratch: &mut [u8], at: usize, n: usize, from: usiz
 // Appends the records from `from` on and below `to` to the rings of those below `from`.
 pub fn append(log: &[u8], scratch: &mut [u8], at: usize, n: usize, from: usize, to: usize)
     requires { ⌜ (from ≤ to) × RingRoom (now log) to n at (now scratch) × Ringed (now log) from n at (now scratch) ⌝ }
-    ensures { λ _. ⌜ OutsideSame n at (now (scratch .entry)) (now (scratch .exit)) × Ringed (now (log .entry)) to n at (now (scratch .exit)) × Freshened (now (log .entry)) from to n at (now (scratch .exit)) ⌝ }
+    ensures { λ _. ⌜ OutsideSame (6 * n) at (now (scratch .entry)) (now (scratch .exit)) × Ringed (now (log .entry)) to n at (now (scratch .exit)) × Freshened (now (log .entry)) from to n at (now (scratch .exit)) ⌝ }
 {
     let mut r = from;
     while r < to {
@@ -115,7 +130,7 @@ pub fn append(log: &[u8], scratch: &mut [u8], at: usize, n: usize, from: usize, 
 }
 
 // Record r reads the letter with the states g before.
-fn matches(log: &[u8], r: usize, letter: u8, g: u32) -> bool
+pub fn matches(log: &[u8], r: usize, letter: u8, g: u32) -> bool
     requires { ⌜ HasRecord (now log) r ⌝ }
     ensures { λ b. ⌜ b ≡ recordReads (now (log .entry)) letter g r ⌝ }
 {

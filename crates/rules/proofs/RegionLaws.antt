@@ -3,10 +3,12 @@ use mathlib.Core.Path.{_≡_, refl, ap, ap₂, sym, subst, _∙_}
 use mathlib.Core.Bool.{false, _||_}
 use mathlib.Core.Logic.{_⊎_, inl, inr, ⊎-elim}
 use mathlib.Core.List.{List}
-use Prim.Native.Nat.{ℕ, _+_, _/_, _%_, _^_, _<_, _≤_, max}
+use Prim.Native.Nat.{ℕ, zero, suc, _+_, _/_, _%_, _^_, _<_, _≤_, max}
+use native.Mathlib.Nat.{div-div-eq-div-mul, div-one, pow-suc, pow-succ'}
 use native.Mathlib.Decide.{ℕ-discrete, decLt}
 use native.Mathlib.Omega.{arith}
 use lib.Bits.{bitOr, or-shr, or-step}
+use lib.Count.{trailingZeros, under}
 use lib.Dec.{eqb, ltb}
 use lib.ListN.{drop, getD, length, length-drop, length-set, set}
 use lib.Seq.{drop-set-add, getD-drop, getD-set-other, getD-set-same}
@@ -122,3 +124,38 @@ set-added {from} {to} {s} {t} w = record {
   positions = λ p l. in-byte t to p ∙ ap (λ (x : ℕ). eqb (x / 2 ^ (p % 8) % 2) 1) (w .bytes (p / 8) (omega arith))
       ∙ bit-or (getD s (to + p / 8) 0) (getD s (from + p / 8) 0) (p % 8) ∙ ap₂ _||_ (sym (in-byte s to p)) (sym (in-byte s from p));
 }
+
+-- ---- the zeros below a number's lowest one
+under-pos : (d t : ℕ) → 0 < under d t → d ≡ 0
+under-pos zero t l = refl
+under-pos (suc d) t l = absurd (omega arith)
+
+under-more : (d t i : ℕ) → suc i < under d t → i < t
+under-more zero t i l = omega arith
+under-more (suc d) t i l = absurd (omega arith)
+
+under-low : (d t m : ℕ) → (d ≡ 0 → t < m) → under d t < suc m
+under-low zero t m f = let l : t < m = f refl in omega arith
+under-low (suc d) t m f = omega arith
+
+half-shr : (x i : ℕ) → x / 2 ^ suc i ≡ x / 2 / 2 ^ i
+half-shr x i = ap (λ (n : ℕ). x / n) (pow-succ' 2 i) ∙ sym (div-div-eq-div-mul x 2 (2 ^ i))
+
+-- they are zeros
+pub trailing-clear : (k x j : ℕ) → j < trailingZeros k x → x / 2 ^ j % 2 ≡ 0
+unfolding trailingZeros
+trailing-clear zero x j l = absurd (omega arith)
+trailing-clear (suc k) x zero l = ap (λ (n : ℕ). n % 2) (div-one x) ∙ under-pos (x % 2) (trailingZeros k (x / 2)) l
+trailing-clear (suc k) x (suc i) l = ap (λ (n : ℕ). n % 2) (half-shr x i) ∙ trailing-clear k (x / 2) i (under-more (x % 2) (trailingZeros k (x / 2)) i l)
+
+-- there are fewer than the number has digits
+pub trailing-low : (k m x : ℕ) → 0 < x → x < 2 ^ m → trailingZeros k x < m
+unfolding trailingZeros
+trailing-low k zero x a b = absurd (omega arith)
+trailing-low zero (suc m) x a b = omega arith
+trailing-low (suc k) (suc m) x a b = under-low (x % 2) (trailingZeros k (x / 2)) m (λ e. trailing-low k m (x / 2) (omega arith) (omega (arith, pow-suc 2 m)))
+
+-- and one at least, if the lowest digit is zero
+pub trailing-some : (k x : ℕ) → x % 2 ≡ 0 → 0 < trailingZeros (suc k) x
+unfolding trailingZeros
+trailing-some k x e = rw e (omega arith)

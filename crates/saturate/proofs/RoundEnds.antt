@@ -79,7 +79,7 @@ module _ {table : List ℕ} {t : Table} {lo base n k : ℕ} {log s : List ℕ} (
         rw (le-ltb n count fits, has-room fits, empty-is fits, ← counted fits)
   ]
 
-  pub round-ends : {r : Added} → r ≡ cond (ltb n count) NoRoom (cond (eqb count base) Nothing (Records count)) → RoundAdded sys k log r log′ × RoundScratch table t base n log′ s s′
+  pub round-ends : {r : Added} → r ≡ cond (ltb n count) NoRoom (cond (eqb count base) Nothing (Records count)) → RoundAdded sys k log r log′ × RoundScratch table t base n k log′ s s′
   round-ends is = (
     record {
       left = λ l. logged-rounds sys (k + 1) count log′ (d .within (held l));
@@ -87,5 +87,10 @@ module _ {table : List ℕ} {t : Table} {lo base n k : ℕ} {log s : List ℕ} (
       told = is ∙ told-is;
       log-length = d .log-length;
     },
-    record { ringed = d .ringed; prepared = d .prepared; size = d .scratch-length ∙ size },
+    record {
+      ringed = d .ringed;
+      indexed = λ more fits. let l = held (omega (arith, fits, b .room)) in d .indexed (omega (arith, more, counted l));
+      prepared = d .prepared;
+      size = d .scratch-length ∙ size;
+    },
   )

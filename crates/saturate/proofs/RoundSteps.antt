@@ -25,8 +25,9 @@ use Rattle.model.proofs.Skipping.{freshIn}
 use Rattle.model.proofs.Tests.{and-both, and-left, and-right, by-test, or-right}
 use Rattle.automaton.specs.StateSets.{firstFrom}
 use Rattle.automaton.proofs.StateSets.{first-at}
-use Rattle.scratch.specs.Regions.{activeAt, ringsAt}
+use Rattle.scratch.specs.Regions.{activeAt, keysAt, ringsAt}
 use Rattle.rings.specs.Rings.{Ringed}
+use Rattle.keys.specs.Keys.{Indexed}
 use Rattle.table.specs.declared.Table.{Table}
 use Rattle.table.specs.Reading.{Holds, ruleIn, systemIn}
 use Rattle.table.proofs.Layouts.{table-modest}
@@ -195,6 +196,7 @@ pub record HeadsAdded (table : List ℕ) (t : Table) (round : Round) (log₀ s�
   pub earlier : take (round .base * recordLength) log ≡ take (round .base * recordLength) log₀
   pub log-length : length log ≡ length log₀
   pub scratch-length : length s ≡ length s₀
+  pub indexed : round .base < count → Indexed log (round .base) (round .n) (keysAt (round .n)) s
 
 -- no head is left: the log of the round stands, or there is no room for it, and count is then more than n
 pub record HeadsDone (table : List ℕ) (t : Table) (round : Round) (log₀ s₀ : List ℕ) (count : ℕ) (log s : List ℕ) : Type 0 where
@@ -205,6 +207,7 @@ pub record HeadsDone (table : List ℕ) (t : Table) (round : Round) (log₀ s₀
   pub prepared : Prepared table t s
   pub log-length : length log ≡ length log₀
   pub scratch-length : length s ≡ length s₀
+  pub indexed : round .base < count → Indexed log (round .base) (round .n) (keysAt (round .n)) s
 
 module _ {table : List ℕ} {t : Table} {round : Round} {log s : List ℕ} (stands : InRound table t round log s) where
   -- a rule that the round looks at stands at an active position
@@ -217,14 +220,14 @@ module _ {table : List ℕ} {t : Table} {round : Round} {log s : List ℕ} (stan
       λ y. subst P rule (f (x .0) (x .1) (stands .active (x .0) (omega (arith, x .1, table-modest table t (stands .holds) .rules))
       ∙ and-both (ltb (x .0) (t .rules)) (isActive round (ruleIn table (orderedRule s (x .0)))) (lt-ltb (x .0) (t .rules) (x .1)) (ap (isActive round) rule ∙ y))))
 
-  pub heads-start : {position : ℕ} → position ≡ firstFrom (inSet s activeAt) 0 (positionCeiling - 0) → HeadsAdded table t round log s position (round .base) log s
-  heads-start {position} e =
+  pub heads-start : {position : ℕ} (s₁ : List ℕ) → Keeps s₁ s → position ≡ firstFrom (inSet s₁ activeAt) 0 (positionCeiling - 0) → HeadsAdded table t round log s position (round .base) log s
+  heads-start {position} s₁ keeps e =
       let log-is = R table (round .number) in
       let none = ap (logWith table (round .number)) (no-head (systemIn table) log-is (isActive round) (passed-over stands)) ∙ append-nil log-is in
       record {
         last = [];
         standing = stands;
-        passed = passed-none table t (stands .holds) s position e;
+        passed = passed-kept table t (stands .holds) [] position s₁ s keeps (passed-none table t (stands .holds) s₁ position e);
         logged = λ l. subst (λ (rs : List Record). Logged rs (round .base) log) (sym none) (record { size = stands .size; bytes = stands .bytes });
         over = λ l. absurd (omega (arith, stands .room .fits));
         large = omega arith;
@@ -232,6 +235,7 @@ module _ {table : List ℕ} {t : Table} {round : Round} {log s : List ℕ} (stan
         earlier = refl;
         log-length = refl;
         scratch-length = refl;
+        indexed = λ l. absurd (omega arith);
       }
 
 module _ {table : List ℕ} {t : Table} {round : Round} {log₀ s₀ : List ℕ} {position count : ℕ} {log s : List ℕ} (h : HeadsAdded table t round log₀ s₀ position count log s)
@@ -249,6 +253,7 @@ module _ {table : List ℕ} {t : Table} {round : Round} {log₀ s₀ : List ℕ}
     prepared = S .prepared;
     log-length = h .log-length;
     scratch-length = h .scratch-length;
+    indexed = h .indexed;
   }
     where
       whole : count ≤ round .n → logUpTo table (round .number) (h .last) ≡ logAt (systemIn table) (round .number)
@@ -309,10 +314,13 @@ module _ {table : List ℕ} {t : Table} {round : Round} {log₀ s₀ : List ℕ}
       over-next : round .n < r .count → round .n < length (logAt (systemIn table) (round .number))
       over-next l = omega (arith, d .counted, grown, upTo-short table (round .number) (S .begun) (headAt table s position))
 
+      standing-next : InRound table t round log′ s′
+      standing-next = round-kept table t (S .holds) s s′ (d .kept) round log log′ S (d .front) (d .log-length) (d .scratch-length) (d .rings)
+
       pub heads-turn : HeadsAdded table t round log₀ s₀ (r .position) (r .count) log′ s′
       heads-turn = record {
         last = headAt table s position;
-        standing = round-kept table t (S .holds) s s′ (d .kept) round log log′ S (d .front) (d .log-length) (d .scratch-length) (d .rings);
+        standing = standing-next;
         passed = passed-kept table t (S .holds) (headAt table s position) (r .position) s s′ (d .kept)
             (passed-next table t s (S .prepared .ordered) position (r .position) below (d .next));
         logged = logged-next;
@@ -322,6 +330,7 @@ module _ {table : List ℕ} {t : Table} {round : Round} {log₀ s₀ : List ℕ}
         earlier = d .front ∙ h .earlier;
         log-length = d .log-length ∙ h .log-length;
         scratch-length = d .scratch-length ∙ h .scratch-length;
+        indexed = λ l. standing-next .indexed position below (active-kept table t (S .holds) s s′ (d .kept) position (omega (arith, below, table-modest table t (S .holds) .rules)) ∙ head-active);
       }
 
       pub rules-fewer : t .rules - r .position < t .rules - position

@@ -18,7 +18,7 @@ use Rattle.model.proofs.Limit.{ByteSystem, limit-saturated}
 use Rattle.model.proofs.Rounds.{before-saturated, limit-longest, rounds-limit}
 use Rattle.model.proofs.AcceptedTables.{accepted-bytes}
 use Rattle.model.proofs.RecordBytes.{length-log}
-use Rattle.scratch.specs.Regions.{ringsAt, transitionCodesAt}
+use Rattle.scratch.specs.Regions.{linksEnd, transitionCodesAt}
 use Rattle.sorting.specs.Sorting.{keyPlace}
 use Rattle.table.specs.declared.Table.{Table}
 use Rattle.table.specs.Reading.{Holds, itemsIn, systemIn}
@@ -53,7 +53,7 @@ saturating-start b = record { begins = b; growing = λ j h. absurd (not-suc-le-z
 
 -- a round more
 module _ {table : List ℕ} {t : Table} {n : ℕ} {log₀ s₀ log s : List ℕ} {lo base k : ℕ} (h : Saturating table t n log₀ s₀ log s lo base k)
-    {r : Added} {log′ s′ : List ℕ} (a : RoundAdded (systemIn table) k log r log′) (c : RoundScratch table t base n log′ s s′) where
+    {r : Added} {log′ s′ : List ℕ} (a : RoundAdded (systemIn table) k log r log′) (c : RoundScratch table t base n k log′ s s′) where
   abbrev sys : System
   sys = systemIn table
 
@@ -94,6 +94,7 @@ module _ {table : List ℕ} {t : Table} {n : ℕ} {log₀ s₀ log s : List ℕ}
         fits = omega (arith, told .0, told .1, h .begins .room);
         scratch = omega (arith, h .begins .scratch, c .size);
         ringed = c .ringed;
+        indexed = c .indexed (omega (arith, told .2, grown)) (omega (arith, told .1, h .begins .room));
         prepared = c .prepared;
       };
       growing = λ j l. elim (decLt j k) [
@@ -143,10 +144,10 @@ module _ (table : List ℕ) (t : Table) (holds : Holds table t) where
   initial-size = initial-length (systemIn table) (transitions-distinct table t holds) ∙ transitions-count table t holds
 
   -- the codes of the transitions have room
-  pub codes-room : (n : ℕ) (s : List ℕ) → ringsAt + 6 * n ≤ length s → keyPlace transitionCodesAt (t .transitions + t .transitions) ≤ length s
+  pub codes-room : (n : ℕ) (s : List ℕ) → linksEnd n ≤ length s → keyPlace transitionCodesAt (t .transitions + t .transitions) ≤ length s
   codes-room n s scratch = omega (arith, table-modest table t holds .transitions)
 
-module _ {table : List ℕ} {t : Table} {n : ℕ} (log s log′ s′ : List ℕ) (p : Holds table t × (n ≡ capacity (length log)) × (ringsAt + 6 * n ≤ length s))
+module _ {table : List ℕ} {t : Table} {n : ℕ} (log s log′ s′ : List ℕ) (p : Holds table t × (n ≡ capacity (length log)) × (linksEnd n ≤ length s))
     {r : Bool} (w : (r ≡ not (ltb n (t .transitions))) × ((log′ ≡ initialLog (systemIn table) log (t .transitions) n) × (length s′ ≡ length s))) where
   pub initial-full : not r ≡ true → SaturatedFull table n log s log′ s′
   initial-full y =
@@ -187,6 +188,7 @@ module _ {table : List ℕ} {t : Table} {n : ℕ} (log s log′ s′ : List ℕ)
         fits = ltb-false n (t .transitions) few;
         scratch = omega (arith, p .2, w .1 .1, ready .size);
         ringed = ready .ringed;
+        indexed = ready .indexed;
         prepared = ready .prepared;
       }
 

@@ -1,6 +1,6 @@
 -- The scratch of a round: made ready, the letters of the last round gathered, and its rules made active.
 use mathlib.Core.Path.{_≡_, ap, subst, sym, _∙_}
-use mathlib.Core.Bool.{true, _&&_}
+use mathlib.Core.Bool.{true, true≢false, _&&_}
 use mathlib.Core.Logic.{inl, inr}
 use mathlib.Core.List.{List, _++_}
 use Prim.Native.Nat.{ℕ, _+_, _-_, _*_, _/_, _%_, _^_, _<_, _≤_}
@@ -18,10 +18,14 @@ use Rattle.model.specs.Systems.{System}
 use Rattle.model.proofs.Lists.{each-get, getD-mem}
 use Rattle.model.proofs.RecordBytes.{from-letter, length-log, record-from}
 use Rattle.model.proofs.Tests.{by-test}
-use Rattle.automaton.specs.StateSets.{Cleared, setLength}
-use Rattle.scratch.specs.Regions.{activeAt, orderAt, passedAt, ringsAt, writersAt}
+use Rattle.automaton.specs.StateSets.{Cleared, firstFrom, setLength}
+use Rattle.automaton.proofs.StateSets.{first-at}
+use Rattle.scratch.specs.Regions.{activeAt, keysAt, orderAt, passedAt, ringsAt, writersAt}
 use Rattle.rings.specs.Rings.{Freshened, OutsideSame, Ringed}
 use Rattle.rings.proofs.Keeping.{freshened-scratch, ringed-scratch}
+use Rattle.rings.proofs.Links.{outside-none}
+use Rattle.keys.specs.Keys.{Indexed, KeyRoom}
+use Rattle.keys.proofs.Keeping.{indexed-scratch}
 use Rattle.table.specs.declared.Table.{Table}
 use Rattle.table.specs.Reading.{Holds, ruleIn, systemIn}
 use Rattle.table.proofs.Layouts.{table-modest}
@@ -33,8 +37,9 @@ use Rattle.rules.proofs.RegionLaws.{bit-or, in-same}
 use Rattle.rules.proofs.RuleOrder.{ordered-same}
 use Rattle.heads.specs.declared.Round.{Round}
 use Rattle.heads.specs.Rounds.{InRound, Prepared, earlierLog, isActive}
+use Rattle.heads.proofs.InRounds.{Keeps, active-kept, keep-prepared, rule-kept}
 use Rattle.saturate.specs.Adding.{HoldsRounds, roundsLength}
-use Rattle.saturate.specs.Rounds.{Activated, FreshLetters, LetterIn, Logged, RoundBegins, ScratchReady}
+use Rattle.saturate.specs.Rounds.{Activated, FreshLetters, KeysIndexed, LetterIn, Logged, RoundBegins, ScratchReady}
 
 -- the bytes from one offset on and below another are the same
 abbrev SameIn : ℕ → ℕ → List ℕ → List ℕ → Type 0
@@ -62,24 +67,29 @@ module _ (table : List ℕ) (t : Table) (holds : Holds table t) (s s′ : List �
   }
 
 -- ---- the scratch made ready
-pub scratch-ready : {table : List ℕ} {t : Table} → Holds table t → {n : ℕ} {log s s₁ s₂ s₃ s₄ : List ℕ} → RulesOrdered table (t .rules) s s₁
-    → WritersMarked table (t .letters) (t .rules) s₁ s₂ → Cleared passedAt (passedAt + 1024) s₂ s₃ → OutsideSame n ringsAt s₃ s₄ → Ringed log 0 n ringsAt s₄
-    → ScratchReady table t n log s s₄
-scratch-ready {table} {t} holds {s₁ = s₁} {s₂ = s₂} {s₄ = s₄} o w c k r = record {
-  size = k .size ∙ c .size ∙ w .kept .size ∙ o .size;
+pub scratch-ready : {table : List ℕ} {t : Table} → Holds table t → {n : ℕ} {log s s₁ s₂ s₃ s₄ s₅ : List ℕ} → RulesOrdered table (t .rules) s s₁
+    → WritersMarked table (t .letters) (t .rules) s₁ s₂ → Cleared passedAt (passedAt + 1024) s₂ s₃ → OutsideSame (6 * n) ringsAt s₃ s₄ → Ringed log 0 n ringsAt s₄
+    → OutsideSame (4 * n) (keysAt n) s₄ s₅ → Indexed log 0 n (keysAt n) s₅ → ScratchReady table t n log s s₅
+scratch-ready {table} {t} holds {n} {log} {s₁ = s₁} {s₂ = s₂} {s₄ = s₄} {s₅ = s₅} o w c k r x y = record {
+  size = x .size ∙ k .size ∙ c .size ∙ w .kept .size ∙ o .size;
   prepared = record {
-    ordered = ordered-same table (t .rules) s₁ s₄ (λ p l. same (orderAt + p) (omega (arith, few)) ∙ w .kept .outside (orderAt + p) (inl (omega (arith, few)))) (o .ordered);
-    writers = writers-kept table t holds s₂ s₄ (λ i a b. same i (omega arith)) (λ i a b. same i b) (w .writers);
-    first-depth = λ i a b. k .before i (omega arith) ∙ c .zero i a (omega arith);
+    ordered = ordered-same table (t .rules) s₁ s₅ (λ p l. same (orderAt + p) (omega (arith, few)) ∙ w .kept .outside (orderAt + p) (inl (omega (arith, few)))) (o .ordered);
+    writers = writers-kept table t holds s₂ s₅ (λ i a b. same i (omega arith)) (λ i a b. same i b) (w .writers);
+    first-depth = λ i a b. x .before i (omega arith) ∙ k .before i (omega arith) ∙ c .zero i a (omega arith);
   };
-  ringed = r;
+  ringed = ringed-scratch log 0 n ringsAt s₄ s₅ (omega arith) (λ i a b. x .before i (omega arith)) r;
+  indexed = y;
 }
   where
     few : t .rules ≤ 200
     few = table-modest table t holds .rules
 
-    same : (i : ℕ) → i < passedAt → getD s₄ i 0 ≡ getD s₂ i 0
-    same i l = k .before i (omega arith) ∙ c .before i l
+    same : (i : ℕ) → i < passedAt → getD s₅ i 0 ≡ getD s₂ i 0
+    same i l = x .before i (omega arith) ∙ k .before i (omega arith) ∙ c .before i l
+
+-- ---- the index
+pub keys-skipped : {t : Table} {base n position : ℕ} {log s : List ℕ} → t .rules ≤ position → KeysIndexed t base n position log s s
+keys-skipped {n = n} {s = s} l = record { outside = outside-none (4 * n) (keysAt n) s; indexed = λ h. absurd (omega arith) }
 
 -- ---- letters
 power-bit : (k : ℕ) → hasLetter (2 ^ k) k ≡ true
@@ -136,9 +146,9 @@ module _ (table : List ℕ) (t : Table) (holds : Holds table t) (base number : �
       subst (λ (x : ℕ). hasLetter fresh x ≡ true) e (f i a b)
 
 -- ---- the round stands
--- the records of round k are in rings, their letters gathered, and the positions made active
+-- the records of round k are in rings, their letters gathered, the positions made active, and the keys indexed
 module _ {table : List ℕ} {t : Table} {lo base n k : ℕ} {log s : List ℕ} {fresh : ℕ} {s₁ s₂ : List ℕ} (b : RoundBegins table t lo base n k log s)
-    (o : OutsideSame n ringsAt s s₁) (letters : FreshLetters log lo base fresh) (a : Activated t (k + 1) fresh s₁ s₂) where
+    (o : OutsideSame (6 * n) ringsAt s s₁) (letters : FreshLetters log lo base fresh) (a : Activated t (k + 1) fresh s₁ s₂) where
   abbrev round : Round
   round = record { number = k + 1; lo = lo; base = base; fresh = fresh; n = n }
 
@@ -152,23 +162,59 @@ module _ {table : List ℕ} {t : Table} {lo base n k : ℕ} {log s : List ℕ} {
     | no e ↦ gathered-active table t (b .holds) fresh s₁ s₂ (prepared-rings .writers) (prepared-rings .ordered) (a .later e) .positions p l ∙ rw (ne-eqb (k + 1) 1 e)
   ]
 
-  pub round-stands : Ringed log base n ringsAt s₁ → Freshened log lo base n ringsAt s₁ → InRound table t round log s₂
-  round-stands r f =
-      let earlier : k ≡ k + 1 - 1 = omega arith in
-      let logged : Logged (earlierLog table (k + 1)) base log = subst (λ (j : ℕ). Logged (logAt (systemIn table) j) base log) earlier (rounds-logged (systemIn table) k base log (b .size) (b .handed)) in
-      record {
-        holds = b .holds;
-        begun = omega arith;
-        late = omega (arith, b .late);
-        size = logged .size;
-        bytes = logged .bytes;
-        records = omega (arith, b .room);
-        low = b .low;
-        last = λ l. b .last (omega arith) ∙ ap (λ (j : ℕ). length (logAt (systemIn table) j)) (let e : k - 1 ≡ k + 1 - 2 = omega arith in e);
-        fresh = letters-fresh table t (b .holds) base (k + 1) log logged lo fresh letters;
-        room = record { fits = b .fits; short = omega (arith, b .room); records = omega (arith, b .fits, b .room); room = omega (arith, b .scratch, o .size, a .kept .size) };
-        ringed = ringed-scratch log base n ringsAt s₁ s₂ (b .fits) (λ i p q. a .kept .outside i (inr (omega arith))) r;
-        freshened = freshened-scratch log lo base n ringsAt s₁ s₂ (λ i p q. a .kept .outside i (inr (omega arith))) f;
-        prepared = prepared-kept table t (b .holds) s₁ s₂ (λ i p q. a .kept .outside i (inl q)) (λ i p q. a .kept .outside i (inr (omega arith))) prepared-rings;
-        active = looked-at;
-      }
+  prepared-active : Prepared table t s₂
+  prepared-active = prepared-kept table t (b .holds) s₁ s₂ (λ i p q. a .kept .outside i (inl q)) (λ i p q. a .kept .outside i (inr (omega arith))) prepared-rings
+
+  size-active : length s₂ ≡ length s
+  size-active = a .kept .size ∙ o .size
+
+  key-room : KeyRoom log base n (keysAt n) s₂
+  key-room = record { fits = b .fits; short = omega (arith, b .room); records = omega (arith, b .fits, b .room); room = omega (arith, b .scratch, size-active) }
+
+  -- the index may be lengthened
+  pub may-index : (lo ≤ base) × KeyRoom log base n (keysAt n) s₂ × Indexed log lo n (keysAt n) s₂
+  may-index = (
+    b .low,
+    key-room,
+    indexed-scratch log lo n (keysAt n) s s₂ (omega (arith, b .low, b .fits)) (λ i p q. a .kept .outside i (inr (omega arith)) ∙ o .behind i (omega arith)) (b .indexed),
+  )
+
+  module _ {position : ℕ} {s₃ : List ℕ} (first : position ≡ firstFrom (inSet s₂ activeAt) 0 (positionCeiling - 0)) (x : KeysIndexed t base n position log s₂ s₃) where
+    pub keys-keep : Keeps s₂ s₃
+    keys-keep i p q = x .outside .before i (omega arith)
+
+    links-kept : (i : ℕ) → ringsAt ≤ i → i < keysAt n → getD s₃ i 0 ≡ getD s₁ i 0
+    links-kept i p q = x .outside .before i q ∙ a .kept .outside i (inr (omega arith))
+
+    -- a position that is active is not before the first one
+    indexed-at : (p : ℕ) → p < t .rules → inSet s₃ activeAt p ≡ true → Indexed log base n (keysAt n) s₃
+    indexed-at p l y =
+        let few = table-modest table t (b .holds) .rules in
+        let lit : inSet s₂ activeAt p ≡ true = sym (active-kept table t (b .holds) s₂ s₃ keys-keep p (omega arith)) ∙ y in
+        elim (decLt p position) [
+          | yes e ↦ absurd (true≢false (sym lit ∙ first-at (inSet s₂ activeAt) 0 (positionCeiling - 0) position first .fails p (omega arith) e))
+          | no e ↦ x .indexed (omega arith)
+        ]
+
+    pub round-stands : Ringed log base n ringsAt s₁ → Freshened log lo base n ringsAt s₁ → InRound table t round log s₃
+    round-stands r f =
+        let earlier : k ≡ k + 1 - 1 = omega arith in
+        let logged : Logged (earlierLog table (k + 1)) base log = subst (λ (j : ℕ). Logged (logAt (systemIn table) j) base log) earlier (rounds-logged (systemIn table) k base log (b .size) (b .handed)) in
+        record {
+          holds = b .holds;
+          begun = omega arith;
+          late = omega (arith, b .late);
+          size = logged .size;
+          bytes = logged .bytes;
+          records = omega (arith, b .room);
+          low = b .low;
+          last = λ l. b .last (omega arith) ∙ ap (λ (j : ℕ). length (logAt (systemIn table) j)) (let e : k - 1 ≡ k + 1 - 2 = omega arith in e);
+          fresh = letters-fresh table t (b .holds) base (k + 1) log logged lo fresh letters;
+          room = record { fits = b .fits; short = omega (arith, b .room); records = omega (arith, b .fits, b .room); room = omega (arith, b .scratch, size-active, x .outside .size) };
+          ringed = ringed-scratch log base n ringsAt s₁ s₃ (b .fits) (λ i p q. links-kept i p q) r;
+          freshened = freshened-scratch log lo base n ringsAt s₁ s₃ (λ i p q. links-kept i p q) f;
+          prepared = keep-prepared table t (b .holds) s₂ s₃ keys-keep prepared-active;
+          active = λ p l. active-kept table t (b .holds) s₂ s₃ keys-keep p l ∙ looked-at p l ∙ rule-kept table t (b .holds) s₂ s₃ keys-keep (isActive round) p;
+          links = omega (arith, b .scratch, size-active, x .outside .size);
+          indexed = indexed-at;
+        }

@@ -7,11 +7,11 @@ use crate::rounds::prepare;
 use initial::write_initial;
 use table::Table;
 ghost use mathlib.Core.Path.{_≡_};
-ghost use Prim.Native.Nat.{_+_, _*_, _≤_};
+ghost use Prim.Native.Nat.{_≤_};
 ghost use lib.ListN.{length};
 ghost use Rattle.model.specs.Calls.{capacity};
 ghost use Rattle.table.specs.Reading.{Holds};
-ghost use Rattle.scratch.specs.Regions.{ringsAt};
+ghost use Rattle.scratch.specs.Regions.{linksEnd};
 ghost use Rattle.saturate.specs.Limits.{SaturatedDone};
 ghost use Rattle.saturate.specs.Rounds.{RoundBegins};
 
@@ -52,7 +52,7 @@ fn add_rounds(table: &[u8], t: Table, log: &mut [u8], scratch: &mut [u8], n: usi
 // Fills the log with the records of the limit, which are then in rings. n is the number of records that the log can hold. What it leaves in the rest of the
 // scratch, and in the log behind them or where it has no room, is not decided.
 pub fn saturate(table: &[u8], t: Table, log: &mut [u8], scratch: &mut [u8], n: usize) -> Saturated
-    requires { ⌜ Holds (now table) t × (n ≡ capacity (length (now log))) × (ringsAt + 6 * n ≤ length (now scratch)) ⌝ }
+    requires { ⌜ Holds (now table) t × (n ≡ capacity (length (now log))) × (linksEnd n ≤ length (now scratch)) ⌝ }
     ensures { λ r. ⌜ SaturatedDone (now (table .entry)) n (now (log .entry)) (now (scratch .entry)) r (now (log .exit)) (now (scratch .exit)) ⌝ }
 {
     if !write_initial(table, t, log, scratch, n) {

@@ -13,6 +13,7 @@ use rules::order_rules;
 use scratch::DEPTH_BYTES;
 use scratch::PASSED;
 use scratch::RINGS;
+use scratch::keys_at;
 use table::Table;
 ghost use mathlib.Core.Path.{_≡_};
 ghost use mathlib.Core.Bool.{cond, _&&_};
@@ -22,20 +23,22 @@ ghost use lib.ListN.{length};
 ghost use Rattle.model.specs.Records.{letterAt, recordLength};
 ghost use Rattle.records.specs.Entries.{HasRecord};
 ghost use Rattle.table.specs.Reading.{Holds, systemIn};
-ghost use Rattle.scratch.specs.Regions.{ringsAt};
+ghost use Rattle.scratch.specs.Regions.{keysAt, linksEnd};
+ghost use Rattle.keys.specs.Keys.{Indexed, KeyRoom};
 ghost use Rattle.rules.specs.Rules.{letterCeiling, ruleCeiling, rulesEnd};
 ghost use Rattle.saturate.specs.Adding.{RoundAdded};
-ghost use Rattle.saturate.specs.Rounds.{Activated, FreshLetters, LetterIn, RoundBegins, RoundScratch, ScratchReady};
+ghost use Rattle.saturate.specs.Rounds.{Activated, FreshLetters, KeysIndexed, LetterIn, RoundBegins, RoundScratch, ScratchReady};
 
-// Makes the scratch ready for the rounds: the rules in order, no state passed, and no record in a ring.
+// Makes the scratch ready for the rounds: the rules in order, no state passed, and no record in a ring or in the index.
 pub fn prepare(table: &[u8], t: Table, log: &[u8], scratch: &mut [u8], n: usize)
-    requires { ⌜ Holds (now table) t × (ringsAt + 6 * n ≤ length (now scratch)) ⌝ }
+    requires { ⌜ Holds (now table) t × (linksEnd n ≤ length (now scratch)) × (n ≤ 65535) ⌝ }
     ensures { λ _. ⌜ ScratchReady (now (table .entry)) t n (now (log .entry)) (now (scratch .entry)) (now (scratch .exit)) ⌝ }
 {
     order_rules(table, t, scratch);
     mark_writers(table, t, scratch);
     clear_part(scratch, PASSED, PASSED + DEPTH_BYTES);
     rings::clear(log, scratch, RINGS, n);
+    keys::clear(log, scratch, keys_at(n), n);
 }
 
 // The letters with that of record r.
@@ -72,6 +75,25 @@ fn set_active(t: Table, scratch: &mut [u8], number: usize, fresh: u32)
     activate(scratch, t.letters, fresh);
 }
 
+// Adds the records from lo on and below base to the index, unless no rule stands at the first active position, so that nothing is looked up.
+fn index_keys(
+    t: Table,
+    log: &[u8],
+    scratch: &mut [u8],
+    lo: usize,
+    base: usize,
+    n: usize,
+    position: usize,
+)
+    requires { ⌜ (lo ≤ base) × KeyRoom (now log) base n (keysAt n) (now scratch) × Indexed (now log) lo n (keysAt n) (now scratch) ⌝ }
+    ensures { λ _. ⌜ KeysIndexed t base n position (now (log .entry)) (now (scratch .entry)) (now (scratch .exit)) ⌝ }
+{
+    if t.rules <= position {
+        return;
+    }
+    keys::append(log, scratch, keys_at(n), n, lo, base);
+}
+
 // Whether there is a head left, and the log has room.
 fn goes_on(t: Table, at: Reached, n: usize) -> bool
     ensures { λ r. ⌜ r ≡ (leb (at .count) n && ltb (at .position) (t .rules)) ⌝ }
@@ -102,8 +124,8 @@ fn told(base: usize, count: usize, n: usize) -> Added
     Added::Records { count }
 }
 
-// Adds round k + 1 to the records of rounds up to k, which are `base`, those of round k from lo on. n is the number of records that the log can hold. The
-// rings have the records below lo, and get those of round k. Each record is written with its steps.
+// Adds round k + 1 to the records of rounds up to k, which are `base`, those of round k from lo on. n is the number of records that the log can hold. Rings
+// and index have the records below lo, and get those of round k. Each record is written with its steps.
 pub fn add_round(
     table: &[u8],
     t: Table,
@@ -116,12 +138,14 @@ pub fn add_round(
 ) -> Added
     requires { ⌜ RoundBegins (now table) t lo base n k (now log) (now scratch) ⌝ }
     ensures request_2_3 { λ r. ⌜ RoundAdded (systemIn (now (table .entry))) k (now (log .entry)) r (now (log .exit)) ⌝ }
-    ensures scratch { λ r. ⌜ RoundScratch (now (table .entry)) t base n (now (log .exit)) (now (scratch .entry)) (now (scratch .exit)) ⌝ }
+    ensures scratch { λ r. ⌜ RoundScratch (now (table .entry)) t base n k (now (log .exit)) (now (scratch .entry)) (now (scratch .exit)) ⌝ }
 {
     append(log, scratch, RINGS, n, lo, base);
     let fresh = fresh_letters(log, lo, base);
     let number = k + 1;
     set_active(t, scratch, number, fresh);
+    let first = next_active(scratch, 0);
+    index_keys(t, log, scratch, lo, base, n, first);
     let round = Round {
         number,
         lo,
@@ -130,7 +154,7 @@ pub fn add_round(
         n,
     };
     let mut at = Reached {
-        position: next_active(scratch, 0),
+        position: first,
         count: base,
     };
     while goes_on(t, at, n) {

@@ -1,8 +1,9 @@
 -- The regions of one phase do not meet.
 use mathlib.Core.List.{[], _∷_}
-use Prim.Native.Nat.{ℕ, _+_, _*_}
+use Prim.Native.Nat.{ℕ, _*_}
 use native.Mathlib.Omega.{arith}
-use Rattle.scratch.specs.Regions.{Apart, region, ringsAt, roundRegions, ruleRegions, startRegions, transitionCodesAt, walkRegions}
+use Rattle.model.specs.Calls.{scratchFor}
+use Rattle.scratch.specs.Regions.{Apart, linkRegions, region, roundRegions, ruleRegions, startRegions, transitionCodesAt, walkRegions}
 
 pub initial-fits : Apart (region transitionCodesAt (8 * 200) ∷ []) 9000
 initial-fits = omega arith
@@ -13,7 +14,10 @@ rules-apart = (omega arith, (omega arith, (omega arith, omega arith)))
 pub rounds-apart : Apart roundRegions 9000
 rounds-apart = (omega arith, (omega arith, (omega arith, (omega arith, (omega arith, (omega arith, omega arith))))))
 
-pub start-apart : (n : ℕ) → Apart (startRegions n) (ringsAt + 6 * n)
+pub links-apart : (n : ℕ) → Apart (linkRegions n) (scratchFor n)
+links-apart n = (omega arith, omega arith)
+
+pub start-apart : (n : ℕ) → Apart (startRegions n) (scratchFor n)
 start-apart n = (omega arith, (omega arith, omega arith))
 
 pub walk-apart : Apart walkRegions 2048

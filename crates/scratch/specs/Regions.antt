@@ -2,6 +2,7 @@
 use mathlib.Core.Bool.{Bool, cond}
 use mathlib.Core.List.{List, [], _∷_}
 use Prim.Native.Nat.{ℕ, _+_, _*_, _≤_}
+use Rattle.model.specs.Tables.{writtenPlaces}
 use Rattle.automaton.specs.StateNumbers.{stateCount}
 use Rattle.automaton.specs.StateSets.{setLength}
 
@@ -48,6 +49,10 @@ writersAt = 1400
 abbrev pub passedAt : ℕ
 passedAt = 2424
 
+-- behind them: two sets for each written letter of a rule
+abbrev pub passedEnd : ℕ
+passedEnd = passedAt + 2 * writtenPlaces * setLength
+
 -- the bit of the state m at a depth, come by with a record of the last round or without one
 abbrev pub passedBit : ℕ → Bool → ℕ → ℕ
 passedBit level found m = 8 * passedAt + (2 * level + cond found 1 0) * stateCount + m
@@ -55,9 +60,16 @@ passedBit level found m = 8 * passedAt + (2 * level + cond found 1 0) * stateCou
 abbrev pub ruleCodesAt : ℕ
 ruleCodesAt = 2424
 
--- the rings of the records
+-- the rings of the records, and behind those of n records the index of their keys
 abbrev pub ringsAt : ℕ
 ringsAt = 34000
+
+abbrev pub keysAt : ℕ → ℕ
+keysAt n = ringsAt + 6 * n
+
+-- the links end there
+abbrev pub linksEnd : ℕ → ℕ
+linksEnd n = keysAt n + 4 * n
 
 -- ---- the start's path
 -- the sets of states, one for each letter of the longest start word and the last one
@@ -95,11 +107,14 @@ region at size = record { at = at; size = size }
 abbrev pub ruleRegions : List Region
 ruleRegions = region orderAt 200 ∷ region activeAt 32 ∷ region writersAt (32 * 32) ∷ region ruleCodesAt (8 * 200) ∷ []
 
--- in a round; what saturation uses beside the rings ends before byte 9,000
+-- in a round; what saturation uses beside the links of n records ends before byte 9,000
 abbrev pub roundRegions : List Region
 roundRegions =
     region seenAt setLength ∷ region newAt setLength ∷ region countsAt 128 ∷ region orderAt 200 ∷ region activeAt 32 ∷ region writersAt (32 * 32)
-    ∷ region passedAt (12 * setLength) ∷ []
+    ∷ region passedAt (2 * writtenPlaces * setLength) ∷ []
+
+abbrev pub linkRegions : ℕ → List Region
+linkRegions n = region ringsAt (6 * n) ∷ region (keysAt n) (4 * n) ∷ []
 
 -- while the start's path is looked for, in a log of n records
 abbrev pub startRegions : ℕ → List Region

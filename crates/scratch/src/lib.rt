@@ -1,6 +1,9 @@
-// Where everything stands in the scratch, phase by phase. Saturation uses the first 9,000 bytes and the rings; the start's path 65 sets, the stack and the
-// rings. specs/Regions.antt has the same regions for proofs, and the law that those of one phase do not meet.
+// Where everything stands in the scratch, phase by phase. Saturation uses the first 9,000 bytes, the rings and the keys; the start's path 65 sets, the stack
+// and the rings. specs/Regions.antt has the same regions for proofs, and the law that those of one phase do not meet.
 use automaton::states::STATES;
+ghost use mathlib.Core.Path.{_≡_};
+ghost use Prim.Native.Nat.{_≤_};
+ghost use Rattle.scratch.specs.Regions.{keysAt};
 
 // The bytes of a set of state numbers.
 pub const SET_BYTES: usize = STATES / 8;
@@ -8,7 +11,7 @@ pub const SET_BYTES: usize = STATES / 8;
 // ---- what is asked of the scratch (document 01, check 15): so many bytes and more for each record that the log can hold; so many for a walk
 pub const NEEDED: usize = 34000;
 
-pub const NEEDED_PER_RECORD: usize = 6;
+pub const NEEDED_PER_RECORD: usize = 10;
 
 pub const NEEDED_BY_WALK: usize = 2048;
 
@@ -33,7 +36,7 @@ pub const ACTIVE: usize = 1368;
 
 pub const WRITERS: usize = 1400;
 
-// The states that a search has gone through: for each of 6 depths a set of those come by without a record of the last round, and one of those with.
+// The states that a search has gone through: for each written letter's depth a set of those come by without a record of the last round, and one of those with.
 // Before the first round the codes of the rules are sorted there, 8 bytes for each of 200.
 pub const PASSED: usize = 2424;
 
@@ -42,11 +45,18 @@ pub const DEPTH_BYTES: usize = 2 * SET_BYTES;
 pub const RULE_CODES: usize = 2424;
 
 // ---- rounds and the start's path
-// The rings of the records, 6 bytes for each.
+// The rings of the records, 6 bytes for each, and behind those of n records the index of their keys, 4 bytes for each.
 pub const RINGS: usize = 34000;
 
+pub fn keys_at(n: usize) -> usize
+    requires { ⌜ n ≤ 65535 ⌝ }
+    ensures { λ r. ⌜ r ≡ keysAt n ⌝ }
+{
+    RINGS + 6 * n
+}
+
 // ---- the start's path and its unfolding
-// The stack of record numbers, 16 bits each: 64 for the start's path, and then over the rings, which the unfolding does not need.
+// The stack of record numbers, 16 bits each: 64 for the start's path, and then over the rings and the keys, which the unfolding does not need.
 pub const STACK: usize = 33872;
 
 // ---- a walk

@@ -13,8 +13,8 @@ use Rattle.model.proofs.Tests.{and-left, and-right}
 use Rattle.model.specs.Automata.{Transition}
 use Rattle.model.specs.Groups.{Processes, processesOf}
 use Rattle.model.specs.Systems.{Rule}
-use Rattle.model.specs.Tables.{locOf, statesOf, writtenPlaces, bodyLength, bodies, byteOf, groupOf, numberOf, absent, ruleOf, transitionOf, valueFits, systemOf}
-use Rattle.table.specs.Places.{bodyAt, bodiesAt, offset, placeOf, bodyOf, counts, processesIn, lettersIn, Modest, Heads, longest}
+use Rattle.model.specs.Tables.{locOf, statesOf, writtenPlaces, bodyLength, bodies, byteOf, groupOf, numberOf, absent, ruleOf, transitionOf, valueFits, systemOf, longest}
+use Rattle.table.specs.Places.{bodyAt, bodiesAt, offset, placeOf, bodyOf, counts, processesIn, lettersIn, Modest, Heads}
 use Rattle.table.specs.Reading.{Holds, itemsIn, systemIn, ruleIn, transitionIn, acceptingIn, pileIn, statesIn, processAt}
 use Rattle.table.specs.declared.Table.{Table}
 use Rattle.table.proofs.Accepted.{Fit, layout}

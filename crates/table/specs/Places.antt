@@ -68,10 +68,6 @@ pub record Modest (t : Table) : Type 0 where
   pub accepting : t .accepting ≤ 64
   pub pile : t .pile ≤ 64
 
--- the bytes of a table with every kind at its ceiling
-abbrev pub longest : ℕ
-longest = 3 * 4 + 2 * 32 + (1 + bodyLength 3) * 200 + 10 * 200 + 5 * 64 + 5 + 2 * 64 + 1
-
 -- the cursor behind one item more, of kind k
 unfoldable pub advanced : Cursor → ℕ → ℕ → Cursor
 advanced c k next =

@@ -3,9 +3,9 @@ use table::Parsed;
 ghost use Prim.Native.Nat.{_≤_};
 ghost use lib.ListN.{length};
 
-// Two stations, q = 2 and 1, s = 3 and 2; tasks 0 {0,1}, 1 {0}, 2 {1}; three rules (bytes 12, 27, 42); three watch transitions (57, 67, 77); three
-// accepting items (87, 92, 97); the start (102), pile 0 1 (107, 109), the end (111). One byte stands behind it.
-const FULL: [u8; 113] = [
+// Two stations, q = 2 and 1, s = 3 and 2; tasks 0 {0,1}, 1 {0}, 2 {1}; three rules (bytes 12, 29, 46); three watch transitions (63, 73, 83); three
+// accepting items (93, 98, 103); the start (108), pile 0 1 (113, 115), the end (117). One byte stands behind it.
+const FULL: [u8; 119] = [
     1,
     2,
     3,
@@ -33,6 +33,8 @@ const FULL: [u8; 113] = [
     2,
     255,
     255,
+    255,
+    255,
     3,
     1,
     1,
@@ -44,6 +46,8 @@ const FULL: [u8; 113] = [
     255,
     255,
     0,
+    255,
+    255,
     255,
     255,
     255,
@@ -60,6 +64,8 @@ const FULL: [u8; 113] = [
     255,
     1,
     2,
+    255,
+    255,
     255,
     255,
     255,
@@ -185,7 +191,7 @@ fn change_all(out: &mut [u8], list: &[u8]) {
 fn show_changed(list: &[u8]) {
     let mut copy = FULL;
     change_all(&mut copy, list);
-    show_part(&copy, 112);
+    show_part(&copy, 118);
 }
 
 // ---- crowds
@@ -223,6 +229,8 @@ fn append_item(out: &mut [u8], at: usize, kind: u8, i: u8) -> usize {
                 255,
                 255,
                 0,
+                255,
+                255,
                 255,
                 255,
                 255,
@@ -285,7 +293,7 @@ fn show_strangers() {
     show_changed(&[0u8, 9]);
     show_changed(&[6u8, 0]);
     show_changed(&[12u8, 255]);
-    show_changed(&[111u8, 9]);
+    show_changed(&[117u8, 9]);
 }
 
 // 3, turn: another kind before any station.
@@ -302,24 +310,24 @@ fn show_no_station_first() {
 // The kind falls.
 fn show_falling_kinds() {
     show_changed(&[8u8, 1]);
-    show_changed(&[27u8, 2]);
-    show_changed(&[67u8, 3]);
-    show_changed(&[92u8, 4]);
-    show_changed(&[109u8, 6]);
-    show_changed(&[111u8, 3]);
+    show_changed(&[29u8, 2]);
+    show_changed(&[73u8, 3]);
+    show_changed(&[98u8, 4]);
+    show_changed(&[115u8, 6]);
+    show_changed(&[117u8, 3]);
 }
 
 // A second start, at once and behind a start made of the last accepting item; 7 and 8 without a start.
 fn show_starts() {
-    show_changed(&[107u8, 6]);
-    show_changed(&[97u8, 6, 99, 0]);
-    show_changed(&[102u8, 5, 103, 2]);
+    show_changed(&[113u8, 6]);
+    show_changed(&[103u8, 6, 105, 0]);
+    show_changed(&[108u8, 5, 109, 2]);
     show_changed(&[6u8, 8]);
 }
 
 // 1, cut: a start pile item in place of the end.
 fn show_late_cut() {
-    show_changed(&[111u8, 7]);
+    show_changed(&[117u8, 7]);
 }
 
 // 5, value: stations with q = 0, q above s, s below q, s above 8; and s = 8.
@@ -357,100 +365,103 @@ fn show_rule_values() {
     show_changed(&[25u8, 0]);
 }
 
-// Four written tasks are accepted, a count of 5 is not.
+// Four, five and six written tasks are accepted, a count of 7 is not; nor are six in which the last is no task.
 fn show_written_counts() {
     show_changed(&[22u8, 4, 25, 1, 26, 2]);
-    show_changed(&[22u8, 5, 25, 1, 26, 2]);
+    show_changed(&[22u8, 5, 25, 1, 26, 2, 27, 1]);
+    show_changed(&[22u8, 6, 25, 1, 26, 2, 27, 1, 28, 2]);
+    show_changed(&[22u8, 7, 25, 1, 26, 2, 27, 1, 28, 2]);
+    show_changed(&[22u8, 6, 25, 1, 26, 2, 27, 1, 28, 3]);
 }
 
 // Later rules.
 fn show_later_rule_values() {
-    show_changed(&[28u8, 3]);
-    show_changed(&[37u8, 1]);
-    show_changed(&[41u8, 0]);
-    show_changed(&[44u8, 0]);
-    show_changed(&[45u8, 1]);
-    show_changed(&[53u8, 3]);
+    show_changed(&[30u8, 3]);
+    show_changed(&[39u8, 1]);
+    show_changed(&[45u8, 0]);
+    show_changed(&[48u8, 0]);
+    show_changed(&[49u8, 1]);
+    show_changed(&[57u8, 3]);
 }
 
 // Watch transitions, the first and the last.
 fn show_transition_values() {
-    show_changed(&[58u8, 3]);
-    show_changed(&[59u8, 3]);
-    show_changed(&[63u8, 3]);
-    show_changed(&[64u8, 2]);
-    show_changed(&[65u8, 0]);
-    show_changed(&[63u8, 1, 65, 0]);
-    show_changed(&[79u8, 3]);
-    show_changed(&[80u8, 0]);
-    show_changed(&[83u8, 3]);
+    show_changed(&[64u8, 3]);
+    show_changed(&[65u8, 3]);
+    show_changed(&[69u8, 3]);
+    show_changed(&[70u8, 2]);
+    show_changed(&[71u8, 0]);
+    show_changed(&[69u8, 1, 71, 0]);
+    show_changed(&[85u8, 3]);
+    show_changed(&[86u8, 0]);
+    show_changed(&[89u8, 3]);
 }
 
 // Accepting items, the start, the start pile.
 fn show_other_values() {
-    show_changed(&[88u8, 3]);
-    show_changed(&[89u8, 2]);
-    show_changed(&[90u8, 0]);
-    show_changed(&[98u8, 255]);
-    show_changed(&[99u8, 2]);
-    show_changed(&[103u8, 2]);
-    show_changed(&[104u8, 1]);
-    show_changed(&[106u8, 0]);
-    show_changed(&[108u8, 3]);
-    show_changed(&[110u8, 3]);
+    show_changed(&[94u8, 3]);
+    show_changed(&[95u8, 2]);
+    show_changed(&[96u8, 0]);
+    show_changed(&[104u8, 255]);
+    show_changed(&[105u8, 2]);
+    show_changed(&[109u8, 2]);
+    show_changed(&[110u8, 1]);
+    show_changed(&[112u8, 0]);
+    show_changed(&[114u8, 3]);
+    show_changed(&[116u8, 3]);
 }
 
 // 255 names no task, in the start pile too.
 fn show_pile_value() {
-    show_changed(&[110u8, 255]);
+    show_changed(&[116u8, 255]);
 }
 
 // 6, stray: the first rule with task 1 writes 1 2; the second writes 0, or 2; the third writes 1, 0, or 2 1.
 fn show_strays() {
     show_changed(&[13u8, 1, 15, 255, 19, 255]);
-    show_changed(&[37u8, 1, 38, 0]);
-    show_changed(&[37u8, 1, 38, 2]);
-    show_changed(&[53u8, 1]);
-    show_changed(&[53u8, 0]);
-    show_changed(&[52u8, 2, 54, 1]);
+    show_changed(&[39u8, 1, 40, 0]);
+    show_changed(&[39u8, 1, 40, 2]);
+    show_changed(&[57u8, 1]);
+    show_changed(&[57u8, 0]);
+    show_changed(&[56u8, 2, 58, 1]);
 }
 
 // 7, re-entry: at station 0, at station 1, at later items, and by another q.
 fn show_reentries() {
-    show_changed(&[63u8, 1]);
-    show_changed(&[64u8, 0]);
-    show_changed(&[73u8, 1]);
-    show_changed(&[83u8, 0]);
+    show_changed(&[69u8, 1]);
+    show_changed(&[70u8, 0]);
+    show_changed(&[79u8, 1]);
+    show_changed(&[89u8, 0]);
     show_changed(&[4u8, 2, 5, 3]);
 }
 
 // 8, twin: the second rule is the first, the third is the second, the third is the first.
 fn show_rule_twins() {
-    show_changed(&[28u8, 0, 29, 0, 30, 0, 33, 1, 34, 0, 37, 2, 38, 1, 39, 2]);
-    show_changed(&[43u8, 1, 44, 1, 45, 255, 48, 0, 49, 255, 52, 0, 53, 255]);
-    show_changed(&[43u8, 0, 44, 0, 48, 1, 52, 2, 53, 1, 54, 2]);
+    show_changed(&[30u8, 0, 31, 0, 32, 0, 35, 1, 36, 0, 39, 2, 40, 1, 41, 2]);
+    show_changed(&[47u8, 1, 48, 1, 49, 255, 52, 0, 53, 255, 56, 0, 57, 255]);
+    show_changed(&[47u8, 0, 48, 0, 52, 1, 56, 2, 57, 1, 58, 2]);
 }
 
 // Watch transitions: the second is the first, the third is the second, the second is made the third.
 fn show_transition_twins() {
-    show_changed(&[68u8, 0, 69, 0, 70, 0, 74, 1]);
-    show_changed(&[79u8, 1]);
-    show_changed(&[69u8, 2]);
+    show_changed(&[74u8, 0, 75, 0, 76, 0, 80, 1]);
+    show_changed(&[85u8, 1]);
+    show_changed(&[75u8, 2]);
 }
 
 // Accepting items, the start made a third of them; tasks of a pile may be equal.
 fn show_other_twins() {
-    show_changed(&[93u8, 2, 94, 1]);
-    show_changed(&[98u8, 0, 99, 0]);
-    show_changed(&[98u8, 2]);
-    show_changed(&[102u8, 5]);
-    show_changed(&[110u8, 0]);
+    show_changed(&[99u8, 2, 100, 1]);
+    show_changed(&[104u8, 0, 105, 0]);
+    show_changed(&[104u8, 2]);
+    show_changed(&[108u8, 5]);
+    show_changed(&[116u8, 0]);
 }
 
 // 9, leftover: the end stands earlier.
 fn show_early_ends() {
-    show_changed(&[107u8, 8]);
-    show_changed(&[109u8, 8]);
+    show_changed(&[113u8, 8]);
+    show_changed(&[115u8, 8]);
 }
 
 // The smallest table, with one byte more, and with two.
@@ -503,6 +514,8 @@ fn show_reentry_table() {
             255,
             255,
             255,
+            255,
+            255,
             4,
             0,
             0,
@@ -532,6 +545,84 @@ fn show_reentry_table() {
     );
 }
 
+// Table T as it was exported with four written places: its first rule is read on into the second, 5 at 12.
+fn show_old_table() {
+    show(
+        &[
+            1u8,
+            2,
+            2,
+            1,
+            2,
+            2,
+            2,
+            3,
+            2,
+            1,
+            2,
+            2,
+            3,
+            0,
+            0,
+            0,
+            255,
+            255,
+            0,
+            0,
+            255,
+            255,
+            2,
+            1,
+            2,
+            255,
+            255,
+            3,
+            1,
+            0,
+            255,
+            255,
+            255,
+            1,
+            255,
+            255,
+            255,
+            0,
+            255,
+            255,
+            255,
+            255,
+            3,
+            2,
+            255,
+            0,
+            255,
+            255,
+            255,
+            1,
+            255,
+            255,
+            0,
+            255,
+            255,
+            255,
+            255,
+            5,
+            1,
+            1,
+            255,
+            255,
+            6,
+            0,
+            0,
+            255,
+            255,
+            7,
+            0,
+            8,
+        ],
+    );
+}
+
 // As many items as the ceiling, and one more: tasks (one stands in the head), rules, watch transitions, accepting, pile.
 fn show_crowds() {
     show_crowd(2, 31);
@@ -548,8 +639,8 @@ fn show_crowds() {
 
 fn main() {
     // the cuts at every length, the whole table, and one byte more
-    show_cuts(&FULL[..112]);
-    show(&FULL[..112]);
+    show_cuts(&FULL[..118]);
+    show(&FULL[..118]);
     show(&FULL);
     show_strangers();
     show_no_station_first();
@@ -574,5 +665,6 @@ fn main() {
     show_cut_values();
     show_stations();
     show_reentry_table();
+    show_old_table();
     show_crowds();
 }

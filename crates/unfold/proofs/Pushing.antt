@@ -9,6 +9,7 @@ use lib.Seq.{drop-cons}
 use borrow.Author.Tests.{eq-eqb, le-leb, lt-leb, ne-eqb}
 use Rattle.model.specs.Lists.{Each}
 use Rattle.model.specs.Log.{noNumber}
+use Rattle.model.specs.Tables.{writtenPlaces}
 use Rattle.model.specs.Records.{placeAt}
 use Rattle.model.proofs.Lists.{each-get, getD-mem}
 use Rattle.numbers.specs.NumberBytes.{withNumber}
@@ -39,26 +40,26 @@ length-most log x j (suc k) = elim (ℕ-discrete (placeAt log x j) noNumber) [
 
 -- the first n places have numbers
 pub record Measuring (log : List ℕ) (x n : ℕ) : Type 0 where
-  pub inside : n ≤ 4
-  pub counted : pathLength log x ≡ n + lengthFrom log x n (4 - n)
+  pub inside : n ≤ writtenPlaces
+  pub counted : pathLength log x ≡ n + lengthFrom log x n (writtenPlaces - n)
 
 pub measuring-start : (log : List ℕ) (x : ℕ) → Measuring log x 0
 measuring-start log x = record { inside = omega arith; counted = omega arith }
 
 module _ {log : List ℕ} {x n : ℕ} (m : Measuring log x n) where
   pub measured-none : {place : ℕ} → place ≡ placeAt log x n → place ≡ noNumber → n ≡ pathLength log x
-  measured-none is e = omega (arith, m .counted, length-none log x n (4 - n) (sym is ∙ e))
+  measured-none is e = omega (arith, m .counted, length-none log x n (writtenPlaces - n) (sym is ∙ e))
 
-  pub measuring-turn : n < 4 → {place : ℕ} → place ≡ placeAt log x n → (place ≡ noNumber → ⊥) → Measuring log x (n + 1)
+  pub measuring-turn : n < writtenPlaces → {place : ℕ} → place ≡ placeAt log x n → (place ≡ noNumber → ⊥) → Measuring log x (n + 1)
   measuring-turn less {place} is some =
-      let more : 4 - n ≡ suc (4 - (n + 1)) = omega arith in
+      let more : writtenPlaces - n ≡ suc (writtenPlaces - (n + 1)) = omega arith in
       let next : suc n ≡ n + 1 = omega arith in
-      let one : lengthFrom log x n (4 - n) ≡ suc (lengthFrom log x (n + 1) (4 - (n + 1))) =
-      ap (lengthFrom log x n) more ∙ length-more log x n (4 - (n + 1)) (λ e. some (is ∙ e)) ∙ ap (λ (j : ℕ). suc (lengthFrom log x j (4 - (n + 1)))) next in
+      let one : lengthFrom log x n (writtenPlaces - n) ≡ suc (lengthFrom log x (n + 1) (writtenPlaces - (n + 1))) =
+      ap (lengthFrom log x n) more ∙ length-more log x n (writtenPlaces - (n + 1)) (λ e. some (is ∙ e)) ∙ ap (λ (j : ℕ). suc (lengthFrom log x j (writtenPlaces - (n + 1)))) next in
       record { inside = omega arith; counted = omega (arith, m .counted, one) }
 
-  pub measured-all : 4 ≤ n → n ≡ pathLength log x
-  measured-all all = omega (arith, m .counted, m .inside, length-most log x n (4 - n))
+  pub measured-all : writtenPlaces ≤ n → n ≡ pathLength log x
+  measured-all all = omega (arith, m .counted, m .inside, length-most log x n (writtenPlaces - n))
 
 -- ---- one place
 below-none : (log : List ℕ) (x j n : ℕ) → n ≤ j → placeBelow log x j n ≡ []
@@ -85,7 +86,7 @@ pushed-some s log top x j n place h is f room = record {
 
 -- ---- the loop: of the first n places those from j on are pushed
 pub record Pushing (log s : List ℕ) (top x n j : ℕ) (s′ : List ℕ) (height : ℕ) : Type 0 where
-  pub left : j ≤ 4
+  pub left : j ≤ writtenPlaces
   pub pushed : Pushed s top (placesFrom log x j (n - j)) s′ height
 
 length-places : (log : List ℕ) (x j k : ℕ) → length (placesFrom log x j k) ≡ k
@@ -97,10 +98,10 @@ no-places : (log : List ℕ) (x j k : ℕ) → k ≡ 0 → placesFrom log x j k 
 unfolding placesFrom
 no-places log x j k e = rw e
 
-pub pushing-start : (log s : List ℕ) (top x n : ℕ) → n ≡ pathLength log x → Pushing log s top x n 4 s top
+pub pushing-start : (log s : List ℕ) (top x n : ℕ) → n ≡ pathLength log x → Pushing log s top x n writtenPlaces s top
 pushing-start log s top x n is = record {
   left = omega arith;
-  pushed = record { size = refl; stack = sym (ap (λ (l : List ℕ). l ++ stackOf s top) (no-places log x 4 (n - 4) (omega (arith, is, length-most log x 0 4)))) };
+  pushed = record { size = refl; stack = sym (ap (λ (l : List ℕ). l ++ stackOf s top) (no-places log x writtenPlaces (n - writtenPlaces) (omega (arith, is, length-most log x 0 writtenPlaces)))) };
 }
 
 -- place j - 1 is the next
@@ -144,8 +145,8 @@ pushing-end {log} {s} {top} {x} {n} {j} {s′} {height} h is p =
     subst (λ (k : ℕ). Pushed s top (placesFrom log x 0 k) s′ height) all (subst (λ (i : ℕ). Pushed s top (placesFrom log x i (n - j)) s′ height) e (p .pushed))
 
 -- ---- the places of a record whose path is known
-module _ (log : List ℕ) (x : ℕ) (path : List ℕ) (short : length path ≤ 4) (small : Each (λ (m : ℕ). m < noNumber) path) (is : (i : ℕ) → i < 4 → placeAt log x i ≡ pathPlace path i) where
-  length-known : (k j : ℕ) → j + k ≡ 4 → lengthFrom log x j k ≡ length (drop j path)
+module _ (log : List ℕ) (x : ℕ) (path : List ℕ) (short : length path ≤ writtenPlaces) (small : Each (λ (m : ℕ). m < noNumber) path) (is : (i : ℕ) → i < writtenPlaces → placeAt log x i ≡ pathPlace path i) where
+  length-known : (k j : ℕ) → j + k ≡ writtenPlaces → lengthFrom log x j k ≡ length (drop j path)
   unfolding lengthFrom
   length-known zero j e = sym (ap length (drop-of-length-le path {i = j} (omega arith)))
   length-known (suc k) j e = elim (decLt j (length path)) [
@@ -164,4 +165,4 @@ module _ (log : List ℕ) (x : ℕ) (path : List ℕ) (short : length path ≤ 4
       ∙ ap (λ (y : ℕ). y ∷ drop (suc j) path) (is j (omega arith)) ∙ sym (drop-cons path j noNumber (omega arith))
 
   pub path-places : places log x ≡ path
-  path-places = ap (placesFrom log x 0) (length-known 4 0 refl) ∙ places-known (length path) 0 (omega arith)
+  path-places = ap (placesFrom log x 0) (length-known writtenPlaces 0 refl) ∙ places-known (length path) 0 (omega arith)

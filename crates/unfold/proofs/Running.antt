@@ -9,7 +9,7 @@ use lib.ListN.{length, getD, getElem?, take, drop, set, length-append, length-se
 use lib.Seq.{append-snoc, take-suc-set, drop-set-lt, drop-drop, length-take-le}
 use Rattle.model.specs.Groups.{Process, greatest}
 use Rattle.model.specs.Systems.{Rule, System, Configuration, walk, peak}
-use Rattle.model.specs.Tables.{ruleOf}
+use Rattle.model.specs.Tables.{ruleOf, writtenPlaces}
 use Rattle.model.specs.Words.{Located, height, project}
 use Rattle.model.proofs.Peak.{fire-lengths, greatest-least, greatest-more, greatest-most, greatest-reached, height-under-peak, peak-step}
 use Rattle.model.proofs.Steps.{WalkStep, walk-inv}
@@ -51,7 +51,7 @@ pub record Going (sys : System) (all page₀ left page : List ℕ) (rules : ℕ)
   pub walks : walk sys left at ≡ some end
   pub lengths : (i : Process) → lengthAt l i ≡ length (project (sys .loc) i (at .word)) + rules
   pub under : Under l h
-  pub small : Within (64 + 5 * rules) h
+  pub small : Within (64 + (1 + writtenPlaces) * rules) h
   pub peaks : peak sys all (sys .start) + rules ≡ max (greatest (lengthAt h)) (peak sys left at + rules)
 
 pub going-start : {sys : System} {all page₀ : List ℕ} {end : Configuration} → length (sys .start .word) ≤ 64 → walk sys all (sys .start) ≡ some end
@@ -99,7 +99,7 @@ module _ {sys : System} (located : Located (sys .loc)) {all page₀ : List ℕ} 
         let fires = fire-lengths (sys .loc) located (step .rule) (g .at) (step .mid) (step .first) i in
         omega (arith, changes i, rw same at changes i, fires)
 
-    pub going-fire : {l′ h′ : Lengths} → length all ≤ length page₀ → ((i : Process) → change i ≤ 5) → Added change l l′ → Raised h l′ h′ → Going sys all page₀ left (set page rules n) (rules + 1) l′ h′
+    pub going-fire : {l′ h′ : Lengths} → length all ≤ length page₀ → ((i : Process) → change i ≤ 1 + writtenPlaces) → Added change l l′ → Raised h l′ h′ → Going sys all page₀ left (set page rules n) (rules + 1) l′ h′
     going-fire {l′} {h′} fits few added raised =
         let room : rules < length page = page-room fits in
         let before : greatest (lengthAt l) ≡ height (sys .loc) (g .at .word) + rules = greatest-more (lengthAt l) (λ i. length (project (sys .loc) i (g .at .word))) rules (g .lengths) in

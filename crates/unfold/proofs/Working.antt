@@ -11,6 +11,7 @@ use Rattle.model.specs.Log.{Record, Path, recordAt, noNumber, stepsCap, limit, 
 use Rattle.model.specs.Groups.{Process, greatest, p0}
 use Rattle.model.specs.Lists.{Each}
 use Rattle.model.specs.Systems.{System}
+use Rattle.model.specs.Tables.{writtenPlaces}
 use Rattle.model.specs.Unfolding.{emitted, pathSteps}
 use Rattle.model.specs.Words.{Located}
 use Rattle.model.specs.Records.{roundAt}
@@ -114,7 +115,7 @@ module _ {table : List ℕ} {t : Table} {changes log : List ℕ} {count room : �
       earlier : Each (λ (m : ℕ). m < x) (first .path)
       earlier = limit-earlier table x (in-log .0) later
 
-      few : length (first .path) ≤ 4
+      few : length (first .path) ≤ writtenPlaces
       few = round-fits (pre .0) x inside .short
 
       low-after : Low 64 (length records) (first .path ++ xs)
@@ -139,7 +140,7 @@ module _ {table : List ℕ} {t : Table} {changes log : List ℕ} {count room : �
       changes-rule : Change (sys .loc) (ruleIn table (first .rule)) change
       changes-rule = pre .3 .rule (first .rule) inside-rules
 
-      change-few : (i : Process) → change i ≤ 5
+      change-few : (i : Process) → change i ≤ 1 + writtenPlaces
       change-few i = omega (arith, changes-rule i, project-shorter (sys .loc) i (ruleIn table (first .rule) .written), written-few table t (pre .0 .holds) (first .rule) inside-rules)
 
       replaceable : Replaceable changes log s page w x
@@ -189,8 +190,8 @@ module _ {table : List ℕ} {t : Table} {changes log : List ℕ} {count room : �
         | no n ↦ replaced n (d .replaced n)
       ]
 
-      -- the rules that the page still has room for count five times, since a rule puts at most three records more on the stack
-      pub working-less : 5 * (length page₀ - w′ .rules) + w′ .top < 5 * (length page₀ - w .rules) + w .top
+      -- a rule that the page still has room for counts for the records that it puts on the stack, and one more
+      pub working-less : (1 + writtenPlaces) * (length page₀ - w′ .rules) + w′ .top < (1 + writtenPlaces) * (length page₀ - w .rules) + w .top
       working-less = elim (ℕ-discrete (roundAt log x) 0) [
         | yes z ↦ omega (arith, ap (λ (k : Work). k .rules) (d .skipped z .2), ap (λ (k : Work). k .top) (d .skipped z .2))
         | no n ↦

@@ -101,7 +101,7 @@ module _ {table : List ℕ} {t : Table} {log : List ℕ} {n count most : ℕ} {s
       let p = path-found (limit (systemIn table)) (startPath (systemIn table)) steps (sym e ∙ f .given) in
       record {
         log-of = w .log-of;
-        room = omega (arith, w .linked .room .room, w .linked .room .fits, size);
+        room = omega (arith, w .room, w .linked .room .fits, size);
         highest = w .highest;
         path = p .0;
         is = p .1;

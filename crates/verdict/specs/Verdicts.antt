@@ -24,10 +24,11 @@ stated NoPath transitions rounds = Answered.Unreachable transitions rounds
 stated (Found steps) transitions rounds = Answered.Reachable transitions rounds steps
 
 -- document 01: "Rounds end when one adds nothing", "Rounds is the highest round held"; the log begins with the limit's records, `count` of the n that it has room
--- for, and they are in their rings
+-- for, and they are in their rings; the scratch is as long as check 15 asks
 pub record Settled (table : List ℕ) (t : Table) (log : List ℕ) (n count most : ℕ) (scratch : List ℕ) : Type 0 where
   pub log-of : LimitLog table t log count
   pub linked : Linked log count n scratch
+  pub room : scratchFor n ≤ length scratch
   pub highest : most ≡ rounds (limit (systemIn table))
 
 -- document 01: "The start's path: likewise the first accepting one in the limit"; its record numbers are the stack, the first letter's on top, and these are its steps

@@ -2,7 +2,7 @@
 
 // Two stations, q = s = 2; tasks 0 {0,1}, 1 {0}, 2 {1}; rule 0: task 0, (0,0) to (0,0), writes 1 2; rule 1: task 1, 0 to 1, writes none;
 // rule 2: task 2, the same; accepting (1,1); start (0,0), pile 0.
-const TABLE: [u8; 70] = [
+const TABLE: [u8; 76] = [
     1,
     2,
     2,
@@ -30,6 +30,8 @@ const TABLE: [u8; 70] = [
     2,
     255,
     255,
+    255,
+    255,
     3,
     1,
     0,
@@ -41,6 +43,8 @@ const TABLE: [u8; 70] = [
     255,
     255,
     0,
+    255,
+    255,
     255,
     255,
     255,
@@ -56,6 +60,8 @@ const TABLE: [u8; 70] = [
     255,
     255,
     0,
+    255,
+    255,
     255,
     255,
     255,
@@ -135,6 +141,6 @@ fn main() {
     show_in(&[0u16], &mut [7u8; 0]);
     // a short scratch: 15 at 0
     show(&TABLE, &[0u16], &mut [7u8; 3], &mut [7u8; 2047]);
-    // a table that is cut before its end: 1 at 69
-    show(&TABLE[..69], &[0u16], &mut [7u8; 3], &mut [7u8; 2048]);
+    // a table that is cut before its end: 1 at 75
+    show(&TABLE[..75], &[0u16], &mut [7u8; 3], &mut [7u8; 2048]);
 }

@@ -119,6 +119,10 @@ number-bit (suc k) s i j f h = elim (decLt j 8) [
       (bit-high (getD s i 0) (numberAt k s (suc i)) (j - 8) (f i) ∙ number-bit k s (suc i) (j - 8) f (omega arith) ∙ in-next s i (j - 8))
 ]
 
+pub byte-bit : (k : ℕ) (s : List ℕ) (i j : ℕ) → AllBytes s → j < 8 * k → eqb (numberAt k s i / 2 ^ j % 2) 1 ≡ eqb (getD s (i + j / 8) 0 / 2 ^ (j % 8) % 2) 1
+unfolding hasBit inSet
+byte-bit = number-bit
+
 -- ---- bytes written
 pub written-bit : (k : ℕ) (s : List ℕ) (i x j : ℕ) → i + k ≤ length s → j < 8 * k → inSet (withNumber k s i x) i j ≡ hasBit x j
 written-bit zero s i x j r h = absurd (omega arith)

@@ -3,12 +3,16 @@
 mod cases;
 mod counts;
 mod peaks;
+mod refusals;
 mod rules;
+mod written;
 
 pub use cases::{Case, Cases, Make, Maker, random_table};
 pub use counts::{Counts, Demand};
 pub use peaks::{note_peak, peak_situations};
+pub use refusals::{note_refusal, refusal_situations};
 pub use rules::{RULES, absent, rule};
+pub use written::{note_rules, note_written, rule_situations, written_situations};
 
 use std::path::PathBuf;
 use std::process::ExitCode;

@@ -2,14 +2,18 @@
 
 use crate::equations::Equation;
 use crate::sequences::{self, DeskCall};
-use second_engine::{Answer, Refusal, Run, Walk, answer, run, scratch_needed, walk};
+use second_engine::{
+    Answer, RECORD_BYTES, Refusal, Run, WALK_SCRATCH, Walk, answer, run, scratch_needed, walk,
+};
 use tables::random::{self, Shape};
-use tables::{Rng, Table, damage, named};
+use tables::{Rng, Table, WRITTEN_PLACES, damage, named};
 
 /// How many random tables, and how many damaged ones.
 const EACH: usize = 200;
 
-/// Limits of more records and longer runs are left out: the checker computes them slowly.
+/// Longer tables, limits of more records and longer runs are left out: the checker computes them
+/// slowly.
+const BYTES: usize = 430;
 const RECORDS: usize = 24;
 const STEPS: usize = 24;
 
@@ -42,7 +46,7 @@ pub struct Case {
 }
 
 /// The small tables of documents 01 and 02, random ones and damaged ones, each with one of the
-/// calls; the runs of three of them, for their peaks; and a desk whose pile is filled.
+/// calls; the runs of those with a peak or a path of their own; and a desk whose pile is filled.
 pub fn all(seed: u64) -> Vec<Case> {
     let mut rng = Rng::new(seed);
     let mut tables: Vec<Vec<u8>> = Vec::new();
@@ -68,7 +72,14 @@ pub fn all(seed: u64) -> Vec<Case> {
             table,
         })
         .collect();
-    for table in [named::t(), named::idle_station(), named::spread_word()] {
+    for table in [
+        named::t(),
+        named::idle_station(),
+        named::spread_word(),
+        named::count(WRITTEN_PLACES - 1),
+        named::count(WRITTEN_PLACES),
+        named::six_written(),
+    ] {
         let table = table.bytes();
         cases.push(Case {
             call: exact_run(&table),
@@ -93,7 +104,7 @@ struct Size {
 }
 
 fn size(table: &[u8]) -> Option<Size> {
-    let mut log = vec![0; 24 * (RECORDS + 1)];
+    let mut log = vec![0; RECORD_BYTES * (RECORDS + 1)];
     let mut scratch = vec![0; scratch_needed(log.len())];
     let mut page = vec![0; STEPS];
     match run(table, &mut log, &mut scratch, &mut page) {
@@ -121,13 +132,13 @@ fn size(table: &[u8]) -> Option<Size> {
 }
 
 fn is_small(table: &[u8]) -> bool {
-    table.len() <= 400 && size(table).is_some_and(|size| size.records <= RECORDS)
+    table.len() <= BYTES && size(table).is_some_and(|size| size.records <= RECORDS)
 }
 
 /// The run call with buffers that just serve.
 fn exact_run(table: &[u8]) -> Call {
     let size = size(table).expect("a small table");
-    let log = 24 * size.records;
+    let log = RECORD_BYTES * size.records;
     Call::Run {
         log,
         scratch: scratch_needed(log),
@@ -138,7 +149,8 @@ fn exact_run(table: &[u8]) -> Call {
 /// Each call in turn, its buffers about as long as it needs them.
 fn call(rng: &mut Rng, number: usize, table: &[u8]) -> Call {
     let size = size(table).expect("a small table");
-    let log = (24 * size.records + *rng.pick(&[0, 0, 0, 1, 30])).saturating_sub(rng.below(8) / 7);
+    let exact = RECORD_BYTES * size.records;
+    let log = (exact + *rng.pick(&[0, 0, 0, 1, 30])).saturating_sub(rng.below(8) / 7);
     let needed = scratch_needed(log);
     let scratch = needed + rng.below(2) - rng.below(12) / 11;
     match number % 4 {
@@ -151,7 +163,7 @@ fn call(rng: &mut Rng, number: usize, table: &[u8]) -> Call {
         2 => Call::Walk {
             rules: list(rng, size.run),
             pile: (size.longest + rng.below(6)).saturating_sub(rng.below(3)),
-            scratch: 2_048 + rng.below(2) - rng.below(12) / 11,
+            scratch: WALK_SCRATCH + rng.below(2) - rng.below(12) / 11,
         },
         _ => {
             let rules = list(rng, size.run);

@@ -1,7 +1,7 @@
 //! Sequences of calls at a desk, and what the second engine's desk gives for them.
 
 use second_engine::Desk;
-use tables::{Rng, Table, group};
+use tables::{Rng, Table, WRITTEN_PLACES, group};
 
 /// A call with its rule or its name.
 #[derive(Clone, Copy)]
@@ -37,18 +37,19 @@ fn about_a_name(rng: &mut Rng) -> DeskCall {
     ])
 }
 
-/// A pile of 64 letters is brought to 256 by rule 0. Then rule 0, which would add three letters, and
-/// rule 1, which would add one, are refused, and rule 2, which adds none, fires.
+/// A pile of 64 letters is brought to 256 by rule 0, which adds five, and once by rule 1, which adds
+/// two. Then rule 0 and rule 2, which would add one letter, are refused, and rule 3, which adds none,
+/// fires.
 pub fn filling() -> (Table, Vec<DeskCall>) {
     let mut table = Table::new(1, 1, 1);
     let letter = table.letter(1);
     let state = group(&[0]);
-    for count in [4, 2, 1] {
+    for count in [WRITTEN_PLACES, 3, 2, 1] {
         table.rule(letter, state, state, &vec![letter; count]);
     }
     table.pile = vec![letter; 64];
-    let mut calls = vec![DeskCall::Fire(0); 64];
-    calls.extend([0, 1, 2].map(DeskCall::Fire));
+    let mut calls = vec![DeskCall::Fire(0); 38];
+    calls.extend([1, 0, 2, 3].map(DeskCall::Fire));
     (table, calls)
 }
 

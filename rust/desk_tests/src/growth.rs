@@ -1,7 +1,7 @@
 //! Random tables, some with rules that let the pile grow above any height.
 
 use comparison::RULES;
-use tables::{Rng, Table, drop_twin};
+use tables::{Rng, Table, WRITTEN_PLACES, drop_twin};
 
 /// The most letters of a start pile.
 const PILE: usize = 64;
@@ -32,7 +32,8 @@ fn let_grow(rng: &mut Rng, table: &mut Table) {
     let letters: Vec<u8> = (0..table.letters.len() as u8).filter(within).collect();
     for _ in 0..rng.between(1, ADDED) {
         let mut written = vec![letter];
-        written.extend((0..rng.between(1, 3)).map(|_| *rng.pick(&letters)));
+        let below = rng.between(1, WRITTEN_PLACES - 1);
+        written.extend((0..below).map(|_| *rng.pick(&letters)));
         table.rule(letter, table.start, table.start, &written);
         drop_twin(&mut table.rules);
     }

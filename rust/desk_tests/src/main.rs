@@ -11,7 +11,7 @@ mod histories;
 mod sequence;
 mod situations;
 
-use comparison::{Case, Cases, Counts, Program};
+use comparison::{Case, Cases, Counts, Program, note_refusal};
 use desks::Desks;
 use sequence::Sequence;
 use std::io;
@@ -45,6 +45,7 @@ fn compare_one(case: &Case, counts: &mut Counts) -> Result<(), String> {
         Ok(desks) => desks,
         Err(refusal) => {
             counts.meet(situations::refused("opening", refusal.number));
+            note_refusal(&case.name, refusal.number, refusal.place, counts);
             return Ok(());
         }
     };

@@ -2,8 +2,8 @@
 
 use crate::desks::{Call, Stand};
 use crate::histories::Histories;
-use comparison::{Counts, Demand};
-use second_engine::{DESK_PILE, Refusal};
+use comparison::{Counts, Demand, refusal_situations};
+use second_engine::{DESK_PILE, Refusal, WRITTEN_PLACES};
 
 /// How many sequences of calls there must be.
 const LEAST: usize = 20_000;
@@ -20,9 +20,13 @@ const REFUSALS: [(&str, &[u8]); 4] = [
 /// Whether a call met a situation.
 type Met = fn(&Step) -> bool;
 
-const SITUATIONS: [(&str, Met); 17] = [
+const SITUATIONS: [(&str, Met); 18] = [
     ("fired", |step| step.fired().is_some()),
     ("fired below the top", |step| step.fired_below_the_top()),
+    ("fired a rule of six letters", |step| {
+        let written = step.fired().map(|rule| step.written[usize::from(rule)]);
+        written == Some(WRITTEN_PLACES)
+    }),
     ("fired at a full pile", |step| {
         step.fired().is_some() && step.before.is_full()
     }),
@@ -149,6 +153,7 @@ pub fn all() -> Vec<Demand> {
         names.extend(numbers.iter().map(|&number| refused(call, number)));
     }
     names.extend(SITUATIONS.map(|(name, _)| name.to_string()));
+    names.extend(refusal_situations());
     let mut situations: Vec<_> = names.into_iter().map(Demand::once).collect();
     situations.push(Demand::new(SEQUENCES, LEAST));
     situations

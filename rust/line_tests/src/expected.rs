@@ -1,7 +1,7 @@
 //! What `line` shall write for a table, by the second engine.
 
 use crate::situations::{self, refused};
-use comparison::{Case, Counts, Make, note_peak};
+use comparison::{Case, Counts, Make, note_peak, note_refusal, note_rules};
 use second_engine::{Answer, RECORD_BYTES, Refusal, Run, answer, run, scratch_needed};
 use std::fmt::Write;
 
@@ -34,6 +34,9 @@ impl Engine {
     /// The lines for a table; counts the situations that they tell of.
     pub fn lines(&mut self, case: &Case, counts: &mut Counts) -> String {
         let table = &case.bytes;
+        if let Make::Random(table) = &case.make {
+            note_rules(table, counts);
+        }
         match table.len() {
             0 => counts.meet(situations::EMPTY_INPUT),
             length if length > INPUT_BYTES => counts.meet(situations::LONG_INPUT),
@@ -42,6 +45,7 @@ impl Engine {
         match answer(table, &mut self.log, &mut self.scratch) {
             Answer::Refused(Refusal { number, place }) => {
                 counts.meet(refused(number));
+                note_refusal(&case.name, number, place, counts);
                 if number == SHORT_LOG && is_answered_by_one_more(table) {
                     counts.meet(situations::PAST_LOG);
                 }

@@ -1,6 +1,6 @@
 //! The situations that the comparison is for: all of them must be met.
 
-use comparison::{Demand, peak_situations};
+use comparison::{Demand, peak_situations, refusal_situations, rule_situations};
 
 pub const REACHABLE: &str = "reachable";
 pub const UNREACHABLE: &str = "unreachable";
@@ -38,5 +38,7 @@ pub fn refused(number: u8) -> String {
 pub fn all() -> Vec<Demand> {
     let refusals = (1..=10).map(|number| Demand::once(refused(number)));
     let others = OTHERS.into_iter().chain(peak_situations());
-    refusals.chain(others.map(Demand::once)).collect()
+    let named = refusal_situations().chain(rule_situations());
+    let others = others.map(Demand::once).chain(named.map(Demand::once));
+    refusals.chain(others).collect()
 }

@@ -4,7 +4,7 @@ use second_engine::{
     Answer, RECORD_BYTES, RECORD_CEILING, Run, WALK_SCRATCH, Walk, answer, run, scratch_needed,
     walk,
 };
-use tables::{Rng, Table};
+use tables::{Rng, Table, WRITTEN_PLACES};
 
 /// Records that most limits fit in.
 const USUAL: usize = 2_000;
@@ -21,7 +21,7 @@ pub struct Facts {
     pub steps: usize,
     /// The length of the start pile.
     pub start: usize,
-    /// The greatest length of the word along the run.
+    /// The greatest length of the word along the run; without one, that after a first rule.
     pub longest: usize,
     /// The run, or nothing if there is none or it is too long.
     pub run: Vec<u16>,
@@ -41,7 +41,7 @@ impl Facts {
             accepted: true,
             records: RECORD_CEILING + 1,
             start,
-            longest: start + 3,
+            longest: start + WRITTEN_PLACES - 1,
             ..Facts::default()
         };
         if !facts.learn_limit(table, USUAL) {

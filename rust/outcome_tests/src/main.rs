@@ -56,6 +56,7 @@ fn compare_one(pool: &Pool, case: &Case, counts: &mut Counts) -> Result<(), Stri
     }
     let mut trials = Trials {
         pool,
+        name: &case.name,
         table: &case.bytes,
         facts: &facts,
         rules,

@@ -1,6 +1,9 @@
-//! Whether a limit has records with several reasons, so that their choice matters.
+//! The reasons of a limit's records: whether some have several, so that their choice matters, and
+//! how long their paths are.
 
-use tables::{Group, Rule, Table, Transition, restrict};
+use comparison::{Counts, note_written, written_situations};
+use second_engine::RECORD_BYTES;
+use tables::{Group, Rule, Table, Transition, WRITTEN_PLACES, restrict};
 
 /// The most paths followed at once; tables with more of them are not judged.
 const PATHS: usize = 500;
@@ -12,16 +15,33 @@ pub struct Several {
     pub paths: bool,
 }
 
-/// A record of the log, without its reason.
+/// A record of the log, without its rule and its steps.
 struct Record {
     transition: Transition,
     round: u16,
+    /// How many places its path has.
+    places: usize,
+}
+
+/// The name of the paths' situations.
+const PATH_NAME: &str = "paths";
+
+pub fn path_situations() -> impl Iterator<Item = String> {
+    written_situations(PATH_NAME)
+}
+
+/// Counts the paths of a log's records.
+pub fn note_paths(table: &Table, log: &[u8], counts: &mut Counts) {
+    for record in log.chunks_exact(RECORD_BYTES).map(Record::read) {
+        let letter = record.transition.letter;
+        note_written(PATH_NAME, table, letter, record.places, counts);
+    }
 }
 
 impl Several {
     /// By all paths of all rules of the table to each record of the log.
     pub fn of(table: &Table, log: &[u8]) -> Several {
-        let records: Vec<Record> = log.chunks_exact(24).map(Record::read).collect();
+        let records: Vec<Record> = log.chunks_exact(RECORD_BYTES).map(Record::read).collect();
         let mut several = Several::default();
         for record in records.iter().filter(|record| record.round > 0) {
             let earlier = |other: &&Record| other.round < record.round;
@@ -50,6 +70,7 @@ impl Several {
 impl Record {
     fn read(bytes: &[u8]) -> Record {
         let group = |from: usize| std::array::from_fn(|process| bytes[from + process]);
+        let path = bytes[13..].chunks_exact(2).take(WRITTEN_PLACES);
         Record {
             transition: Transition {
                 letter: bytes[0],
@@ -57,6 +78,7 @@ impl Record {
                 after: group(5),
             },
             round: u16::from_le_bytes([bytes[9], bytes[10]]),
+            places: path.take_while(|place| *place != [0xFF, 0xFF]).count(),
         }
     }
 }

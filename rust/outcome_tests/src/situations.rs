@@ -1,9 +1,11 @@
 //! The situations that the comparison is for: all of them must be met.
 
 use crate::facts::Facts;
-use crate::reasons::Several;
+use crate::reasons::{Several, note_paths, path_situations};
 use crate::{bounds, lists};
-use comparison::{Counts, Demand, note_peak, peak_situations};
+use comparison::{
+    Counts, Demand, note_peak, note_rules, peak_situations, refusal_situations, rule_situations,
+};
 use tables::Table;
 
 /// How many random tables must be accepted, and how many damaged ones refused.
@@ -52,6 +54,8 @@ pub fn note_shape(table: &Table, facts: &Facts, counts: &mut Counts) {
         counts.meet(format!("tables with kind {kind} at its ceiling"));
     }
     note_peak(table, &facts.run, counts);
+    note_rules(table, counts);
+    note_paths(table, &facts.log, counts);
     if facts.rounds >= 100 {
         counts.meet("limits of 100 rounds or more");
     }
@@ -86,6 +90,8 @@ pub fn all() -> Vec<Demand> {
     names.extend(kinds.map(|kind| format!("tables with kind {kind} at its ceiling")));
     names.extend(OUTCOMES.map(str::to_string));
     names.extend(peak_situations().map(str::to_string));
+    names.extend(rule_situations().chain(path_situations()));
+    names.extend(refusal_situations());
     names.extend(bounds::names());
     names.extend(lists::NAMES.map(str::to_string));
     let mut situations: Vec<_> = names.into_iter().map(Demand::once).collect();

@@ -4,7 +4,7 @@ use crate::bounds::{Length, around};
 use crate::engines::Pool;
 use crate::facts::Facts;
 use crate::lists;
-use comparison::Counts;
+use comparison::{Counts, note_refusal};
 use roskavel::{Answer, Cause, Refusal, Run, STEP_CEILING, Walk};
 use second_engine::{RECORD_BYTES, WALK_SCRATCH, scratch_needed};
 use tables::Rng;
@@ -15,6 +15,7 @@ const DEAR: usize = 1 << 30;
 /// A table, and what is used in all calls on it.
 pub struct Trials<'t> {
     pub pool: &'t Pool,
+    pub name: &'t str,
     pub table: &'t [u8],
     pub facts: &'t Facts,
     /// How many rules the table has, or a guess.
@@ -125,8 +126,9 @@ impl Trials<'_> {
             Cause::LongRun | Cause::FullPile | Cause::IdleRule | Cause::NoRule => 3,
             _ => 0,
         };
-        let refused = format!("{call} refused {}", refusal.cause.number());
-        self.meet(&refused, &names[..seen]);
+        let number = refusal.cause.number();
+        self.meet(&format!("{call} refused {number}"), &names[..seen]);
+        note_refusal(self.name, number, refusal.place, self.counts);
     }
 
     fn meet(&mut self, outcome: &str, names: &[&str]) {

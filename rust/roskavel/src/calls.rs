@@ -31,7 +31,7 @@ pub const REST: usize = 8;
 /// change it, as the archive asks.
 #[repr(C)]
 #[derive(Clone)]
-pub struct RawDesk([u64; 1_013]);
+pub struct RawDesk([u64; 1_063]);
 
 /// What opening a desk gives: the number of the refusal and its place, or 0 and the desk.
 #[repr(C)]

@@ -18,7 +18,7 @@ pub const NAMES: u8 = 8;
 /// The desk stands where a [`walk`](crate::walk) of its current history ends. A refused call
 /// changes nothing.
 ///
-/// A desk is plain data of 8,104 bytes; a clone is a desk of its own.
+/// A desk is plain data of 8,504 bytes; a clone is a desk of its own.
 ///
 /// # Example
 ///
@@ -28,9 +28,10 @@ pub const NAMES: u8 = 8;
 /// let table = [
 ///     1, 2, 2, 1, 2, 2, // two processes of two states
 ///     2, 0b11, 2, 0b01, 2, 0b10, // a letter of both, one of the first, one of the second
-///     3, 0, 0, 0, 255, 255, 0, 0, 255, 255, 2, 1, 2, 255, 255, // rule 0 writes 1 2
-///     3, 1, 0, 255, 255, 255, 1, 255, 255, 255, 0, 255, 255, 255, 255, // rule 1: state 0 to 1
-///     3, 2, 255, 0, 255, 255, 255, 1, 255, 255, 0, 255, 255, 255, 255, // rule 2: the same
+///     3, 0, 0, 0, 255, 255, 0, 0, 255, 255, 2, 1, 2, 255, 255, 255, 255, // rule 0 writes 1 2
+///     // rules 1 and 2 write none: state 0 to 1
+///     3, 1, 0, 255, 255, 255, 1, 255, 255, 255, 0, 255, 255, 255, 255, 255, 255,
+///     3, 2, 255, 0, 255, 255, 255, 1, 255, 255, 0, 255, 255, 255, 255, 255, 255,
 ///     5, 1, 1, 255, 255, // accepting
 ///     6, 0, 0, 255, 255, // start
 ///     7, 0, // start pile

@@ -21,9 +21,10 @@
 //! let table = [
 //!     1, 2, 2, 1, 2, 2, // two processes of two states
 //!     2, 0b11, 2, 0b01, 2, 0b10, // a letter of both, one of the first, one of the second
-//!     3, 0, 0, 0, 255, 255, 0, 0, 255, 255, 2, 1, 2, 255, 255, // rule 0 writes 1 2
-//!     3, 1, 0, 255, 255, 255, 1, 255, 255, 255, 0, 255, 255, 255, 255, // rule 1: state 0 to 1
-//!     3, 2, 255, 0, 255, 255, 255, 1, 255, 255, 0, 255, 255, 255, 255, // rule 2: the same
+//!     3, 0, 0, 0, 255, 255, 0, 0, 255, 255, 2, 1, 2, 255, 255, 255, 255, // rule 0 writes 1 2
+//!     // rules 1 and 2 write none: state 0 to 1
+//!     3, 1, 0, 255, 255, 255, 1, 255, 255, 255, 0, 255, 255, 255, 255, 255, 255,
+//!     3, 2, 255, 0, 255, 255, 255, 1, 255, 255, 0, 255, 255, 255, 255, 255, 255,
 //!     5, 1, 1, 255, 255, // accepting
 //!     6, 0, 0, 255, 255, // start
 //!     7, 0, // start pile
@@ -55,12 +56,18 @@ use calls::Figures;
 use std::error::Error;
 use std::fmt::{self, Display, Formatter};
 
-/// The bytes of one record of the log.
-pub const RECORD_BYTES: usize = 24;
+/// The most letters that a rule writes, and the places of a record's path.
+pub const WRITTEN_PLACES: usize = 6;
+/// The bytes of one record of the log: two for each place of its path, and 16 for all else.
+pub const RECORD_BYTES: usize = 16 + 2 * WRITTEN_PLACES;
 /// The most records that a log is used for.
 pub const RECORD_CEILING: usize = 65_535;
 /// The most steps of a run that is written; a count above it is given as one more than it.
 pub const STEP_CEILING: usize = 1_000_000;
+/// The scratch that answer and run need beside an empty log, and for each record that a log has room
+/// for.
+const SCRATCH_BASE: usize = 34_000;
+const SCRATCH_PER_RECORD: usize = 10;
 /// The scratch that a walk needs.
 pub const WALK_SCRATCH: usize = 2_048;
 
@@ -81,7 +88,7 @@ pub const fn log_records(log_length: usize) -> usize {
 
 /// The scratch that answer and run need beside a log of `log_length` bytes.
 pub const fn scratch_bytes(log_length: usize) -> usize {
-    34_000 + 6 * log_records(log_length)
+    SCRATCH_BASE + SCRATCH_PER_RECORD * log_records(log_length)
 }
 
 /// Why a call is refused, with document 01's number. Where nothing else is said, the place is

@@ -1,6 +1,9 @@
 //! The calls on table T and on empty slices, the sizes of buffers, and a desk.
 
-use roskavel::{Answer, Cause, Desk, Refusal, Run, Walk, answer, run, scratch_bytes, walk};
+use roskavel::{
+    Answer, Cause, Desk, RECORD_BYTES, Refusal, Run, WRITTEN_PLACES, Walk, answer, run,
+    scratch_bytes, walk,
+};
 use tables::{Table, named};
 
 const DIRT: u8 = 0xA5;
@@ -21,13 +24,13 @@ fn causes_have_their_numbers() {
 #[test]
 fn sizes_are_those_that_just_serve() {
     let table = named::t().bytes();
-    assert_eq!(roskavel::log_bytes(3), 72);
-    assert_eq!(scratch_bytes(72), 34_018);
-    assert_eq!(roskavel::log_records(24 * 65_536), 65_535);
+    assert_eq!(roskavel::log_bytes(3), 84);
+    assert_eq!(scratch_bytes(84), 34_030);
+    assert_eq!(roskavel::log_records(RECORD_BYTES * 65_536), 65_535);
     for (log, scratch, cause) in [
-        (72, 34_018, None),
-        (71, 34_018, Some(Cause::ShortLog)),
-        (72, 34_017, Some(Cause::ShortScratch)),
+        (84, 34_030, None),
+        (83, 34_030, Some(Cause::ShortLog)),
+        (84, 34_029, Some(Cause::ShortScratch)),
     ] {
         let (mut log, mut scratch) = (vec![DIRT; log], vec![DIRT; scratch]);
         let given = answer(&table, &mut log, &mut scratch);
@@ -41,6 +44,26 @@ fn sizes_are_those_that_just_serve() {
         let untouched = cause == Some(Cause::ShortScratch);
         let left = if untouched { DIRT } else { 0 };
         assert!(scratch.iter().all(|&byte| byte == left));
+    }
+}
+
+#[test]
+fn rules_write_up_to_six_letters() {
+    let mut log = vec![DIRT; roskavel::log_bytes(7)];
+    let mut scratch = vec![DIRT; scratch_bytes(log.len())];
+    let six = named::six_written().bytes();
+    let reachable = Answer::Reachable {
+        transitions: 7,
+        rounds: 2,
+        steps: 7,
+    };
+    assert_eq!(answer(&six, &mut log, &mut scratch), reachable);
+    let path = [0, 0, 1, 0, 2, 0, 3, 0, 4, 0, 5, 0];
+    let last = &log[6 * RECORD_BYTES..];
+    assert_eq!(last[13..][..2 * WRITTEN_PLACES], path);
+    for (table, place) in [(named::count(7).bytes(), 7), (named::old_t(), 12)] {
+        let refused = Answer::Refused(refusal(Cause::Value, place));
+        assert_eq!(answer(&table, &mut log, &mut scratch), refused);
     }
 }
 
@@ -114,11 +137,11 @@ fn a_desk_fires_and_returns() {
 #[test]
 fn a_desk_refuses() {
     let opened = Desk::open(&named::re_entry().bytes());
-    assert_eq!(opened.unwrap_err(), refusal(Cause::ReEntry, 22));
+    assert_eq!(opened.unwrap_err(), refusal(Cause::ReEntry, 24));
     assert_eq!(Desk::open(&[]).unwrap_err(), refusal(Cause::Cut, 0));
     let mut table = Table::new(1, 1, 1);
     let letter = table.letter(1);
-    table.rule(letter, [0; 4], [0; 4], &[letter; 4]);
+    table.rule(letter, [0; 4], [0; 4], &[letter; WRITTEN_PLACES]);
     table.pile.push(letter);
     let mut desk = Desk::open(&table.bytes()).unwrap();
     while desk.look().pile().len() < roskavel::DESK_PILE {

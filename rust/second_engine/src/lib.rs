@@ -1,6 +1,7 @@
 //! A second engine for document 01, of independent make: reachability of cooperating
-//! multi-pushdown systems by saturation of a watch automaton, with the desk of request 2.1 and
-//! the peak of request 2.2. Every call works on tables of any bytes and on buffers of any length.
+//! multi-pushdown systems by saturation of a watch automaton, with the desk of request 2.1, the
+//! peak of request 2.2 and the written places of request 2.4. Every call works on tables of any
+//! bytes and on buffers of any length.
 
 mod desk;
 mod group;
@@ -10,16 +11,24 @@ mod table;
 mod walk;
 
 pub use desk::{DESK_PILE, Desk, NAMES};
+pub use table::WRITTEN_PLACES;
 
 use peak::peak;
 use saturation::{Limit, Record, STEPS_CAP};
 use table::Table;
 use walk::Configuration;
 
+/// Where the path and the steps of a record begin.
+const PATH: usize = 13;
+const STEPS: usize = PATH + 2 * WRITTEN_PLACES;
 /// The bytes of one record in the log.
-pub const RECORD_BYTES: usize = 24;
+pub const RECORD_BYTES: usize = STEPS + 3;
 /// The most records that a log is used for.
 pub const RECORD_CEILING: usize = 65_535;
+/// The scratch that answer and run need beside an empty log, and for each record that a log can
+/// hold.
+const SCRATCH_BASE: usize = 34_000;
+const SCRATCH_PER_RECORD: usize = 10;
 /// The scratch that a walk needs.
 pub const WALK_SCRATCH: usize = 2_048;
 
@@ -89,7 +98,7 @@ pub fn log_capacity(length: usize) -> usize {
 
 /// The scratch that answer and run need beside a log of `length` bytes.
 pub fn scratch_needed(length: usize) -> usize {
-    34_000 + 6 * log_capacity(length)
+    SCRATCH_BASE + SCRATCH_PER_RECORD * log_capacity(length)
 }
 
 /// Says whether the watched set can be reached from the start. Refused by 1 to 9, 15 (no buffer
@@ -232,15 +241,15 @@ fn check_scratch(scratch: &[u8], needed: usize) -> Result<(), Refusal> {
     Ok(())
 }
 
-/// A record's 24 bytes: letter, before, after, round, rule, path, steps, little-endian.
+/// A record's bytes: letter, before, after, round, rule, path, steps, little-endian.
 fn write_record(bytes: &mut [u8], record: &Record) {
     bytes[0] = record.transition.letter;
     bytes[1..5].copy_from_slice(&record.transition.before.to_bytes());
     bytes[5..9].copy_from_slice(&record.transition.after.to_bytes());
     bytes[9..11].copy_from_slice(&record.round.to_le_bytes());
     bytes[11..13].copy_from_slice(&record.rule.to_le_bytes());
-    for (place, number) in bytes[13..21].chunks_exact_mut(2).zip(record.path) {
+    for (place, number) in bytes[PATH..STEPS].chunks_exact_mut(2).zip(record.path) {
         place.copy_from_slice(&number.to_le_bytes());
     }
-    bytes[21..24].copy_from_slice(&record.steps.to_le_bytes()[..3]);
+    bytes[STEPS..RECORD_BYTES].copy_from_slice(&record.steps.to_le_bytes()[..3]);
 }

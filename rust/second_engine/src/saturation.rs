@@ -1,7 +1,7 @@
 //! Saturation: the limit automaton with a reason for each of its transitions.
 
 use crate::group::{Group, GroupSet};
-use crate::table::{Table, Transition};
+use crate::table::{Table, Transition, WRITTEN_PLACES};
 use std::collections::{BTreeMap, HashMap};
 use std::hash::{BuildHasherDefault, Hasher};
 
@@ -16,13 +16,13 @@ pub struct Record {
     pub transition: Transition,
     pub round: u16,
     pub rule: u16,
-    pub path: [u16; 4],
+    pub path: [u16; WRITTEN_PLACES],
     pub steps: u32,
 }
 
 struct Reason {
     rule: u16,
-    path: [u16; 4],
+    path: [u16; WRITTEN_PLACES],
 }
 
 /// Where a letter is read: the letter and the states of its processes before.
@@ -161,7 +161,7 @@ impl Limit {
             let record = &self.records[usize::from(number)];
             if record.round > 0 {
                 rules.push(record.rule);
-                rest.extend(record.path.iter().rev().filter(|&&number| number != NONE));
+                rest.extend(trimmed(&record.path).iter().rev());
             }
         }
         rules
@@ -176,7 +176,7 @@ impl Limit {
                 transition,
                 round: 0,
                 rule: NONE,
-                path: [NONE; 4],
+                path: [NONE; WRITTEN_PLACES],
                 steps: 0,
             });
         }
@@ -231,8 +231,7 @@ impl Limit {
             if let Some(readers) = self.readers.get(&place) {
                 awake.unite(readers);
             }
-            let path = reason.path.iter().filter(|&&number| number != NONE);
-            let path_steps = self.steps(&path.copied().collect::<Vec<_>>());
+            let path_steps = self.steps(trimmed(&reason.path));
             self.add(Record {
                 transition,
                 round,
@@ -312,8 +311,14 @@ fn path_to(layers: &[Vec<Reached>], end: usize) -> Vec<u16> {
     path
 }
 
-fn padded(path: &[u16]) -> [u16; 4] {
+fn padded(path: &[u16]) -> [u16; WRITTEN_PLACES] {
     std::array::from_fn(|index| path.get(index).copied().unwrap_or(NONE))
+}
+
+/// The path without the places that have no record.
+fn trimmed(path: &[u16; WRITTEN_PLACES]) -> &[u16] {
+    let end = path.iter().position(|&number| number == NONE);
+    &path[..end.unwrap_or(WRITTEN_PLACES)]
 }
 
 fn cap_sum(one: u32, other: u32) -> u32 {

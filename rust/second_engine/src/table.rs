@@ -49,11 +49,16 @@ const START: u8 = 6;
 const PILE: u8 = 7;
 const END: u8 = 8;
 
+/// The most letters that a rule writes: so many places has its body, and so many the path that
+/// reads them.
+pub const WRITTEN_PLACES: usize = 6;
+/// Where the written places begin in a rule's body.
+const WRITTEN: usize = 10;
+
 /// Body lengths by kind.
-const LENGTH: [usize; 9] = [0, 2, 1, 14, 9, 4, 4, 1, 0];
+const LENGTH: [usize; 9] = [0, 2, 1, WRITTEN + WRITTEN_PLACES, 9, 4, 4, 1, 0];
 /// Ceilings by kind.
 const CEILING: [usize; 9] = [0, 4, 32, 200, 200, 64, 1, 64, 1];
-const WRITTEN: usize = 4;
 
 const CUT: u8 = 1;
 const STRANGER: u8 = 2;
@@ -197,8 +202,8 @@ impl<'b> Reader<'b> {
         let before = self.group(&body[1..5], locations, States::Line)?;
         let after = self.group(&body[5..9], locations, States::Line)?;
         let count = usize::from(body[9]);
-        check(count <= WRITTEN, VALUE)?;
-        let (written, spare) = body[10..].split_at(count);
+        check(count <= WRITTEN_PLACES, VALUE)?;
+        let (written, spare) = body[WRITTEN..].split_at(count);
         for &other in written {
             self.locations(other)?;
         }

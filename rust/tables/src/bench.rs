@@ -329,7 +329,7 @@ pub fn long_run(steps: usize) -> Table {
     table
 }
 
-/// Every kind at its ceiling: 5,530 bytes. Each letter has one process, so the limit stays small.
+/// Every kind at its ceiling: 5,930 bytes. Each letter has one process, so the limit stays small.
 pub fn full_table() -> Table {
     let mut rng = Rng::new(5_530);
     let mut table = Table::new(4, 4, 8);

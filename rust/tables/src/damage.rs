@@ -1,8 +1,10 @@
 //! Damaged tables: specimens with the refusal they must meet, and random damage.
 
 use crate::bench;
-use crate::model::{NO_PART, Table, group};
+use crate::model::{self, BODY, NO_PART, Table, WRITTEN_PLACES, group};
+use crate::named;
 use crate::rng::Rng;
+use std::ops::Range;
 
 /// A table with the number and place of its refusal.
 pub struct Specimen {
@@ -12,8 +14,17 @@ pub struct Specimen {
     pub place: usize,
 }
 
+/// The specimen `named::old_t`.
+pub const OLD_T: &str = "T in rule bodies of 14 bytes";
+
 /// A file in the making: items with their kind bytes.
 type Items = Vec<Vec<u8>>;
+
+/// Where the count of written letters and their places stand in a rule's item.
+const COUNT: usize = 1 + model::COUNT;
+const WRITTEN: Range<usize> = COUNT + 1..COUNT + 1 + WRITTEN_PLACES;
+/// The least count that is refused.
+const TOO_MANY: u8 = WRITTEN_PLACES as u8 + 1;
 
 /// An accepted table with three items of every kind that may have several: three processes of
 /// two line states out of four; letters of three, two and one processes.
@@ -48,6 +59,12 @@ pub fn specimens() -> Vec<Specimen> {
     add_twins(&mut list);
     add_leftovers(&mut list);
     add_rivals(&mut list);
+    list.push(Specimen {
+        name: OLD_T.to_string(),
+        bytes: named::old_t(),
+        number: 5,
+        place: 12,
+    });
     list
 }
 
@@ -167,8 +184,8 @@ fn add_values(list: &mut Vec<Specimen>) {
         (3, 1, &[3, NO_PART]),
         (3, 2, &[2, 4, NO_PART]),
         (3, 9, &[0]),
-        (3, 10, &[5, NO_PART]),
-        (3, 14, &[0]),
+        (3, COUNT, &[TOO_MANY, NO_PART]),
+        (3, WRITTEN.end - 1, &[0]),
         (4, 2, &[4, NO_PART]),
         (4, 6, &[4, NO_PART]),
         (5, 4, &[0]),
@@ -193,13 +210,15 @@ fn push_value(list: &mut Vec<Specimen>, items: &Items, index: usize, byte: usize
 fn add_strays(list: &mut Vec<Specimen>) {
     let items = sound().items();
     for (rule, index) in of_kind(&items, 3).into_iter().enumerate() {
-        for count in 1..=4u8 {
+        for count in 1..=WRITTEN_PLACES {
             // The letters before have the most processes: each is stray in a later rule.
             for letter in 0..rule as u8 {
                 let mut stray = items.clone();
-                stray[index][10..].copy_from_slice(&[count, 2, 2, 2, 2]);
-                stray[index][10 + usize::from(count)] = letter;
-                stray[index][11 + usize::from(count)..].fill(NO_PART);
+                stray[index][COUNT] = count as u8;
+                let written = &mut stray[index][WRITTEN];
+                written[..count - 1].fill(2);
+                written[count - 1] = letter;
+                written[count..].fill(NO_PART);
                 let name = format!("rule {rule}, letter {count} is stray");
                 push(list, name, stray, 6, index);
             }
@@ -208,7 +227,7 @@ fn add_strays(list: &mut Vec<Specimen>) {
     let first = of_kind(&items, 3)[0];
     let mut stray = items.clone();
     stray.insert(first, items[first + 1].clone());
-    stray[first][11] = 0;
+    stray[first][WRITTEN.start] = 0;
     push(list, "first rule is stray".to_string(), stray, 6, first);
 }
 
@@ -264,9 +283,9 @@ fn add_rivals(list: &mut Vec<Specimen>) {
         push(list, name.to_string(), faulty, number, index);
     };
     let mut stray = items[rule].clone();
-    stray[10..13].copy_from_slice(&[2, 0, 3]);
+    stray[COUNT..COUNT + 3].copy_from_slice(&[2, 0, 3]);
     rival("stray and unknown letter", 5, rule, &stray, false);
-    stray[10..13].copy_from_slice(&[1, 0, 0]);
+    stray[COUNT..COUNT + 3].copy_from_slice(&[1, 0, 0]);
     rival("stray and spare place", 5, rule, &stray, false);
     let mut entering = items[watch].clone();
     entering[6..8].copy_from_slice(&[1, 4]);
@@ -324,18 +343,18 @@ fn flip(rng: &mut Rng, item: &mut [u8]) {
 /// A byte becomes one of those that bound the good values.
 fn set_byte(rng: &mut Rng, item: &mut [u8]) {
     let byte = rng.below(item.len());
-    item[byte] = *rng.pick(&[0, 1, 2, 3, 4, 5, 7, 8, 9, 15, 16, 31, 32, 254, 255]);
+    item[byte] = *rng.pick(&[0, 1, 2, 3, 4, 5, 6, 7, 8, 9, 15, 16, 31, 32, 254, 255]);
 }
 
 /// A rule's written letter or a watch transition's state after becomes another small number.
 fn spoil(rng: &mut Rng, items: &mut Items) {
-    let (kind, first) = *rng.pick(&[(3, 11), (4, 6)]);
+    let (kind, bytes) = rng.pick(&[(3, WRITTEN), (4, 6..10)]).clone();
     let likes = of_kind(items, kind);
     if likes.is_empty() {
         return;
     }
     let item = &mut items[*rng.pick(&likes)];
-    for byte in first..first + 4 {
+    for byte in bytes {
         if item.get(byte).is_some_and(|&value| value != NO_PART) && rng.chance(1, 2) {
             item[byte] = rng.below(6) as u8;
         }
@@ -361,8 +380,8 @@ fn duplicate(rng: &mut Rng, items: &mut Items, index: usize, other: usize) {
 
 /// An item of any kind, its body as long as the kind asks, of small numbers.
 fn stranger(rng: &mut Rng) -> Vec<u8> {
-    let kind = rng.below(10);
-    let length = [0, 2, 1, 14, 9, 4, 4, 1, 0, 3][kind];
+    let kind = rng.below(BODY.len() + 1);
+    let length = BODY.get(kind).copied().unwrap_or(3);
     let mut item = vec![kind as u8];
     item.extend((0..length).map(|_| *rng.pick(&[0, 0, 1, 1, 2, 3, NO_PART])));
     item

@@ -10,5 +10,8 @@ mod model;
 mod piles;
 mod rng;
 
-pub use model::{Group, NO_PART, Process, Rule, Table, Transition, drop_twin, group, restrict};
+pub use model::{
+    BODY, Group, NO_PART, Process, Rule, Table, Transition, WRITTEN_PLACES, drop_twin, group,
+    restrict,
+};
 pub use rng::Rng;

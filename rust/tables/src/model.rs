@@ -3,8 +3,14 @@
 /// The byte of a process that has no part, and of a spare written place.
 pub const NO_PART: u8 = 0xFF;
 
+/// The most letters that a rule writes: a rule's body has a place for each.
+pub const WRITTEN_PLACES: usize = 6;
+/// Where the count of written letters and their places stand in a rule's body.
+pub(crate) const COUNT: usize = 9;
+const WRITTEN: usize = COUNT + 1;
+
 /// The length of an item's body by its kind.
-const BODY: [usize; 9] = [0, 2, 1, 14, 9, 4, 4, 1, 0];
+pub const BODY: [usize; 9] = [0, 2, 1, WRITTEN + WRITTEN_PLACES, 9, 4, 4, 1, 0];
 
 /// A state group, one byte for each process.
 pub type Group = [u8; 4];
@@ -85,7 +91,7 @@ impl Table {
                 letter: body[0],
                 before: group(&body[1..5]),
                 after: group(&body[5..9]),
-                written: body[10..][..usize::from(body[9])].to_vec(),
+                written: body[WRITTEN..][..usize::from(body[COUNT])].to_vec(),
             }),
             4 => self.watch.push(Transition {
                 letter: body[0],
@@ -154,13 +160,13 @@ impl Table {
     }
 }
 
-/// A rule's item. More than four written letters give their count and the first four.
+/// A rule's item. More written letters than places give their count and as many as have a place.
 fn rule_item(rule: &Rule) -> Vec<u8> {
     let mut item = vec![3, rule.letter];
     item.extend(rule.before);
     item.extend(rule.after);
     item.push(rule.written.len() as u8);
-    item.extend((0..4).map(|place| rule.written.get(place).unwrap_or(&NO_PART)));
+    item.extend((0..WRITTEN_PLACES).map(|place| rule.written.get(place).unwrap_or(&NO_PART)));
     item
 }
 

@@ -1,6 +1,6 @@
-//! The small tables of document 01, and those of request 2.2.
+//! The small tables of document 01, and those of requests 2.2 and 2.4.
 
-use crate::model::{Group, Table, group};
+use crate::model::{Group, Table, WRITTEN_PLACES, group};
 
 const ZERO: Group = [0; 4];
 const ONE: Group = [1; 4];
@@ -18,6 +18,16 @@ pub fn t() -> Table {
     table.accepting.push(group(&[1, 1]));
     table.pile.push(both);
     table
+}
+
+/// T as it was exported with four written places, in rule bodies of 14 bytes. Its first rule is
+/// read on into the second, whose first bytes are no spare places: refused 5 at 12.
+pub fn old_t() -> Vec<u8> {
+    let mut items = t().items();
+    for rule in items.iter_mut().filter(|item| item[0] == 3) {
+        rule.truncate(1 + 14);
+    }
+    items.concat()
 }
 
 pub fn t_without_rule_2() -> Table {
@@ -74,7 +84,7 @@ pub fn start_pile(height: usize) -> Table {
     table
 }
 
-/// One rule that writes a letter `count` times, one that removes it; a count of 5 is refused 5.
+/// One rule that writes a letter `count` times, one that removes it; a count of 7 is refused 5.
 pub fn count(count: usize) -> Table {
     let mut table = Table::new(1, 1, 1);
     let many = table.letter(1);
@@ -83,6 +93,26 @@ pub fn count(count: usize) -> Table {
     table.rule(one, ZERO, ZERO, &[]);
     table.accepting.push(group(&[0]));
     table.pile.push(many);
+    table
+}
+
+/// Four processes of three states. Rule 0 replaces a letter of all four by six: one of each process
+/// and two of two processes. Each of these has a rule that removes it and moves its processes on by
+/// one state.
+pub fn six_written() -> Table {
+    let mut table = Table::new(4, 3, 3);
+    let all = table.letter(0b1111);
+    let singles = [0, 1, 2, 3].map(|process| table.letter(1 << process));
+    let pairs = [0b0011, 0b1100].map(|bits| table.letter(bits));
+    table.rule(all, ZERO, ZERO, &[&singles[..], &pairs].concat());
+    for single in singles {
+        table.rule(single, ZERO, ONE, &[]);
+    }
+    for pair in pairs {
+        table.rule(pair, ONE, [2; 4], &[]);
+    }
+    table.accepting.push([2; 4]);
+    table.pile.push(all);
     table
 }
 
@@ -129,6 +159,7 @@ pub fn all() -> Vec<(String, Table)> {
         ("smallest".to_string(), smallest()),
         ("idle station".to_string(), idle_station()),
         ("spread word".to_string(), spread_word()),
+        ("six written letters".to_string(), six_written()),
     ];
     for letters in [1, 2, 3, 19, 20, 32] {
         tables.push((format!("doubling {letters}"), doubling(letters)));
@@ -136,7 +167,7 @@ pub fn all() -> Vec<(String, Table)> {
     for height in [0, 1, 64, 65] {
         tables.push((format!("start pile {height}"), start_pile(height)));
     }
-    for written in 0..=5 {
+    for written in 0..=WRITTEN_PLACES + 1 {
         tables.push((format!("count {written}"), count(written)));
     }
     tables

@@ -1,7 +1,9 @@
 //! Random accepted tables.
 
 use crate::bench;
-use crate::model::{Group, NO_PART, Process, Table, Transition, drop_twin, restrict};
+use crate::model::{
+    Group, NO_PART, Process, Table, Transition, WRITTEN_PLACES, drop_twin, restrict,
+};
 use crate::rng::Rng;
 
 /// How large a random table may become.
@@ -11,7 +13,6 @@ pub struct Shape {
     pub states: usize,
     pub letters: usize,
     pub rules: usize,
-    pub written: usize,
     pub watch: usize,
     pub accepting: usize,
     pub pile: usize,
@@ -24,7 +25,6 @@ impl Shape {
         states: 3,
         letters: 5,
         rules: 14,
-        written: 3,
         watch: 5,
         accepting: 3,
         pile: 4,
@@ -36,7 +36,6 @@ impl Shape {
         states: 4,
         letters: 4,
         rules: 40,
-        written: 4,
         watch: 6,
         accepting: 3,
         pile: 5,
@@ -48,7 +47,6 @@ impl Shape {
         states: 8,
         letters: 12,
         rules: 80,
-        written: 4,
         watch: 30,
         accepting: 8,
         pile: 12,
@@ -60,7 +58,6 @@ impl Shape {
         states: 8,
         letters: 32,
         rules: 200,
-        written: 4,
         watch: 200,
         accepting: 64,
         pile: 64,
@@ -258,8 +255,7 @@ impl<'r> Grower<'r> {
             let rule = self.rng.pick(&self.table.rules);
             (letter, before) = (rule.letter, rule.before);
         }
-        let count = *self.rng.pick(&[0, 0, 1, 1, 2, 2, 3, 4]);
-        let count = count.min(self.shape.written);
+        let count = *self.rng.pick(&[0, 0, 1, 1, 2, 2, 3, 4, 5, WRITTEN_PLACES]);
         let path = self.path(self.bits(letter), count);
         self.table.rule(letter, before, path.first, &path.word);
         drop_twin(&mut self.table.rules);

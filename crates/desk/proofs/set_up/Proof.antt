@@ -3,7 +3,7 @@ use Prim.Native.Nat.{ℕ}
 use native.Mathlib.Omega.{arith}
 use lib.ListN.{length-replicate, replicate}
 use borrow.Author.Needs.{needs}
-use Rattle.table.specs.Places.{longest}
+use Rattle.model.specs.Tables.{longest}
 use Rattle.table.proofs.Layouts.{table-length, table-modest}
 use Rattle.desk.proofs.Opening.{opened-desk}
 use Rattle.desk.proofs.set_up.Statement.{statement}

@@ -1,11 +1,10 @@
--- The search from a state: at the word's end it arrives, a state that was passed is left, else it goes on by each record in turn.
+-- The search from a state: a state that was passed is left, else it goes on by each record in turn, and arrives where the record reads the last letter.
 use mathlib.Core.Path.{refl, sym, _∙_}
 use mathlib.Core.Logic.{⊎-elim}
 use Prim.Native.Nat.{ℕ, _-_, _<_}
 use native.Mathlib.Omega.{arith}
 use Rattle.automaton.proofs.StateSets.{first-at}
-use Rattle.paths.proofs.Arriving.{searched-log}
-use Rattle.paths.proofs.Looping.{Looping, explored-end, explored-passed, last-asks, last-explored, looping-again, looping-asks, looping-end, looping-level, looping-log, looping-longer, looping-next, looping-pass, looping-record, looping-scratch, looping-start}
+use Rattle.paths.proofs.Looping.{Looping, explored-passed, last-asks, last-explored, looping-again, looping-asks, looping-end, looping-level, looping-log, looping-longer, looping-next, looping-pass, looping-record, looping-scratch, looping-start}
 use borrow.Author.Needs.{needs}
 use borrow.Fn.Kinds.{In}
 use borrow.Fn.PlainCycle.{Measures, is, falls, and}
@@ -46,8 +45,6 @@ explore-μ-loop log₀ scratch₀ job level state found trail count width x lett
 
 pub +explore-spec : {M : Type 1} → statement M
 +explore-spec = close μ-explore λ t. explore-lts.spec (
-  arrive-reads.Asked,
-  arrive-reads.Learnt,
   number-reads.Asked,
   number-reads.Learnt,
   is-passed-reads.Asked,
@@ -68,6 +65,8 @@ pub +explore-spec : {M : Type 1} → statement M
   is-fresh-reads.Learnt,
   longer-reads.Asked,
   longer-reads.Learnt,
+  arrive-reads.Asked,
+  arrive-reads.Learnt,
   explore-below t,
   explore.Post,
   next-match-reads.Asked,
@@ -79,27 +78,22 @@ pub +explore-spec : {M : Type 1} → statement M
     explore.Post
     explore-Inv-loop
     explore-μ-loop
-    (λ c κs. let p = c .before .before .before .before .before .pre .1 in (p .0, rw (c .before .before .if1 .taken) at (p .1), p .2, p .3))
-    (λ c. searched-log _ _ _ _ _ _ _ _ (c .before .before .before .before .before .before .before .before .before .before .pre .1 .0 .holds)
-    (c .before .before .before .before .arrive .ensures))
-    (λ c. c .before .before .before .before .arrive .ensures .scratch-length)
-    (λ c. explored-end _ (c .before .before .before .before .before .before .before .before .before .before .pre .1)
-    (c .before .before .before .before .before .before .before .if1 .taken) (c .before .before .before .before .arrive .ensures))
     (λ c κs. search needs)
     (λ c κs.
-    let p = c .before .before .before .before .before .pre .1 in
-    (omega (arith, p .0 .few, p .1 .within), c .before .number .ensures .1, omega (arith, p .0 .room .room)))
+    let p = c .before .before .before .before .pre .1 in
+    (omega (arith, p .0 .few, p .4), c .before .number .ensures .1, omega (arith, p .0 .room .room)))
     (λ c. refl)
-    (λ c. explored-passed _ (c .before .before .before .before .before .before .before .pre .1) (c .before .before .before .before .if1 .left)
-    (c .before .before .before .number .ensures .0) (sym (c .before .is-passed .ensures) ∙ c .if2 .taken))
-    (λ c κs. let p = c .before .before .before .before .before .before .before .pre .1 in omega (arith, p .0 .few, p .1 .within, c .before .before .before .before .if1 .left))
-    (λ c κs. let p = c .before .before .before .before .before .before .before .before .pre .1 in omega (arith, p .0 .few, p .1 .within, c .before .before .before .before .before .if1 .left))
+    (λ c.
+    let p = c .before .before .before .before .before .before .pre .1 in
+    explored-passed _ (p .0, p .1, p .2, p .3) (p .4) (c .before .before .before .number .ensures .0) (sym (c .before .is-passed .ensures) ∙ c .if1 .taken))
+    (λ c κs. let p = c .before .before .before .before .before .before .pre .1 in omega (arith, p .0 .few, p .4))
+    (λ c κs. let p = c .before .before .before .before .before .before .before .pre .1 in omega (arith, p .0 .few, p .4))
     (λ c κs. search needs)
-    (λ c κs. let w = c .before .before .before .before .before .before .before .before .before .before .before .before .pre .1 .0 in (w .room, w .ringed, w .freshened, w .low))
+    (λ c κs. let w = c .before .before .before .before .before .before .before .before .before .before .before .pre .1 .0 in (w .room, w .ringed, w .freshened, w .low))
     (λ c.
     let at-letter = c .before .before .before .before .before in
-    looping-start (at-letter .before .before .before .before .before .before .before .before .pre .1)
-    (at-letter .before .before .before .before .before .if1 .left) (at-letter .before .before .before .before .number .ensures .0)
+    let p = at-letter .before .before .before .before .before .before .before .pre .1 in
+    looping-start (p .0, p .1, p .2, p .3) (p .4) (at-letter .before .before .before .before .number .ensures .0)
     (at-letter .letter-of .ensures) (c .before .before .before .before .mask-of .ensures) (c .before .before .before .restricted .ensures) (c .first-try .ensures))
     (λ c κs. looping-record (c .before .before .loop .inv) (c .before .loop-test .taken))
     (λ c κs. search needs)
@@ -111,15 +105,15 @@ pub +explore-spec : {M : Type 1} → statement M
     let at-merged = at-longer .before .before .before in
     let at-loop = at-merged .before .before .before .before in
     last-asks (at-loop .loop .inv) (at-merged .before .before .before .loop-test .taken) (at-merged .before .after-at .ensures) (at-merged .merged .ensures) (at-longer .before .before .is-fresh .ensures)
-    (at-longer .longer .ensures) (c .before .before .if3 .taken))
+    (at-longer .longer .ensures) (c .before .before .if2 .taken))
     (λ c. omega (arith, looping-level (c .before .before .before .before .before .before .before .before .before .before .loop .inv)))
     (λ c κs.
     let at-longer = c .before .before .before in
     let at-merged = at-longer .before .before .before in
-    let at-loop = at-merged .before .before .before .before in (
-      omega (arith, at-loop .before .before .before .before .before .before .before .before .before .before .before .before .before .before .pre .0, at-loop .loop .inv .more),
-      looping-asks (at-loop .loop .inv) (at-merged .before .before .before .loop-test .taken) (at-merged .before .after-at .ensures) (at-merged .merged .ensures) (at-longer .before .before .is-fresh .ensures)
-          (at-longer .longer .ensures),
+    let at-loop = at-merged .before .before .before .before in
+    let asks = looping-asks (at-loop .loop .inv) (at-merged .before .before .before .loop-test .taken) (at-merged .before .after-at .ensures) (at-merged .merged .ensures) (at-longer .before .before .is-fresh .ensures) (at-longer .longer .ensures) in (
+      omega (arith, at-loop .before .before .before .before .before .before .before .before .before .before .before .before .before .pre .0, at-loop .loop .inv .more),
+      (asks .0, asks .1, asks .2, asks .3, omega (arith, at-loop .loop .inv .more, c .before .before .if2 .left)),
     ))
     (λ c κs.
     let at-end = c .before .before in
@@ -128,11 +122,11 @@ pub +explore-spec : {M : Type 1} → statement M
     let at-loop = at-merged .before .before .before .before in
     looping-next (at-loop .loop .inv) (at-merged .before .before .before .loop-test .taken) (at-merged .before .after-at .ensures) (at-merged .merged .ensures) (at-longer .before .before .is-fresh .ensures)
     (at-longer .longer .ensures)
-    {total′ = at-end .if3 .total} (⊎-elim
+    {total′ = at-end .if2 .total} (⊎-elim
     (λ arrived. rw (arrived .8, arrived .9, arrived .10) (last-explored (at-loop .loop .inv) (at-merged .before .before .before .loop-test .taken) (at-merged .before .after-at .ensures) (at-merged .merged .ensures) (at-longer .before .before .is-fresh .ensures) (at-longer .longer .ensures)
     (arrived .0 .taken) (arrived .3 .ensures)))
     (λ explored. rw (explored .8, explored .9, explored .10) (explored .3 .ensures))
-    (at-end .if3 .came)))
+    (at-end .if2 .came)))
     (λ c. omega (arith, first-at _ _ _ _ (c .next-match .ensures) .low, c .before .before .before .before .before .before .before .before .before .before .loop-test .taken))
     (λ c.
     let at-end = c .before .before .before in
@@ -145,7 +139,7 @@ pub +explore-spec : {M : Type 1} → statement M
     (λ arrived. rw (arrived .8, arrived .9, arrived .10) (last-explored (at-loop .loop .inv) (at-merged .before .before .before .loop-test .taken) (at-merged .before .after-at .ensures) (at-merged .merged .ensures) (at-longer .before .before .is-fresh .ensures) (at-longer .longer .ensures)
     (arrived .0 .taken) (arrived .3 .ensures)))
     (λ explored. rw (explored .8, explored .9, explored .10) (explored .3 .ensures))
-    (at-end .if3 .came))
+    (at-end .if2 .came))
     (c .next-match .ensures))
     (λ c κs. looping-pass (c .before .before .loop .inv))
     (λ c. looping-log (c .before .before .before .before .before .loop .inv))

@@ -1,6 +1,7 @@
 -- The places before the first that has none are counted (Pushing).
 use Prim.Native.Nat.{_-_}
 use native.Mathlib.Omega.{arith}
+use Rattle.model.specs.Tables.{writtenPlaces}
 use Rattle.unfold.proofs.Pushing.{Measuring, measured-all, measured-none, measuring-start, measuring-turn}
 use Rattle.unfold.proofs.path_length.Statement.{statement}
 use Rattle.unfold.proofs.path_length.Tie as tie
@@ -9,7 +10,7 @@ abbrev Inv-loop : tie.InvT-loop
 Inv-loop log x n₀ n = Measuring log x n
 
 abbrev μ-loop : tie.MeasureT-loop
-μ-loop log x n₀ n = 4 - n
+μ-loop log x n₀ n = writtenPlaces - n
 
 pub path-length-spec : {M : Type 1} → statement M
 path-length-spec = tie.close (tie.spec Inv-loop μ-loop (λ c. measuring-start (c .before .args .log .now) (c .before .args .x))

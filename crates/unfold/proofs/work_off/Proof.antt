@@ -3,6 +3,7 @@ use mathlib.Core.Path.{refl}
 use Prim.Native.Nat.{_+_, _-_, _*_}
 use native.Mathlib.Omega.{arith}
 use lib.ListN.{length}
+use Rattle.model.specs.Tables.{writtenPlaces}
 use borrow.Author.Needs.{needs}
 use Rattle.stack.specs.StackNumbers.{stackOf}
 use Rattle.unfold.proofs.Working.{Working, working-start, working-workable, working-turn, working-less, working-small, working-end}
@@ -13,7 +14,7 @@ abbrev Inv-loop : tie.InvT-loop
 Inv-loop table changes log scratch₀ page₀ count top w₀ scratch page w = Working table (length scratch₀) (stackOf scratch₀ top) page₀ scratch page w
 
 abbrev μ-loop : tie.MeasureT-loop
-μ-loop table changes log scratch₀ page₀ count top w₀ scratch page w = 5 * (length page₀ - w .rules) + w .top
+μ-loop table changes log scratch₀ page₀ count top w₀ scratch page w = (1 + writtenPlaces) * (length page₀ - w .rules) + w .top
 
 pub work-off-spec : {M : Type 1} → statement M
 work-off-spec = tie.close (tie.spec Inv-loop μ-loop (λ c κs. c .before .before .before .before .before .pre .0 .holds)

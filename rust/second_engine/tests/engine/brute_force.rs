@@ -2,11 +2,12 @@
 
 use crate::calls::{Seed, answered, log_of, ran, walked};
 use crate::naive::{self, Configuration, Record};
-use second_engine::{Answer, Refusal, Run, Walk};
-use tables::Table;
+use second_engine::{Answer, RECORD_BYTES, Refusal, Run, Walk};
+use std::collections::BTreeSet;
 use tables::random::{self, Shape};
+use tables::{Table, WRITTEN_PLACES};
 
-const LOG: usize = 24 * 1_000 + 5;
+const LOG: usize = RECORD_BYTES * 1_000 + 5;
 
 /// What has been compared.
 #[derive(Default, Debug)]
@@ -23,6 +24,8 @@ struct Tally {
     choices: usize,
     /// Tables with a run whose peak is below the greatest length of the word.
     spread: usize,
+    /// Tables with a record whose path has every place, by the processes of its letter.
+    full_paths: [usize; 5],
 }
 
 /// The bytes of all records.
@@ -131,6 +134,19 @@ fn compare(table: &Table, budget: usize, tally: &mut Tally) {
     let rounds = records.last().map_or(0, |record| record.round);
     tally.most_rounds = tally.most_rounds.max(rounds);
     tally.choices += usize::from(records.iter().any(|record| record.choices > 1));
+    let full = records
+        .iter()
+        .filter(|record| record.path.len() == WRITTEN_PLACES);
+    let sizes: BTreeSet<usize> = full.map(|record| letter_size(table, record)).collect();
+    for size in sizes {
+        tally.full_paths[size] += 1;
+    }
+}
+
+/// How many processes the record's letter has.
+fn letter_size(table: &Table, record: &Record) -> usize {
+    let letter = usize::from(record.transition.letter);
+    table.letters[letter].count_ones() as usize
 }
 
 /// Compares random tables of one shape.
@@ -149,6 +165,7 @@ fn tiny_tables_follow_the_definitions() {
     let tally = compare_shape(&Shape::TINY, 0..6_000);
     assert!(tally.reachable > 2_000 && tally.unreachable > 2_000);
     assert!(tally.spread > 100 && tally.skipped < 100);
+    assert!(tally.full_paths[1..=3].iter().all(|&count| count > 10));
 }
 
 #[test]
@@ -163,6 +180,7 @@ fn middle_tables_follow_the_definitions() {
     let tally = compare_shape(&Shape::MIDDLE, 100_000..101_000);
     assert!(tally.reachable > 300 && tally.unreachable > 300);
     assert!(tally.choices > 300 && tally.spread > 100 && tally.skipped < 100);
+    assert!(tally.full_paths[1..=4].iter().all(|&count| count > 10));
 }
 
 #[test]

@@ -2,7 +2,9 @@
 
 use crate::calls::{Seed, answered, junk, junk_page, log_of, ran, walked};
 use crate::naive::Configuration;
-use second_engine::{Answer, Refusal, Run, WALK_SCRATCH, Walk, answer, run, scratch_needed, walk};
+use second_engine::{
+    Answer, RECORD_BYTES, Refusal, Run, WALK_SCRATCH, Walk, answer, run, scratch_needed, walk,
+};
 use tables::random::{self, Shape};
 use tables::{Rng, Table, named};
 
@@ -29,16 +31,17 @@ fn logs_around_the_limit() {
     for seed in (400_000..401_000).map(Seed) {
         let mut rng = seed.rng();
         let bytes = random_table(&mut rng).bytes();
-        let (given, log) = answered(&bytes, 24 * 1_000);
+        let (given, log) = answered(&bytes, RECORD_BYTES * 1_000);
         let Some((records, _)) = figures(given) else {
             continue;
         };
-        let filled = &log[..24 * records];
-        for length in [24 * records, 24 * records + rng.between(1, 60)] {
+        let exact = RECORD_BYTES * records;
+        let filled = &log[..exact];
+        for length in [exact, exact + rng.between(1, 60)] {
             assert_eq!(answered(&bytes, length), (given, log_of(filled, length)));
         }
         if records > 0 {
-            let length = 24 * rng.below(records) + rng.below(24);
+            let length = rng.below(exact);
             let short = Answer::Refused(REFUSED(10));
             assert_eq!(answered(&bytes, length), (short, vec![0; length]));
             let (given, log, page) = ran(&bytes, length, 7);
@@ -53,7 +56,7 @@ fn pages_around_the_steps() {
     for seed in (410_000..411_000).map(Seed) {
         let mut rng = seed.rng();
         let bytes = random_table(&mut rng).bytes();
-        let (given, log) = answered(&bytes, 24 * 1_000);
+        let (given, log) = answered(&bytes, RECORD_BYTES * 1_000);
         let Some((_, Some(steps))) = figures(given) else {
             continue;
         };
@@ -78,9 +81,19 @@ fn pages_around_the_steps() {
 fn scratch_of_all_lengths() {
     let bytes = named::t().bytes();
     let mut rng = Rng::new(3);
-    for log_length in [0, 23, 24, 71, 72, 100, 24 * 65_535, 24 * 65_535 + 500] {
+    for (log_length, records) in [
+        (0, 0),
+        (27, 0),
+        (28, 1),
+        (83, 2),
+        (84, 3),
+        (100, 3),
+        (28 * 65_535 - 1, 65_534),
+        (28 * 65_535, 65_535),
+        (28 * 65_535 + 500, 65_535),
+    ] {
         let needed = scratch_needed(log_length);
-        assert_eq!(needed, 34_000 + 6 * (log_length / 24).min(65_535));
+        assert_eq!(needed, 34_000 + 10 * records);
         for length in [0, 33_999, needed - 1] {
             let before = junk(&mut rng, log_length);
             let (mut log, mut scratch) = (before.clone(), vec![9; length]);
@@ -96,9 +109,9 @@ fn scratch_of_all_lengths() {
         for length in [needed, needed + 999] {
             let (mut log, mut scratch) = (vec![9; log_length], vec![9; length]);
             let given = answer(&bytes, &mut log, &mut scratch);
-            assert_eq!(given == Answer::Refused(REFUSED(10)), log_length < 72);
+            assert_eq!(given == Answer::Refused(REFUSED(10)), records < 3);
             assert_eq!(scratch, vec![0; length]);
-            assert!(log.iter().skip(72).all(|&byte| byte == 0));
+            assert!(log.iter().skip(84).all(|&byte| byte == 0));
         }
     }
 }

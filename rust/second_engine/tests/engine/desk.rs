@@ -4,7 +4,7 @@ use crate::calls::Seed;
 use crate::naive::Configuration;
 use second_engine::{DESK_PILE, Desk, NAMES, Refusal};
 use tables::random::{self, Shape};
-use tables::{NO_PART, Rng, Table, damage, named};
+use tables::{NO_PART, Rng, Table, WRITTEN_PLACES, damage, named};
 
 fn opened(table: &Table) -> Desk {
     Desk::open(&table.bytes()).expect("an accepted table")
@@ -24,7 +24,7 @@ fn sight(desk: &Desk) -> ([u8; 2], Vec<u8>) {
 fn heap() -> Table {
     let mut table = Table::new(1, 1, 1);
     let letter = table.letter(1);
-    for count in 0..=4 {
+    for count in 0..=WRITTEN_PLACES {
         table.rule(letter, [0; 4], [0; 4], &vec![letter; count]);
     }
     table.pile.push(letter);
@@ -69,16 +69,16 @@ fn refused_tables_have_no_desk() {
 #[test]
 fn piles_have_room_for_256_letters() {
     let mut desk = opened(&heap());
-    for _ in 0..85 {
-        assert_eq!(desk.fire(4), Ok(()));
+    for _ in 0..51 {
+        assert_eq!(desk.fire(6), Ok(()));
     }
     assert_eq!(desk.pile(), [0; DESK_PILE]);
-    for rule in 2..=4 {
+    for rule in 2..=6 {
         assert_eq!(desk.fire(rule), refused(14));
     }
     assert_eq!(desk.fire(1), Ok(()));
     assert_eq!(desk.pile(), [0; 256]);
-    assert_eq!(desk.firing(), [0, 1, 2, 3, 4]);
+    assert_eq!(desk.firing(), [0, 1, 2, 3, 4, 5, 6]);
     assert_eq!(desk.fire(0), Ok(()));
     assert_eq!(desk.fire(3), refused(14));
     assert_eq!(desk.fire(2), Ok(()));
@@ -90,13 +90,13 @@ fn piles_have_room_for_256_letters() {
 fn idle_comes_before_full() {
     let mut table = heap();
     let other = table.letter(1);
-    table.rule(other, [0; 4], [0; 4], &[0; 4]);
+    table.rule(other, [0; 4], [0; 4], &[0; WRITTEN_PLACES]);
     let mut desk = opened(&table);
-    for _ in 0..85 {
-        assert_eq!(desk.fire(4), Ok(()));
+    for _ in 0..51 {
+        assert_eq!(desk.fire(6), Ok(()));
     }
-    assert_eq!(desk.fire(5), refused(12));
-    assert_eq!(desk.fire(4), refused(14));
+    assert_eq!(desk.fire(7), refused(12));
+    assert_eq!(desk.fire(6), refused(14));
 }
 
 #[test]

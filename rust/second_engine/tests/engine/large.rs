@@ -1,12 +1,14 @@
 //! Large tables: full logs, many rounds, deep reasons, long runs, kinds at their ceilings.
 
 use crate::calls::{Seed, answered, ran, walked};
-use second_engine::{Answer, Refusal, Run, Walk};
+use second_engine::{Answer, RECORD_BYTES, Refusal, Run, Walk};
 use std::collections::{HashMap, HashSet};
 use tables::random::{self, Shape};
-use tables::{Group, Rng, Table, bench};
+use tables::{Group, Rng, Table, WRITTEN_PLACES, bench};
 
-const FULL: usize = 24 * 65_535;
+const FULL: usize = RECORD_BYTES * 65_535;
+/// Where the path of a record begins.
+const PATH: usize = 13;
 
 /// A record as it stands in the log.
 struct Record {
@@ -22,7 +24,8 @@ struct Record {
 fn record(bytes: &[u8]) -> Record {
     let group = |at: usize| -> Group { std::array::from_fn(|process| bytes[at + process]) };
     let number = |at: usize| u16::from_le_bytes([bytes[at], bytes[at + 1]]);
-    let path = [13, 15, 17, 19].map(number).into_iter();
+    let path = (0..WRITTEN_PLACES).map(|place| number(PATH + 2 * place));
+    let steps = PATH + 2 * WRITTEN_PLACES;
     Record {
         letter: bytes[0],
         before: group(1),
@@ -30,16 +33,16 @@ fn record(bytes: &[u8]) -> Record {
         round: number(9),
         rule: number(11),
         path: path.take_while(|&number| number != 0xFFFF).collect(),
-        steps: u32::from_le_bytes([bytes[21], bytes[22], bytes[23], 0]),
+        steps: u32::from_le_bytes([bytes[steps], bytes[steps + 1], bytes[steps + 2], 0]),
     }
 }
 
 /// Checks a log for itself: the order, every reason with its rounds and steps, and that no rule
 /// adds anything more.
 fn audit(table: &Table, log: &[u8], transitions: u32) {
-    let (filled, rest) = log.split_at(24 * transitions as usize);
+    let (filled, rest) = log.split_at(RECORD_BYTES * transitions as usize);
     assert!(rest.iter().all(|&byte| byte == 0));
-    let records: Vec<Record> = filled.chunks(24).map(record).collect();
+    let records: Vec<Record> = filled.chunks(RECORD_BYTES).map(record).collect();
     let key = |r: &Record| (r.round, r.letter, r.before, r.after);
     assert!(records.is_sorted_by(|one, next| key(one) < key(next)));
     assert_eq!(
@@ -182,8 +185,8 @@ fn full_logs() {
     let over = bench::wide(65_536, 2).bytes();
     assert_eq!(answered(&over, FULL).0, SHORT_LOG);
     assert_eq!(
-        answered(&over, FULL + 2_400),
-        (SHORT_LOG, vec![0; FULL + 2_400])
+        answered(&over, FULL + 100 * RECORD_BYTES),
+        (SHORT_LOG, vec![0; FULL + 100 * RECORD_BYTES])
     );
 }
 
@@ -201,7 +204,10 @@ fn exact_sizes_in_between() {
             panic!("{given:?}");
         };
         assert_eq!((transitions, given_rounds), (records as u32, rounds as u32));
-        assert_eq!(answered(&table.bytes(), 24 * records - 1).0, SHORT_LOG);
+        assert_eq!(
+            answered(&table.bytes(), RECORD_BYTES * records - 1).0,
+            SHORT_LOG
+        );
     }
 }
 
@@ -275,8 +281,9 @@ fn longest_runs() {
         number: 11,
         place: 0,
     });
-    assert_eq!(ran(&longer.bytes(), 24 * 19, 1_100_000).0, refused);
-    let (given, _, page) = ran(&bench::long_run(1_000_000).bytes(), 24 * 19, 1_100_000);
+    let log = RECORD_BYTES * 19;
+    assert_eq!(ran(&longer.bytes(), log, 1_100_000).0, refused);
+    let (given, _, page) = ran(&bench::long_run(1_000_000).bytes(), log, 1_100_000);
     assert!(matches!(given, Run::Reachable { .. }));
     assert!(page[1_000_000..].iter().all(|&number| number == 0));
 }
@@ -284,7 +291,7 @@ fn longest_runs() {
 #[test]
 fn full_kinds() {
     let full = bench::full_table();
-    assert_eq!(full.bytes().len(), 5_530);
+    assert_eq!(full.bytes().len(), 5_930);
     check(&full);
     check(&bench::full_pile());
     let mut at_ceiling = [0; 8];
@@ -331,6 +338,6 @@ fn large_random_tables() {
 
 #[test]
 fn wide_random_tables() {
-    let verdicts = check_random(610_000..610_060, random::wide);
+    let verdicts = check_random(611_000..611_060, random::wide);
     assert!(verdicts[0] > 10 && verdicts[2] > 1);
 }

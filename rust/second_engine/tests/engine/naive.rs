@@ -1,7 +1,7 @@
 //! The definitions of document 01, followed word by word with no care for time.
 
 use std::collections::{BTreeMap, BTreeSet, HashSet, VecDeque};
-use tables::{Group, Rule, Table, Transition, restrict};
+use tables::{Group, Rule, Table, Transition, WRITTEN_PLACES, restrict};
 
 pub const STEPS_CAP: u64 = 1_000_001;
 
@@ -17,14 +17,14 @@ pub struct Record {
 }
 
 impl Record {
-    /// The record's 24 bytes.
+    /// The record's bytes.
     pub fn bytes(&self) -> Vec<u8> {
         let mut bytes = vec![self.transition.letter];
         bytes.extend(self.transition.before);
         bytes.extend(self.transition.after);
         bytes.extend(self.round.to_le_bytes());
         bytes.extend(self.rule.unwrap_or(0xFFFF).to_le_bytes());
-        for place in 0..4 {
+        for place in 0..WRITTEN_PLACES {
             let number = self.path.get(place).copied().unwrap_or(0xFFFF);
             bytes.extend(number.to_le_bytes());
         }

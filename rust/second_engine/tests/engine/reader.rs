@@ -1,5 +1,7 @@
 //! A second reading of refusals 1 to 9: every condition for itself, tried in the order that
-//! document 01 gives.
+//! document 01 gives, with the written places of request 2.4.
+
+use tables::WRITTEN_PLACES;
 
 /// An item that all checks have passed, or the one under judgement; a cut one has a short body.
 struct Item<'b> {
@@ -35,7 +37,7 @@ fn body_length(kind: u8) -> usize {
     match kind {
         1 => 2,
         2 | 7 => 1,
-        3 => 14,
+        3 => 10 + WRITTEN_PLACES,
         4 => 9,
         5 | 6 => 4,
         _ => 0,
@@ -114,8 +116,8 @@ fn good_values(earlier: &[Item], item: &Item) -> bool {
                 let count = usize::from(body[9]);
                 group(&body[1..5], bits, true)
                     && group(&body[5..9], bits, true)
-                    && count <= 4
-                    && (0..4).all(|place| match place < count {
+                    && count <= WRITTEN_PLACES
+                    && (0..WRITTEN_PLACES).all(|place| match place < count {
                         true => known(body[10 + place]),
                         false => body[10 + place] == 255,
                     })

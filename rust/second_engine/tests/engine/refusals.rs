@@ -5,7 +5,7 @@ use crate::reader::judge;
 use second_engine::{Answer, Refusal, Run, Walk, answer, run, walk};
 use std::collections::BTreeMap;
 use tables::random::{self, Shape};
-use tables::{Rng, bench, damage, named};
+use tables::{BODY, Rng, bench, damage, named};
 
 /// The refusal that all three calls give for a refused table. No buffer may change, and the
 /// buffers' own faults, an empty scratch among them, may not show.
@@ -71,13 +71,12 @@ fn random_tables_are_accepted() {
 /// How many items come before the refused one: of its kind for refusals 4 to 8, in all for the
 /// others.
 fn items_before(file: &[u8], number: u8, place: usize) -> usize {
-    let lengths = [0, 2, 1, 14, 9, 4, 4, 1, 0];
     let mut at = 0;
     let mut count = 0;
     while at < place {
         let like = file.get(place) == Some(&file[at]);
         count += usize::from(like || !(4..=8).contains(&number));
-        at += 1 + lengths[usize::from(file[at])];
+        at += 1 + BODY[usize::from(file[at])];
     }
     count
 }

@@ -1,10 +1,10 @@
-//! The small tables of document 01, and those of request 2.2.
+//! The small tables of document 01, and those of requests 2.2 and 2.4.
 
 use crate::calls::{answered, ran, walked};
-use second_engine::{Answer, Refusal, Run, Walk, answer};
+use second_engine::{Answer, RECORD_BYTES, Refusal, Run, Walk, answer};
 use tables::{Table, group, named};
 
-const LOG: usize = 24 * 2_000;
+const LOG: usize = RECORD_BYTES * 2_000;
 const PAGE: usize = 10_000;
 
 fn refused(number: u8, place: usize) -> Refusal {
@@ -32,23 +32,23 @@ fn reachable(transitions: u32, rounds: u32, steps: u32, peak: u32) -> Run {
 
 #[test]
 fn t_gives_its_listing() {
-    assert_eq!(named::t().bytes().len(), 70);
+    assert_eq!(named::t().bytes().len(), 76);
     assert_eq!(run_of(&named::t()), (reachable(3, 2, 3, 1), vec![0, 1, 2]));
 }
 
 #[test]
 fn t_log_is_exact() {
-    let (_, log) = answered(&named::t().bytes(), 80);
+    let (_, log) = answered(&named::t().bytes(), 92);
     let n = 0xFF;
     let first = [1, 0, n, n, n, 1, n, n, n, 1, 0, 1, 0];
     let second = [2, n, 0, n, n, n, 1, n, n, 1, 0, 2, 0];
     let third = [0, 0, 0, n, n, 1, 1, n, n, 2, 0, 0, 0];
     let mut expected = first.to_vec();
-    expected.extend([n, n, n, n, n, n, n, n, 1, 0, 0]);
+    expected.extend([n, n, n, n, n, n, n, n, n, n, n, n, 1, 0, 0]);
     expected.extend(second);
-    expected.extend([n, n, n, n, n, n, n, n, 1, 0, 0]);
+    expected.extend([n, n, n, n, n, n, n, n, n, n, n, n, 1, 0, 0]);
     expected.extend(third);
-    expected.extend([0, 0, 1, 0, n, n, n, n, 3, 0, 0]);
+    expected.extend([0, 0, 1, 0, n, n, n, n, n, n, n, n, 3, 0, 0]);
     expected.extend([0; 8]);
     assert_eq!(log, expected);
 }
@@ -71,16 +71,47 @@ fn t_variants() {
 #[test]
 fn t_with_short_logs_and_scratch() {
     let bytes = named::t().bytes();
-    assert!(matches!(answered(&bytes, 72).0, Answer::Reachable { .. }));
-    assert_eq!(answered(&bytes, 71).0, Answer::Refused(refused(10, 0)));
-    assert_eq!(answered(&bytes, 71).1, vec![0; 71]);
-    let mut log = [7; 72];
-    let mut scratch = vec![7; 34_018];
-    let given = answer(&bytes, &mut log, &mut scratch[..34_017]);
+    assert!(matches!(answered(&bytes, 84).0, Answer::Reachable { .. }));
+    assert_eq!(answered(&bytes, 83).0, Answer::Refused(refused(10, 0)));
+    assert_eq!(answered(&bytes, 83).1, vec![0; 83]);
+    let mut log = [7; 84];
+    let mut scratch = vec![7; 34_030];
+    let given = answer(&bytes, &mut log, &mut scratch[..34_029]);
     assert_eq!(given, Answer::Refused(refused(15, 0)));
-    assert_eq!((log, scratch[0]), ([7; 72], 7));
+    assert_eq!((log, scratch[0]), ([7; 84], 7));
     let given = answer(&bytes, &mut log, &mut scratch);
     assert!(matches!(given, Answer::Reachable { .. }));
+}
+
+#[test]
+fn old_t_is_read_with_six_places() {
+    let bytes = named::old_t();
+    assert_eq!(bytes.len(), 70);
+    assert_eq!(answered(&bytes, LOG).0, Answer::Refused(refused(5, 12)));
+}
+
+/// A table without rules has the same bytes whatever places a rule has.
+#[test]
+fn tables_without_rules_read_alike() {
+    let bytes = [
+        1, 1, 2, 2, 1, 4, 0, 0, 255, 255, 255, 1, 255, 255, 255, 5, 1, 255, 255, 255, 6, 0, 255,
+        255, 255, 7, 0, 8,
+    ];
+    let (given, _, page) = ran(&bytes, RECORD_BYTES, 1);
+    assert_eq!((given, page), (reachable(1, 0, 0, 1), vec![0]));
+}
+
+/// Rule 0's path is the records of the six letters that it writes, in their order.
+#[test]
+fn six_written_letters_have_six_places() {
+    let table = named::six_written();
+    let run: Vec<u16> = (0..7).collect();
+    assert_eq!(run_of(&table), (reachable(7, 2, 7, 2), run));
+    let (_, log) = answered(&table.bytes(), 7 * RECORD_BYTES);
+    let last = &log[6 * RECORD_BYTES..];
+    let path = [0, 0, 1, 0, 2, 0, 3, 0, 4, 0, 5, 0];
+    assert_eq!(last[..13], [0, 0, 0, 0, 0, 2, 2, 2, 2, 2, 0, 0, 0]);
+    assert_eq!(last[13..], [&path[..], &[7, 0, 0]].concat());
 }
 
 #[test]
@@ -133,7 +164,7 @@ fn full_piles() {
 #[test]
 fn re_entry_is_refused() {
     let table = named::re_entry();
-    let place = 3 + 2 * 2 + 15;
+    let place = 3 + 2 * 2 + 17;
     let expected = Answer::Refused(refused(7, place));
     assert_eq!(answered(&table.bytes(), LOG).0, expected);
 }
@@ -195,9 +226,12 @@ fn edges_of_pile_and_count() {
     };
     assert_eq!(number(named::start_pile(64)), 0);
     assert_eq!(number(named::start_pile(65)), 4);
-    assert_eq!(number(named::count(4)), 0);
-    assert_eq!(number(named::count(5)), 5);
+    for count in 0..=6 {
+        assert_eq!(number(named::count(count as usize)), 0);
+        let figures = reachable(2, 2 - u32::from(count == 0), count + 1, count.max(1));
+        assert_eq!(run_of(&named::count(count as usize)).0, figures);
+    }
+    assert_eq!(number(named::count(7)), 5);
     assert_eq!(run_of(&named::start_pile(64)).0, reachable(3, 3, 64, 64));
-    assert_eq!(run_of(&named::count(4)).0, reachable(2, 2, 5, 4));
     assert_eq!(run_of(&named::smallest()).0, Run::Refused(refused(16, 0)));
 }

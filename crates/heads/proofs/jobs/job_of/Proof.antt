@@ -22,6 +22,7 @@ returns c =
       label = c .label .ensures;
       count = at-count .written-count .ensures;
       word = rw (at-count .written-count .ensures) at (at-word .word-of .ensures);
+      held-is = refl;
       lo = refl;
       base = refl;
       n = refl;

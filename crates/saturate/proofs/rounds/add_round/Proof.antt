@@ -1,5 +1,5 @@
--- The records of round k are put into rings, the positions that write their letters made active, and their heads added one after the other (RoundSteps); then the
--- round is told (RoundEnds).
+-- The records of round k are put into rings, the positions that write their letters made active, their keys indexed, and their heads added one after the
+-- other (RoundSteps); then the round is told (RoundEnds).
 use mathlib.Core.Path.{_∙_}
 use Prim.Native.Nat.{_-_}
 use native.Mathlib.Omega.{arith}
@@ -7,15 +7,30 @@ use borrow.Author.Needs.{needs}
 use Rattle.table.proofs.Layouts.{table-modest}
 use Rattle.saturate.proofs.RoundEnds.{round-ends}
 use Rattle.saturate.proofs.RoundSteps.{HeadsAdded, below, fits, head-active, head-leading, heads-end, heads-start, heads-turn, rules-fewer}
-use Rattle.saturate.proofs.ScratchParts.{round-stands}
+use Rattle.saturate.proofs.ScratchParts.{keys-keep, may-index, round-stands}
 use Rattle.saturate.proofs.rounds.add_round.Statement.{statement}
 use Rattle.saturate.proofs.rounds.add_round.Tie as tie
 
 abbrev Inv-loop : tie.InvT-loop
-Inv-loop table t log₀ scratch₀ lo base n k fresh number round at₀ log scratch at = HeadsAdded table t round log₀ scratch₀ (at .position) (at .count) log scratch
+Inv-loop table t log₀ scratch₀ lo base n k fresh number first round at₀ log scratch at = HeadsAdded table t round log₀ scratch₀ (at .position) (at .count) log scratch
 
 abbrev μ-loop : tie.MeasureT-loop
-μ-loop table t log₀ scratch₀ lo base n k fresh number round at₀ log scratch at = t .rules - at .position
+μ-loop table t log₀ scratch₀ lo base n k fresh number first round at₀ log scratch at = t .rules - at .position
+
+loop-holds : tie.Need-loop-holds Inv-loop μ-loop
+loop-holds c =
+    let at-index = c .before .before in
+    let at-next = at-index .before .before .before in
+    let at-active = at-next .before .before .before .before in
+    let at-letters = at-active .before .before in
+    let at-append = at-letters .before .before .before .before in
+    let begins = at-append .before .before .before .before .before .before .pre in
+    let rings = at-append .append .ensures in
+    let letters = at-letters .fresh-letters .ensures in
+    let active = at-active .set-active .ensures in
+    let first = at-next .next-active .ensures in
+    let keys = at-index .index-keys .ensures in
+    heads-start (round-stands begins (rings .0) letters active first keys (rings .1) (rings .2)) _ (keys-keep begins (rings .0) letters active first keys) first
 
 pub add-round-spec : {M : Type 1} → statement M
 add-round-spec = tie.close (tie.spec Inv-loop μ-loop (λ c κs. search needs) (λ c κs. search needs)
@@ -29,13 +44,12 @@ add-round-spec = tie.close (tie.spec Inv-loop μ-loop (λ c κs. search needs) (
     let at-active = c .before .before .before in
     let at-append = at-active .before .before .before .before .before .before in
     omega (arith, at-append .before .before .before .before .before .before .pre .scratch, at-append .append .ensures .0 .size, at-active .set-active .ensures .kept .size))
-    (λ c.
-    let at-active = c .before .before .before .before in
+    (λ c κs.
+    let at-active = c .before .before .before .before .before .before in
     let at-letters = at-active .before .before in
     let at-append = at-letters .before .before .before .before in
-    let rings = at-append .append .ensures in
-    heads-start (round-stands (at-append .before .before .before .before .before .before .pre) (rings .0) (at-letters .fresh-letters .ensures) (at-active .set-active .ensures) (rings .1) (rings .2)) (c .next-active .ensures))
-    (λ c κs. search needs)
+    may-index (at-append .before .before .before .before .before .before .pre) (at-append .append .ensures .0) (at-letters .fresh-letters .ensures) (at-active .set-active .ensures))
+    loop-holds (λ c κs. search needs)
     (λ c κs.
     let at-test = c .before .before in
     let is = at-test .before .goes-on .ensures in
@@ -52,10 +66,13 @@ add-round-spec = tie.close (tie.spec Inv-loop μ-loop (λ c κs. search needs) (
     heads-turn (at-test .before .before .loop .inv) (at-test .before .goes-on .ensures) (at-test .if1 .taken) (at-head .add-head .ensures))
     (λ c κs. search needs) (λ c. c .before .before .before .loop .inv .log-length)
     (λ c.
-    let at-active = c .before .before .before .before .before .before .before .before in
-    c .before .before .before .loop .inv .scratch-length ∙ at-active .set-active .ensures .kept .size ∙ at-active .before .before .before .before .before .before .append .ensures .0 .size)
+    let at-index = c .before .before .before .before .before .before in
+    let at-active = at-index .before .before .before .before .before .before .before in
+    c .before .before .before .loop .inv .scratch-length ∙ at-index .index-keys .ensures .outside .size ∙ at-active .set-active .ensures .kept .size
+    ∙ at-active .before .before .before .before .before .before .append .ensures .0 .size)
     (λ c.
-    let at-active = c .before .before .before .before .before .before .before .before in
+    let at-index = c .before .before .before .before .before .before in
+    let at-active = at-index .before .before .before .before .before .before .before in
     let at-append = at-active .before .before .before .before .before .before in
     round-ends (at-append .before .before .before .before .before .before .pre) (heads-end (c .before .before .before .loop .inv) (c .before .before .goes-on .ensures) (c .before .if1 .left))
-    (at-active .set-active .ensures .kept .size ∙ at-append .append .ensures .0 .size) (c .told .ensures)))
+    (at-index .index-keys .ensures .outside .size ∙ at-active .set-active .ensures .kept .size ∙ at-append .append .ensures .0 .size) (c .told .ensures)))

@@ -1,0 +1,4 @@
+pub mod Buckets
+pub mod Pushing
+pub mod Seeking
+pub mod Keeping

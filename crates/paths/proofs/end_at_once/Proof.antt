@@ -1,0 +1,26 @@
+-- The end of a rule that writes no letter: known, or new.
+use mathlib.Core.Path.{sym, _∙_}
+use borrow.Author.Needs.{needs}
+use Rattle.paths.proofs.Arriving.{arrived-known, arrived-new}
+use Rattle.paths.proofs.end_at_once.Statement.{statement}
+use Rattle.paths.proofs.end_at_once.Tie as tie
+
+abbrev restricted : tie.After-is-known → tie.After-restricted
+restricted c = c .before .before .before .before
+
+abbrev entry : tie.After-is-known → tie.Start
+entry c = restricted c .before .before .before
+
+pub end-at-once-spec : {M : Type 1} → statement M
+end-at-once-spec = tie.close (tie.spec (λ c κs. search needs) (λ c κs. search needs) (λ c κs. search needs) (λ c. search needs) (λ c. search needs)
+    (λ c.
+    let at-known = c .before .before .before in
+    let p = entry at-known .pre in
+    arrived-known (p .0) (p .1) _ _ (p .3) (restricted at-known .restricted .ensures) (at-known .before .number .ensures .0) (at-known .is-known .ensures .1)
+    (sym (at-known .is-known .ensures .0) ∙ c .if1 .taken))
+    (λ c κs. search needs) (λ c. search needs) (λ c. search needs)
+    (λ c.
+    let at-known = c .before .before .before .before .before .before .before in
+    let p = entry at-known .pre in
+    arrived-new (p .0) (p .1) _ _ (p .3) (restricted at-known .restricted .ensures) (at-known .before .number .ensures .0) (at-known .is-known .ensures .1)
+    (sym (at-known .is-known .ensures .0) ∙ c .before .before .before .before .if1 .left) (c .before .before .store .ensures)))

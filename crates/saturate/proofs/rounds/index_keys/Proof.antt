@@ -1,0 +1,13 @@
+-- The records are added to the index, or there is nothing to look up.
+use borrow.Author.Needs.{needs}
+use Rattle.saturate.proofs.ScratchParts.{keys-skipped}
+use Rattle.saturate.proofs.rounds.index_keys.Statement.{statement}
+use Rattle.saturate.proofs.rounds.index_keys.Tie as tie
+
+pub index-keys-spec : {M : Type 1} → statement M
+index-keys-spec = tie.close (tie.spec (λ c. keys-skipped (c .if1 .taken)) (λ c κs. search needs)
+    (λ c κs. rw (c .keys-at .ensures) (c .before .before .before .before .before .before .pre)) (λ c. search needs)
+    (λ c.
+    let at-append = c .before .before in
+    let is = at-append .before .keys-at .ensures in
+    record { outside = rw is at (at-append .append .ensures .0); indexed = λ l. rw is at (at-append .append .ensures .1) }))
