@@ -19,9 +19,9 @@
  * address of any object then. The arrays of one call, the figures among them, must not overlap.
  *
  * Refusals. Any bytes may be given as a table and any length as a buffer: what does not serve is
- * refused with a number and a place, and no other figure. Refusals 1 to 9 and 15 change no
- * buffer; every other return leaves the scratch zero. At an open desk any rule and any name may
- * be given: a refused call changes nothing.
+ * refused with a number and a place. Refusals 1 to 9 and 15 change no buffer; every other return
+ * leaves the scratch zero. At an open desk any rule and any name may be given: a refused call
+ * changes nothing.
  */
 #ifndef ROSKAVEL_H
 #define ROSKAVEL_H
@@ -51,10 +51,13 @@ extern "C" {
 #define ROSKAVEL_NAMES 8
 /* The most letters of a desk's pile. */
 #define ROSKAVEL_DESK_PILE 256
+/* Where a desk's count of steps stops. */
+#define ROSKAVEL_COUNT_CEILING 4294967295u
 
 /*
  * What stands at each place of the figures. A place that the call or its outcome does not name
- * here is 0; so after a refusal are all places but the first two and ROSKAVEL_REST.
+ * here is 0; so after a refusal are all places but the first two and, of a walk, ROSKAVEL_REST and
+ * the four from ROSKAVEL_COUNTS on.
  */
 enum roskavel_figure {
     ROSKAVEL_REFUSAL = 0, /* the number of the refusal, or 0 */
@@ -74,7 +77,10 @@ enum roskavel_figure {
     ROSKAVEL_WATCHED = 2,     /* 1 if the configuration at the end is watched, else 0 */
     ROSKAVEL_PILE_LENGTH = 3, /* letters of the pile at the end */
     ROSKAVEL_STATES = 4,      /* 4 to 7: the state of each process, 255 if the table lacks it */
-    ROSKAVEL_REST = 8         /* where the part of the list that is handed back begins */
+    ROSKAVEL_REST = 8,        /* where the part of the list that is handed back begins */
+    ROSKAVEL_COUNTS = 9       /* 9 to 12: the number of steps that each process took part in, which
+                                 are the fires of rules whose letter has it; refused at a step, of
+                                 the steps before it; 0 with any other refusal */
 };
 
 /*
@@ -171,7 +177,7 @@ void roskavel_walk(const uint8_t *table, size_t table_length,
  * only the calls below may change it. The calls do not check that: pass no other memory.
  */
 typedef struct roskavel_desk {
-    uint64_t opaque[1063];
+    uint64_t opaque[1067];
 } roskavel_desk;
 
 /* What opening a desk gives. */
@@ -188,15 +194,26 @@ typedef struct roskavel_sight {
     uint8_t pile[ROSKAVEL_DESK_PILE]; /* the pile, top first, then zeros */
 } roskavel_sight;
 
+/* What firing a rule gives. */
+typedef struct roskavel_fire {
+    uint8_t number;    /* the number of the refusal, or 0 */
+    uint8_t processes; /* those of the rule's letter as bits, bit 0 for process 0; 0 if refused */
+} roskavel_fire;
+
+/* The steps that a desk has counted. */
+typedef struct roskavel_counts {
+    uint64_t steps[4]; /* of each process, 0 if the table lacks it */
+} roskavel_counts;
+
 /*
- * Opens a desk on a table: it stands at the start and no name is held. Refused by 1 to 9; there
- * is then no desk.
+ * Opens a desk on a table: it stands at the start, no name is held and nothing is counted. Refused
+ * by 1 to 9; there is then no desk.
  */
 roskavel_opening roskavel_desk_open(const uint8_t *table, size_t table_length);
 
 /*
- * The calls that change a desk give the number of the refusal, or 0. They check in the order in
- * which the numbers are given here.
+ * The calls that change a desk give the number of the refusal, or 0, a fire the processes that took
+ * part as well. They check in the order in which the numbers are given here.
  *
  * The fires of a desk are its history. A save notes the current history under a name, a return
  * makes the noted one the current one: the desk stands where roskavel_walk ends on the current
@@ -204,12 +221,13 @@ roskavel_opening roskavel_desk_open(const uint8_t *table, size_t table_length);
  */
 
 /* Fires a rule. Refused by 13, by 12, and by 14 if more than ROSKAVEL_DESK_PILE letters result. */
-uint8_t roskavel_desk_fire(roskavel_desk *desk, uint16_t rule);
+roskavel_fire roskavel_desk_fire(roskavel_desk *desk, uint16_t rule);
 
 /* Saves under a name, in place of what the name held before. Refused by 18. */
 uint8_t roskavel_desk_save(roskavel_desk *desk, uint8_t name);
 
-/* Returns to a name. Every name stays held, this one too. Refused by 18 and by 17. */
+/* Returns to a name. Every name stays held, this one too, and the counts begin again at 0. Refused
+   by 18 and by 17. */
 uint8_t roskavel_desk_return(roskavel_desk *desk, uint8_t name);
 
 /* Forgets a name. Refused by 18 and by 17. */
@@ -217,6 +235,12 @@ uint8_t roskavel_desk_forget(roskavel_desk *desk, uint8_t name);
 
 /* Where the desk stands. Changes nothing and is never refused. */
 roskavel_sight roskavel_desk_look(const roskavel_desk *desk);
+
+/*
+ * For each process the number of steps that it took part in, since the desk was opened or last
+ * returned; each stops at ROSKAVEL_COUNT_CEILING. Changes nothing and is never refused.
+ */
+roskavel_counts roskavel_desk_count(const roskavel_desk *desk);
 
 #ifdef __cplusplus
 }

@@ -1,7 +1,7 @@
 /*
- * The three calls from C: table T, the empty table, and a walk refused at a step. Every figure
- * and every byte of every buffer is checked. Then a desk: every call and each of its refusals,
- * with all that it shows. Argument: the path of table T.
+ * The three calls from C: table T, the empty table, and a walk refused at a step and at its start.
+ * Every figure and every byte of every buffer is checked. Then a desk: every call and each of its
+ * refusals, with all that it shows and counts, and counts that stop. Argument: the path of table T.
  */
 #include "roskavel.h"
 
@@ -10,10 +10,13 @@
 
 enum { TABLE = 76, LOG = 100, SCRATCH = 34100, PAGE = 5, PILE = 4, DIRT = 0xA5 };
 
+typedef uint64_t figure_list[ROSKAVEL_FIGURES];
+typedef uint64_t count_list[4];
+
 static uint8_t table[TABLE];
 static uint8_t log_buffer[LOG], scratch[SCRATCH], pile[PILE];
 static uint16_t page[PAGE];
-static uint64_t figures[ROSKAVEL_FIGURES];
+static figure_list figures;
 static int passed, failed;
 
 static const uint8_t limit[3 * ROSKAVEL_RECORD_BYTES] = {
@@ -45,11 +48,8 @@ static void make_dirty(void)
     memset(figures, DIRT, sizeof figures);
 }
 
-/* The figures are the nine given ones, then zeros. */
-static void check_figures(const uint64_t first[9], const char *what)
+static void check_figures(const figure_list expected, const char *what)
 {
-    uint64_t expected[ROSKAVEL_FIGURES] = {0};
-    memcpy(expected, first, 9 * sizeof first[0]);
     check(memcmp(figures, expected, sizeof figures) == 0, what);
 }
 
@@ -83,7 +83,7 @@ static void test_answer(void)
 {
     make_dirty();
     roskavel_answer(table, TABLE, log_buffer, LOG, scratch, SCRATCH, figures);
-    check_figures((uint64_t[9]){0, 0, 1, 3, 2, 3}, "figures of the answer");
+    check_figures((figure_list){0, 0, 1, 3, 2, 3}, "figures of the answer");
     check_bytes(log_buffer, LOG, limit, sizeof limit, 0, "log of the answer");
     check_all(scratch, SCRATCH, 0, "scratch of the answer");
 }
@@ -93,14 +93,14 @@ static void test_run(void)
     const uint16_t rules[3] = {0, 1, 2};
     make_dirty();
     roskavel_run(table, TABLE, log_buffer, LOG, scratch, SCRATCH, page, PAGE, figures);
-    check_figures((uint64_t[9]){0, 0, 1, 3, 2, 3, 1}, "figures of the run");
+    check_figures((figure_list){0, 0, 1, 3, 2, 3, 1}, "figures of the run");
     check_bytes(log_buffer, LOG, limit, sizeof limit, 0, "log of the run");
     check_all(scratch, SCRATCH, 0, "scratch of the run");
     check_bytes(page, sizeof page, rules, sizeof rules, 0, "page of the run");
 
     make_dirty();
     roskavel_run(table, TABLE, log_buffer, LOG, scratch, SCRATCH, page, 2, figures);
-    check_figures((uint64_t[9]){ROSKAVEL_LONG_RUN}, "figures of a long run");
+    check_figures((figure_list){ROSKAVEL_LONG_RUN}, "figures of a long run");
     check_bytes(log_buffer, LOG, limit, sizeof limit, 0, "log of a long run");
     check_all(scratch, SCRATCH, 0, "scratch of a long run");
     check_all(page, sizeof page, DIRT, "page of a long run");
@@ -113,17 +113,24 @@ static void test_walk(void)
     const uint8_t left[1] = {2};
     make_dirty();
     roskavel_walk(table, TABLE, rules, 3, pile, PILE, scratch, SCRATCH, figures);
-    check_figures((uint64_t[9]){0, 0, 1, 0, 1, 1, 255, 255, 3}, "figures of the walk");
+    check_figures((figure_list){0, 0, 1, 0, 1, 1, 255, 255, 3, 2, 2}, "figures of the walk");
     check_all(pile, PILE, 0, "pile of the walk");
     check_all(scratch, SCRATCH, 0, "scratch of the walk");
 
     make_dirty();
     roskavel_walk(table, TABLE, idle, 4, pile, PILE, scratch, SCRATCH, figures);
-    check_figures((uint64_t[9]){[ROSKAVEL_REFUSAL] = ROSKAVEL_IDLE_RULE,
-                                [ROSKAVEL_PLACE] = 2, [ROSKAVEL_REST] = 2},
+    check_figures((figure_list){[ROSKAVEL_REFUSAL] = ROSKAVEL_IDLE_RULE, [ROSKAVEL_PLACE] = 2,
+                                [ROSKAVEL_REST] = 2, [ROSKAVEL_COUNTS] = 2, 1},
                   "figures of an idle rule");
     check_bytes(pile, PILE, left, 1, 0, "pile of an idle rule");
     check_all(scratch, SCRATCH, 0, "scratch of an idle rule");
+
+    make_dirty();
+    roskavel_walk(table, TABLE, rules, 3, pile, 0, scratch, SCRATCH, figures);
+    check_figures((figure_list){[ROSKAVEL_REFUSAL] = ROSKAVEL_FULL_PILE, [ROSKAVEL_REST] = 3},
+                  "figures of a full start pile");
+    check_all(pile, PILE, DIRT, "pile of a full start pile");
+    check_all(scratch, SCRATCH, 0, "scratch of a full start pile");
 }
 
 static void check_untouched(const char *what)
@@ -140,13 +147,15 @@ static void test_empty(void)
     const uint16_t rules[2] = {0, 1};
     make_dirty();
     roskavel_answer(table, 0, log_buffer, LOG, scratch, SCRATCH, figures);
-    check_figures((uint64_t[9]){ROSKAVEL_CUT}, "figures of the empty table's answer");
+    check_figures((figure_list){ROSKAVEL_CUT}, "figures of the empty table's answer");
     check_untouched("buffers of the empty table's answer");
+    make_dirty();
     roskavel_run(table, 0, log_buffer, LOG, scratch, SCRATCH, page, PAGE, figures);
-    check_figures((uint64_t[9]){ROSKAVEL_CUT}, "figures of the empty table's run");
+    check_figures((figure_list){ROSKAVEL_CUT}, "figures of the empty table's run");
     check_untouched("buffers of the empty table's run");
+    make_dirty();
     roskavel_walk(table, 0, rules, 2, pile, PILE, scratch, SCRATCH, figures);
-    check_figures((uint64_t[9]){[ROSKAVEL_REFUSAL] = ROSKAVEL_CUT, [ROSKAVEL_REST] = 2},
+    check_figures((figure_list){[ROSKAVEL_REFUSAL] = ROSKAVEL_CUT, [ROSKAVEL_REST] = 2},
                   "figures of the empty table's walk");
     check_untouched("buffers of the empty table's walk");
 }
@@ -160,6 +169,21 @@ static void check_sight(const roskavel_desk *desk, uint8_t first, uint8_t second
     check(memcmp(sight.states, states, sizeof states) == 0, what);
     check(sight.length == length, what);
     check_bytes(sight.pile, sizeof sight.pile, word, length, 0, what);
+}
+
+/* The desk has counted these steps. */
+static void check_counts(const roskavel_desk *desk, const count_list steps, const char *what)
+{
+    const roskavel_counts counts = roskavel_desk_count(desk);
+    check(memcmp(counts.steps, steps, sizeof counts.steps) == 0, what);
+}
+
+/* Firing the rule gives this number and these processes. */
+static void check_fire(roskavel_desk *desk, uint16_t rule, uint8_t number, uint8_t processes,
+                       const char *what)
+{
+    const roskavel_fire fire = roskavel_desk_fire(desk, rule);
+    check(fire.number == number && fire.processes == processes, what);
 }
 
 /* Refused openings: the number and the place stand behind the desk. */
@@ -179,21 +203,26 @@ static void test_openings(void)
     opening = roskavel_desk_open(table, TABLE);
     check(opening.number == 0 && opening.place == 0, "opening on table T");
     check_sight(&opening.desk, 0, 0, (uint8_t[]){0}, 1, "desk as opened");
+    check_counts(&opening.desk, (count_list){0}, "counts as opened");
 }
 
 static void test_fires(void)
 {
     roskavel_desk desk = roskavel_desk_open(table, TABLE).desk;
-    check(roskavel_desk_fire(&desk, 1) == ROSKAVEL_IDLE_RULE, "idle rule at the desk");
-    check(roskavel_desk_fire(&desk, 3) == ROSKAVEL_NO_RULE, "no rule at the desk");
-    check(roskavel_desk_fire(&desk, 65535) == ROSKAVEL_NO_RULE, "no rule of the highest number");
+    check_fire(&desk, 1, ROSKAVEL_IDLE_RULE, 0, "idle rule at the desk");
+    check_fire(&desk, 3, ROSKAVEL_NO_RULE, 0, "no rule at the desk");
+    check_fire(&desk, 65535, ROSKAVEL_NO_RULE, 0, "no rule of the highest number");
     check_sight(&desk, 0, 0, (uint8_t[]){0}, 1, "desk after refused fires");
-    check(roskavel_desk_fire(&desk, 0) == 0, "rule 0 at the desk");
+    check_counts(&desk, (count_list){0}, "counts after refused fires");
+    check_fire(&desk, 0, 0, 3, "rule 0 at the desk");
     check_sight(&desk, 0, 0, (uint8_t[]){1, 2}, 2, "desk after rule 0");
-    check(roskavel_desk_fire(&desk, 2) == 0, "rule 2 at the desk");
+    check_counts(&desk, (count_list){1, 1}, "counts after rule 0");
+    check_fire(&desk, 2, 0, 2, "rule 2 at the desk");
     check_sight(&desk, 0, 1, (uint8_t[]){1}, 1, "desk after rule 2");
-    check(roskavel_desk_fire(&desk, 1) == 0, "rule 1 at the desk");
+    check_counts(&desk, (count_list){1, 2}, "counts after rule 2");
+    check_fire(&desk, 1, 0, 1, "rule 1 at the desk");
     check_sight(&desk, 1, 1, (uint8_t[]){0}, 0, "desk after rule 1");
+    check_counts(&desk, (count_list){2, 2}, "counts after rule 1");
 }
 
 static void test_names(void)
@@ -206,20 +235,25 @@ static void test_names(void)
     check(roskavel_desk_forget(&desk, 255) == ROSKAVEL_BAD_NAME, "forget of a bad name");
     check(roskavel_desk_save(&desk, 7) == 0, "save");
     check(roskavel_desk_save(&desk, 0) == 0, "save of another name");
-    check(roskavel_desk_fire(&desk, 0) == 0, "fire after saves");
+    check_fire(&desk, 0, 0, 3, "fire after saves");
     check(roskavel_desk_save(&desk, 7) == 0, "save over a name");
-    check(roskavel_desk_fire(&desk, 1) == 0, "fire after a save");
+    check_fire(&desk, 1, 0, 1, "fire after a save");
     check_sight(&desk, 1, 0, (uint8_t[]){2}, 1, "desk before returns");
+    check_counts(&desk, (count_list){2, 1}, "counts before returns");
 
     roskavel_desk copy = desk;
     check(roskavel_desk_return(&desk, 0) == 0, "return");
     check_sight(&desk, 0, 0, (uint8_t[]){0}, 1, "desk at the start again");
     check(roskavel_desk_return(&desk, 7) == 0, "return to another name");
     check_sight(&desk, 0, 0, (uint8_t[]){1, 2}, 2, "desk at the other name");
+    check_counts(&desk, (count_list){0}, "counts after returns");
+    check_fire(&desk, 2, 0, 2, "fire after returns");
     check(roskavel_desk_forget(&desk, 7) == 0, "forget");
     check(roskavel_desk_return(&desk, 7) == ROSKAVEL_EMPTY_NAME, "return to a forgotten name");
-    check_sight(&desk, 0, 0, (uint8_t[]){1, 2}, 2, "desk after a forget");
+    check_sight(&desk, 0, 1, (uint8_t[]){1}, 1, "desk after a forget");
+    check_counts(&desk, (count_list){0, 1}, "counts after a forget and a refused return");
     check_sight(&copy, 1, 0, (uint8_t[]){2}, 1, "copy of the desk");
+    check_counts(&copy, (count_list){2, 1}, "counts of the copy");
     check(roskavel_desk_return(&copy, 7) == 0, "return of the copy");
     check_sight(&copy, 0, 0, (uint8_t[]){1, 2}, 2, "copy of the desk after a return");
 }
@@ -239,14 +273,97 @@ static void test_full_pile(void)
     roskavel_opening opening = roskavel_desk_open(grows, sizeof grows);
     check(opening.number == 0, "opening on a table that grows");
     for (int fires = 0; fires < 51; fires++) {
-        refused += roskavel_desk_fire(&opening.desk, 0) != 0;
+        refused += roskavel_desk_fire(&opening.desk, 0).number != 0;
     }
     check(refused == 0, "fires up to a full pile");
     check_sight(&opening.desk, 0, 255, full, 256, "desk with a full pile");
-    check(roskavel_desk_fire(&opening.desk, 0) == ROSKAVEL_FULL_PILE, "fire above a full pile");
+    check_fire(&opening.desk, 0, ROSKAVEL_FULL_PILE, 0, "fire above a full pile");
     check_sight(&opening.desk, 0, 255, full, 256, "desk after a fire above a full pile");
-    check(roskavel_desk_fire(&opening.desk, 1) == 0, "fire at a full pile");
+    check_counts(&opening.desk, (count_list){51}, "counts after a fire above a full pile");
+    check_fire(&opening.desk, 1, 0, 1, "fire at a full pile");
     check_sight(&opening.desk, 0, 255, full, 255, "desk below a full pile");
+}
+
+/*
+ * Four processes of one state. On the pile letter 0, of them all, lies below three of letter 1, of
+ * process 0, two of letter 2, of process 1, and one of letter 3, of process 2. Rule 0 writes letter
+ * 0 again, rules 1 to 3 remove the others.
+ */
+static const uint8_t four[] = {
+    1, 1, 1, 1, 1, 1, 1, 1, 1, 1, 1, 1, 2, 15, 2, 1, 2, 2, 2, 4,
+    3, 0, 0, 0, 0, 0, 0, 0, 0, 0, 1, 0, 255, 255, 255, 255, 255,
+    3, 1, 0, 255, 255, 255, 0, 255, 255, 255, 0, 255, 255, 255, 255, 255, 255,
+    3, 2, 255, 0, 255, 255, 255, 0, 255, 255, 0, 255, 255, 255, 255, 255, 255,
+    3, 3, 255, 255, 0, 255, 255, 255, 0, 255, 0, 255, 255, 255, 255, 255, 255,
+    6, 0, 0, 0, 0, 7, 1, 7, 1, 7, 1, 7, 2, 7, 2, 7, 3, 7, 0, 8,
+};
+static const uint16_t down[7] = {1, 1, 1, 2, 2, 3, 0};
+
+static void test_walk_of_four(void)
+{
+    uint8_t word[7];
+    make_dirty();
+    memset(word, DIRT, sizeof word);
+    roskavel_walk(four, sizeof four, down, 7, word, sizeof word, scratch, SCRATCH, figures);
+    check_figures((figure_list){0, 0, 0, 1, 0, 0, 0, 0, 7, 4, 3, 2, 1},
+                  "figures of a walk of four processes");
+    check_all(word, sizeof word, 0, "pile of a walk of four processes");
+    check_all(scratch, SCRATCH, 0, "scratch of a walk of four processes");
+}
+
+/* Where the desk keeps its counts, which are in no other place. */
+static size_t place_of_counts(const roskavel_desk *desk)
+{
+    const size_t words = sizeof desk->opaque / sizeof desk->opaque[0];
+    const roskavel_counts counts = roskavel_desk_count(desk);
+    size_t place = 0, places = 0;
+    for (size_t word = 0; word + 4 <= words; word++) {
+        if (memcmp(&desk->opaque[word], counts.steps, sizeof counts.steps) == 0) {
+            place = word;
+            places++;
+        }
+    }
+    check(places == 1, "one place of the counts in a desk");
+    return place;
+}
+
+/* Counts that are written into the desk on four processes, about as high as they can be. */
+static void test_ceiling(roskavel_desk *desk)
+{
+    const uint64_t top = 4294967295;
+    const count_list high = {top - 1, top, 0, top - 2};
+    check(ROSKAVEL_COUNT_CEILING == top, "ceiling of the counts");
+    memcpy(&desk->opaque[place_of_counts(desk)], high, sizeof high);
+    check_counts(desk, high, "counts below the ceiling");
+    check_fire(desk, 0, 0, 15, "fire below the ceiling");
+    check_counts(desk, (count_list){top, top, 1, top - 1}, "counts at the ceiling");
+    check_fire(desk, 0, 0, 15, "fire at the ceiling");
+    check_counts(desk, (count_list){top, top, 2, top}, "counts that stop at the ceiling");
+    check_fire(desk, 0, 0, 15, "second fire at the ceiling");
+    check_fire(desk, 4, ROSKAVEL_NO_RULE, 0, "refused fire at the ceiling");
+    check(roskavel_desk_save(desk, 0) == 0, "save at the ceiling");
+    check_counts(desk, (count_list){top, top, 3, top}, "counts that have stopped");
+    check(roskavel_desk_return(desk, 0) == 0, "return at the ceiling");
+    check_counts(desk, (count_list){0}, "counts after the ceiling and a return");
+    check_fire(desk, 0, 0, 15, "fire after the ceiling and a return");
+    check_counts(desk, (count_list){1, 1, 1, 1}, "counts from a return on");
+}
+
+static void test_counts(void)
+{
+    int other = 0;
+    roskavel_opening opening = roskavel_desk_open(four, sizeof four);
+    check(opening.number == 0, "opening on four processes");
+    for (size_t step = 0; step < 6; step++) {
+        check_fire(&opening.desk, down[step], 0, 1 << (down[step] - 1), "rule of one process");
+    }
+    check_counts(&opening.desk, (count_list){3, 2, 1, 0}, "counts of single processes");
+    for (int fires = 0; fires < 1000; fires++) {
+        other += roskavel_desk_fire(&opening.desk, 0).processes != 15;
+    }
+    check(other == 0, "rule of four processes");
+    check_counts(&opening.desk, (count_list){1003, 1002, 1001, 1000}, "counts of four processes");
+    test_ceiling(&opening.desk);
 }
 
 int main(int count, char **arguments)
@@ -266,6 +383,8 @@ int main(int count, char **arguments)
     test_fires();
     test_names();
     test_full_pile();
+    test_walk_of_four();
+    test_counts();
     printf("%d passed, %d failed\n", passed, failed);
     return failed != 0;
 }

@@ -1,4 +1,3 @@
-pub mod ProcessBits
 pub mod StateNumbers
 pub mod StateSets
 pub mod Clearing

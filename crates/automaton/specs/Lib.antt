@@ -1,3 +1,2 @@
-pub mod ProcessBits
 pub mod StateNumbers
 pub mod StateSets

@@ -28,5 +28,5 @@ desk-accounted bytes d e cs o k =
     let read-is : read bytes ≡ accepted (itemsIn bytes) = holds-read bytes (d .table) (subst (λ (b : List ℕ). Holds b (d .table)) (o .table) (o .good .holds)) in
     record {
       table = x .table ∙ o .table;
-      stands = subst (HistoriesLead (Leads bytes (systemIn bytes)) (noteCalls (systemIn bytes) (opened (systemIn bytes)) unwritten cs)) (sym is) (desk-stands bytes (itemsIn bytes) read-is cs);
+      stands = subst (HistoriesLead (systemIn bytes) (Leads bytes (systemIn bytes)) (noteCalls (systemIn bytes) (opened (systemIn bytes)) unwritten cs)) (sym is) (desk-stands bytes (itemsIn bytes) read-is cs);
     }

@@ -9,7 +9,7 @@ use native.Mathlib.Omega.{arith}
 use lib.ListN.{length, take, drop, replicate, length-replicate}
 use lib.Seq.{paste, length-paste, length-take-le, take-all, take-at}
 use Rattle.model.specs.declared.Told.{Told}
-use Rattle.model.specs.Desks.{deskPile, nameCount, openTold}
+use Rattle.model.specs.Desks.{deskPile, nameCount, openTold, uncounted}
 use Rattle.model.specs.Lists.{Each}
 use Rattle.model.specs.Systems.{Configuration}
 use Rattle.model.specs.Tables.{Reading, accepted, longest, read, readFrom, refused}
@@ -36,13 +36,13 @@ copied d s = take-at (take (length s) s) (drop (0 + length s) d) (length s) (len
 -- ---- opened
 pub opened-desk : (bytes : List ℕ) (t : Table) (p : Placed) (buffer copy pile : List ℕ) → Holds bytes t → length buffer ≡ longest → copy ≡ paste buffer 0 bytes (length bytes)
     → configuration pile p ≡ systemIn bytes .start → p .top ≤ length pile → length pile ≡ deskPile
-    → Opened bytes (record { size = length bytes; table = t; placed = p; bytes = copy; pile = pile; names = replicate nameCount (record { held = false; placed = p; pile = replicate deskPile 0 }) })
+    → Opened bytes (record { size = length bytes; table = t; placed = p; counts = uncounted; bytes = copy; pile = pile; names = replicate nameCount (record { held = false; placed = p; pile = replicate deskPile 0 }) })
 opened-desk bytes t p buffer copy pile h b e c i n =
     let same : take (length bytes) copy ≡ bytes = ap (take (length bytes)) e ∙ copied buffer bytes in
     let long : length copy ≡ length buffer = ap length e ∙ length-paste buffer 0 bytes (length bytes) (omega (arith, table-length bytes t h)) (le-refl (length bytes)) in
     record {
       table = same;
-      contents = ap (λ (x : Configuration). record { here = x; names = replicate nameCount none }) c;
+      contents = ap (λ (x : Configuration). record { here = x; names = replicate nameCount none; counts = uncounted }) c;
       good = record {
         inside = omega (arith, table-length bytes t h);
         holds = subst (λ (l : List ℕ). Holds l t) (sym same) h;
@@ -52,6 +52,7 @@ opened-desk bytes t p buffer copy pile h b e c i n =
         };
         size = n;
         count = refl;
+        counts = refl;
         names = each-replicate (GoodName t) nameCount (record { held = false; placed = p; pile = replicate deskPile 0 }) (record { size = length-replicate {A = ℕ} deskPile 0; shape = λ f. absurd (false≢true f) });
       };
     }

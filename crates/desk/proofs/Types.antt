@@ -1,10 +1,12 @@
--- What the laws of thin calls ask of the types `Desk`, `Told`, `Next` and `Sight`.
+-- What the laws of thin calls ask of the types `Desk`, `Told`, `Next`, `Sight` and `Counts`.
 use mathlib.Core.Path.{refl}
 use mathlib.Core.List.{[], _∷_}
 use denote.Struct.Laws as LL
 use Rattle.lent.proofs.Types as L
 use Rattle.model.proofs.Told as A
 use Rattle.model.proofs.Told.Laws as A′
+use Rattle.desk.proofs.Counts as C
+use Rattle.desk.proofs.Counts.Laws as C′
 use Rattle.desk.proofs.Desk as D
 use Rattle.desk.proofs.Desk.Laws as D′
 use Rattle.desk.proofs.Next as N
@@ -20,6 +22,9 @@ answer = L.enum A.the-type A′.the-laws tt A′.the-plain
 
 abbrev pub sight : L.ByValue S.the-row
 sight = L.struct S.the-type S′.the-laws S′.the-plain
+
+abbrev pub counts : L.ByValue C.the-row
+counts = L.struct C.the-type C′.the-laws C′.the-plain
 
 abbrev pub next : L.Cut D.the-row A.the-row N.the-row desk answer
 next = record {

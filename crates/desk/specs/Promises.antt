@@ -7,15 +7,17 @@ use Prim.Native.Nat.{ℕ, _≤_}
 use lib.ListN.{length, take, replicate}
 use Rattle.model.specs.declared.Told.{Told}
 use Rattle.model.specs.Calls.{filled}
-use Rattle.model.specs.Desks.{Call, Contents, DeskOutcome, HistoriesLead, Leads, deskCall, deskPile, nameCount, noteCalls, openTold, opened, toldRefusal, unwritten}
+use Rattle.model.specs.Desks.{Call, Contents, DeskOutcome, HistoriesLead, Leads, deskCall, deskPile, nameCount, noteCalls, openTold, opened, toldRefusal, uncounted, unwritten}
 use Rattle.model.specs.Lists.{Each}
 use Rattle.model.specs.Systems.{System, Configuration}
 use Rattle.model.specs.Tables.{longest, read}
 use Rattle.table.specs.declared.Table.{Table}
-use Rattle.table.specs.Reading.{Holds, countsOf, systemIn}
+use Rattle.table.specs.Reading.{Holds, systemIn}
+use Rattle.table.specs.Reading as Reading
 use Rattle.firing.specs.declared.Placed.{Placed}
 use Rattle.firing.specs.Piles.{configuration}
 use Rattle.steps.specs.Stepping.{InShape}
+use Rattle.desk.specs.declared.Counts.{Counts}
 use Rattle.desk.specs.declared.Desk.{Desk}
 use Rattle.desk.specs.declared.Named.{Named}
 use Rattle.desk.specs.declared.Sight.{Sight}
@@ -33,7 +35,7 @@ abbrev pub savedIn : Named → Option Configuration
 savedIn s = cond (s .held) (some (configuration (s .pile) (s .placed))) none
 
 abbrev pub shown : Desk → Contents
-shown d = record { here = configuration (d .pile) (d .placed); names = map savedIn (d .names) }
+shown d = record { here = configuration (d .pile) (d .placed); names = map savedIn (d .names); counts = d .counts }
 
 -- ---- what always holds
 pub record GoodName (t : Table) (s : Named) : Type 0 where
@@ -47,6 +49,7 @@ pub record Good (d : Desk) : Type 0 where
   pub shape : InShape (d .table) (d .pile) (d .placed)
   pub size : length (d .pile) ≡ deskPile
   pub count : length (d .names) ≡ nameCount
+  pub counts : length (d .counts) ≡ 4
   pub names : Each (GoodName (d .table)) (d .names)
 
 -- ---- what a call promises
@@ -68,6 +71,10 @@ pub record Moves (c : Call) (d : Desk) (told : Told) (d′ : Desk) : Type 0 wher
 abbrev pub sightOf : Configuration → Sight
 sightOf c = record { states = c .states; length = length (c .word); pile = filled (c .word) (replicate deskPile 0) }
 
+-- what a count shows
+abbrev pub countsOf : Contents → Counts
+countsOf s = record { steps = s .counts }
+
 -- ---- opening
 -- a desk on these bytes: its copy of them, at the start, no name held
 pub record Opened (bytes : List ℕ) (d : Desk) : Type 0 where
@@ -82,8 +89,9 @@ nowhere = record { states = record { s0 = 0; s1 = 0; s2 = 0; s3 = 0 }; top = 0 }
 abbrev pub noDesk : Desk
 noDesk = record {
   size = 0;
-  table = countsOf [];
+  table = Reading.countsOf [];
   placed = nowhere;
+  counts = uncounted;
   bytes = replicate longest 0;
   pile = replicate deskPile 0;
   names = replicate nameCount (record { held = false; placed = nowhere; pile = replicate deskPile 0 });
@@ -100,8 +108,8 @@ pub data Called : Desk → List Call → Desk → Type 0 where
   uncalled : {d : Desk} → Called d [] d
   called : {d d′ e : Desk} {c : Call} {cs : List Call} → Leaves c d d′ → Called d′ cs e → Called d (c ∷ cs) e
 
--- After these calls on a desk opened on these bytes: its copy of the table is still those bytes, and it stands where a walk of its current history on them
--- stands, and each name where a walk of its own does.
+-- After these calls on a desk opened on these bytes: its copy of the table is still those bytes, it stands where a walk of its current history on them stands,
+-- and each name where a walk of its own does, and its counts are those of the fires since it was opened or last returned.
 pub record Accounted (bytes : List ℕ) (cs : List Call) (d : Desk) : Type 0 where
   pub table : tableOf d ≡ bytes
-  pub stands : HistoriesLead (Leads bytes (systemIn bytes)) (noteCalls (systemIn bytes) (opened (systemIn bytes)) unwritten cs) (shown d)
+  pub stands : HistoriesLead (systemIn bytes) (Leads bytes (systemIn bytes)) (noteCalls (systemIn bytes) (opened (systemIn bytes)) unwritten cs) (shown d)

@@ -1,5 +1,5 @@
-// Request 2.1, named situations at the desk: opened once on a table, changed only by its calls. Its owner lends it: each call over `&mut Desk` or `&Desk` is a
-// thin one over a function that takes the desk by value.
+// Requests 2.1 and 2.5, named situations at the desk, and who took part: opened once on a table, changed only by its calls. Its owner lends it: each call over
+// `&mut Desk` or `&Desk` is a thin one over a function that takes the desk by value.
 use firing::Placed;
 use model::Group;
 use model::Told;
@@ -15,15 +15,18 @@ ghost use Prim.Native.Nat.{_≤_};
 ghost use lib.ListN.{length, take};
 ghost use lib.Seq.{paste};
 ghost use Rattle.model.specs.declared.Told.{Told};
-ghost use Rattle.model.specs.Desks.{fires, saves, returns, forgets};
+ghost use Rattle.model.specs.Desks.{countCeiling, fires, saves, returns, forgets};
 ghost use Rattle.table.specs.Reading.{Holds};
-ghost use Rattle.steps.specs.Stepping.{InShape, StepTo};
-ghost use Rattle.desk.specs.Promises.{Good, Moves, Opens, Opened, noDesk, sightOf, shown};
+ghost use Rattle.steps.specs.Stepping.{InShape, StepTo, countsBy};
+ghost use Rattle.desk.specs.Promises.{Good, Moves, Opens, Opened, countsOf, noDesk, sightOf, shown};
 
 // The most letters of a desk's pile, and the number of its names.
 pub const PILE: usize = 256;
 
 pub const NAMES: usize = 8;
+
+// Where a count of steps stops.
+pub const COUNT_CEILING: u64 = 4294967295;
 
 // Refusals of a name: not held; above the last.
 const EMPTY_NAME: u8 = 17;
@@ -38,12 +41,13 @@ pub struct Named {
     pile: [u8; PILE],
 }
 
-// The accepted table's bytes and counts, the configuration where the desk stands, and the named ones.
+// The accepted table's bytes and counts, the configuration where the desk stands, the steps that each process took part in, and the named configurations.
 #[repr(C)]
 pub struct Desk {
     size: usize,
     table: Table,
     placed: Placed,
+    counts: [u64; Table::PROCESSES],
     bytes: [u8; Table::LONGEST],
     pile: [u8; PILE],
     names: [Named; NAMES],
@@ -63,6 +67,12 @@ pub struct Sight {
     pub pile: [u8; PILE],
 }
 
+// For each process the number of steps that it took part in, since the desk was opened or last returned.
+#[repr(C)]
+pub struct Counts {
+    pub steps: [u64; Table::PROCESSES],
+}
+
 // A refused call changes nothing, and its place is 0.
 fn refused(d: Desk, number: u8) -> Next
     ensures { λ r. ⌜ (r .told ≡ Told.Refused number 0) × (r .desk ≡ d) ⌝ }
@@ -75,11 +85,19 @@ fn refused(d: Desk, number: u8) -> Next
 
 // ---- firing
 // Fires rule n of the table that the first bytes are, as many as `size`: a step of a walk.
-fn step_on(bytes: &[u8], size: usize, t: Table, n: usize, pile: &mut [u8; PILE], c: Placed) -> Taken
-    requires { ⌜ (size ≤ length (now bytes)) × Holds (take size (now bytes)) t × InShape t (now pile) c ⌝ }
-    ensures { λ r. ⌜ StepTo (take size (now (bytes .entry))) t n c (now (pile .entry)) (now (pile .exit)) r ⌝ }
+fn step_on(
+    bytes: &[u8],
+    size: usize,
+    t: Table,
+    n: usize,
+    pile: &mut [u8; PILE],
+    c: Placed,
+    counts: &mut [u64; Table::PROCESSES],
+) -> Taken
+    requires { ⌜ (size ≤ length (now bytes)) × Holds (take size (now bytes)) t × InShape t (now pile) c × (length (now counts) ≡ 4) ⌝ }
+    ensures { λ r. ⌜ StepTo (take size (now (bytes .entry))) t n c (now (pile .entry)) (now (pile .exit)) r × (now (counts .exit) ≡ countsBy r countCeiling (now (counts .entry))) ⌝ }
 {
-    take_step(&bytes[..size], t, n, pile, c)
+    take_step(&bytes[..size], t, n, pile, c, counts, COUNT_CEILING)
 }
 
 pub fn fired(d: Desk, rule: u16) -> Next
@@ -90,16 +108,20 @@ pub fn fired(d: Desk, rule: u16) -> Next
     let t = d.table;
     let n = rule as usize;
     let placed = d.placed;
+    let mut counts = d.counts;
     let mut pile = d.pile;
-    match step_on(&d.bytes, size, t, n, &mut pile, placed) {
+    match step_on(&d.bytes, size, t, n, &mut pile, placed, &mut counts) {
         Taken::Refused(number) => {
             return refused(d, number);
         }
-        Taken::Onward(p) => {
+        Taken::Onward(f) => {
+            let after = f.placed;
+            let processes = f.processes;
             let mut next = d;
-            next.placed = p;
+            next.placed = after;
+            next.counts = counts;
             next.pile = pile;
-            let told = Told::Done;
+            let told = Told::Fired { processes };
             return Next { desk: next, told };
         }
     }
@@ -143,8 +165,10 @@ pub fn returned(d: Desk, name: u8) -> Next
     }
     let placed = s.placed;
     let pile = s.pile;
+    let none = [0; Table::PROCESSES];
     let mut next = d;
     next.placed = placed;
+    next.counts = none;
     next.pile = pile;
     Next {
         desk: next,
@@ -202,10 +226,12 @@ fn set_up(table: &[u8], t: Table) -> Desk
     };
     let names = [free; NAMES];
     let size = table.len();
+    let counts = [0; Table::PROCESSES];
     Desk {
         size,
         table: t,
         placed,
+        counts,
         bytes,
         pile,
         names,
@@ -234,6 +260,7 @@ fn no_desk() -> Desk
         size: 0,
         table: Table::empty(),
         placed,
+        counts: [0; Table::PROCESSES],
         bytes: [0; Table::LONGEST],
         pile: [0; PILE],
         names: [free; NAMES],
@@ -279,8 +306,17 @@ pub fn looked(d: Desk) -> Sight
     }
 }
 
+// Who took part, and how often.
+pub fn counted(d: Desk) -> Counts
+    requires { ⌜ Good d ⌝ }
+    ensures { λ r. ⌜ r ≡ countsOf (shown d) ⌝ }
+{
+    let steps = d.counts;
+    Counts { steps }
+}
+
 // ---- the calls on a desk that its owner lends
-// Fires a rule. Refused by 13, 12 and 14.
+// Fires a rule, and tells the processes of its letter. Refused by 13, 12 and 14.
 pub fn fire(d: &mut Desk, rule: u16) -> Told
     requires { ⌜ Good (now d) ⌝ }
     ensures { λ r. ⌜ Moves (fires rule) (now (d .entry)) r (now (d .exit)) ⌝ }
@@ -300,7 +336,7 @@ pub fn save(d: &mut Desk, name: u8) -> Told
     next.told
 }
 
-// Returns to what is saved under a name. Refused by 18 and 17.
+// Returns to what is saved under a name, and counts anew. Refused by 18 and 17.
 pub fn return_to(d: &mut Desk, name: u8) -> Told
     requires { ⌜ Good (now d) ⌝ }
     ensures { λ r. ⌜ Moves (returns name) (now (d .entry)) r (now (d .exit)) ⌝ }
@@ -326,4 +362,12 @@ pub fn look(d: &Desk) -> Sight
     ensures { λ r. ⌜ r ≡ sightOf (shown (now (d .entry)) .here) ⌝ }
 {
     looked(*d)
+}
+
+// Tells who took part, and how often.
+pub fn count(d: &Desk) -> Counts
+    requires { ⌜ Good (now d) ⌝ }
+    ensures { λ r. ⌜ r ≡ countsOf (shown (now (d .entry))) ⌝ }
+{
+    counted(*d)
 }

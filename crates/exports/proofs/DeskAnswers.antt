@@ -4,15 +4,19 @@ use mathlib.Core.List.{List}
 use Prim.Native.Nat.{ℕ}
 use native.Mathlib.Omega.{arith}
 use Rattle.model.specs.declared.Told.{Told}
-use Rattle.model.specs.Desks.{Call, openTold, toldPlace, toldRefusal}
+use Rattle.model.specs.Desks.{Call, fires, openTold, toldPlace, toldRefusal}
 use Rattle.model.specs.Tables.{Reading, accepted, read, refused}
 use Rattle.model.proofs.RefusalNumbers.{Numbered9, read-numbered}
 use Rattle.desk.specs.declared.Desk.{Desk}
 use Rattle.desk.specs.Promises.{Moves, Opens}
-use Rattle.exports.specs.DeskCalls.{DeskAnswers, DeskOpens}
+use Rattle.exports.specs.declared.desks.Fire.{Fire}
+use Rattle.exports.specs.DeskCalls.{DeskAnswers, DeskFires, DeskOpens, fireTold}
 
 pub answers : {c : Call} {d d′ : Desk} {told : Told} {number : ℕ} → number ≡ toldRefusal told → Moves c d told d′ → DeskAnswers c d number d′
 answers e m = record { answer = e ∙ ap toldRefusal (m .answer); leaves = m .leaves }
+
+pub fire-told : {n : ℕ} {d d′ : Desk} {told : Told} {f : Fire} → f ≡ fireTold told → Moves (fires n) d told d′ → DeskFires n d f d′
+fire-told e m = record { answer = e ∙ ap fireTold (m .answer); leaves = m .leaves }
 
 -- no refusal of a table has the number 0
 done-of : (x : Reading) → Numbered9 x → toldRefusal (openTold x) ≡ 0 → openTold x ≡ Told.Done

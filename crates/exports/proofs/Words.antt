@@ -1,15 +1,14 @@
--- Demands 2 and 3 of the figures: what an answer tells, its figures tell.
+-- Demand 3 of the figures: what an answer tells, its figures tell.
 use mathlib.Core.Path.{_≡_, ap, refl, subst, sym, _∙_}
 use mathlib.Core.Logic.{_↔_}
-use mathlib.Core.List.{List, [], _∷_, _++_}
+use mathlib.Core.List.{List, []}
 use Prim.Native.Nat.{ℕ, _≤_}
 use native.Mathlib.Omega.{arith}
 use lib.ListN.{getD}
 use Rattle.model.specs.declared.Answered.{Answered}
 use Rattle.model.specs.declared.Ran.{Ran}
-use Rattle.model.specs.declared.Walked.{Walked}
-use Rattle.model.specs.Calls.{answerCall, answerFigures, answerRefusal, runCall, runFigures, runRefusal, walkFigures}
-use Rattle.model.specs.Demands.{Decided, Demand2Walk, Describes, NoRun, SomeRun, Tells, Writes}
+use Rattle.model.specs.Calls.{answerCall, answerFigures, answerRefusal, runCall, runFigures, runRefusal}
+use Rattle.model.specs.Demands.{Decided, Describes, NoRun, SomeRun, Tells, Writes}
 use Rattle.model.specs.Systems.{System}
 use Rattle.model.specs.Tables.{Item, accepted, read, systemOf}
 use Rattle.model.proofs.Main.{demand-3}
@@ -105,24 +104,3 @@ module _ (table log scratch : List ℕ) where
 
         refused : (n : ℕ) → 10 ≤ n → (ran ≡ Ran.Refused n 0) ↔ (getD (sixteen (runFigures ran)) 0 0 ≡ n)
         refused n h = run-refused ran (run-placed table log scratch page) n h
-
--- ---- demand 2 of a walk: its sixteen figures begin with its eight
-first-eight : {table list pile : List ℕ} {a b c d e f g h : ℕ} (from : ℕ) → Demand2Walk table list (a ∷ b ∷ c ∷ d ∷ e ∷ f ∷ g ∷ h ∷ []) pile
-    → Demand2Walk table list (sixteen (a ∷ b ∷ c ∷ d ∷ e ∷ f ∷ g ∷ h ∷ from ∷ [])) pile
-first-eight from w = record {
-  reached = λ z. let r = w .reached z in (
-    r .0,
-    r .1,
-    record { end = r .2 .end; steps = r .2 .steps; states = r .2 .states; word = r .2 .word; watched = r .2 .watched },
-  );
-  no-rule = w .no-rule;
-  idle = w .idle;
-  full = w .full;
-}
-
-walk-sixteen : (table list pile : List ℕ) (x : Walked) (from : ℕ) → Demand2Walk table list (walkFigures x) pile → Demand2Walk table list (sixteen (walkFigures x ++ (from ∷ []))) pile
-walk-sixteen table list pile (Walked.Ended g n w) from d = first-eight from d
-walk-sixteen table list pile (Walked.Refused number place) from d = first-eight from d
-
-pub walk-figures : (table list pile f g : List ℕ) (x : Walked) (from : ℕ) → f ≡ walkFigures x → g ≡ sixteen (walkFigures x ++ (from ∷ [])) → Demand2Walk table list f pile → Demand2Walk table list g pile
-walk-figures table list pile f g x from e q d = rw q (walk-sixteen table list pile x from (subst (λ (l : List ℕ). Demand2Walk table list l pile) e d))

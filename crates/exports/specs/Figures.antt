@@ -27,9 +27,9 @@ pub record RunLeaves (o : RunOutcome) (f l s p : List ℕ) : Type 0 where
   pub scratch : s ≡ o .scratch
   pub page : p ≡ o .page
 
--- the walk's figures, then where the part handed back begins in the list of n rules
+-- the walk's figures, then where the part handed back begins in the list of n rules, then its counts
 pub record WalkLeaves (o : WalkOutcome) (n : ℕ) (f p s : List ℕ) : Type 0 where
-  pub figures : f ≡ sixteen (walkFigures (o .answer) ++ ((n - length (o .rest)) ∷ []))
+  pub figures : f ≡ sixteen (walkFigures (o .answer) ++ ((n - length (o .rest)) ∷ o .counts))
   pub pile : p ≡ o .pile
   pub scratch : s ≡ o .scratch
 

@@ -2,11 +2,12 @@
 // demands, in figures; `word` is demand 3 without its premises. The desk's calls are in desks.rt.
 use model::Answered;
 use model::Ran;
+use walk::FIGURES;
 ghost use mathlib.Core.Path.{_≡_};
 ghost use mathlib.Core.List.{_∷_, [], _++_};
-ghost use lib.ListN.{length, getD};
+ghost use lib.ListN.{length, getD, take, drop};
 ghost use Rattle.model.specs.Calls.{answerCall, runCall, walkCall, answerFigures, runFigures};
-ghost use Rattle.model.specs.Demands.{LogHolds, Demand2Walk};
+ghost use Rattle.model.specs.Demands.{LogHolds, Demand2Walk, TookPart};
 ghost use Rattle.exports.specs.Figures.{sixteen, AnswerLeaves, RunLeaves, WalkLeaves, Word, RunWord, AnswerDemand, RunDemand};
 
 mod desks;
@@ -85,10 +86,10 @@ fn put_run(figures: &mut [u64; 16], r: Ran)
     }
 }
 
-// The walk's eight figures, then where the part handed back begins.
-fn put_walk(figures: &mut [u64; 16], values: &[u64; 8], from: usize)
-    requires { ⌜ length (now values) ≡ 8 ⌝ }
-    ensures { λ _. ⌜ now (figures .exit) ≡ sixteen (now (values .entry) ++ (from ∷ [])) ⌝ }
+// The eight figures of the walk's answer, then where the part handed back begins, then the walk's counts.
+fn put_walk(figures: &mut [u64; 16], values: &[u64; FIGURES], from: usize)
+    requires { ⌜ length (now values) ≡ 12 ⌝ }
+    ensures { λ _. ⌜ now (figures .exit) ≡ sixteen (take 8 (now (values .entry)) ++ (from ∷ drop 8 (now (values .entry)))) ⌝ }
 {
     *figures = [
         values[0],
@@ -100,10 +101,10 @@ fn put_walk(figures: &mut [u64; 16], values: &[u64; 8], from: usize)
         values[6],
         values[7],
         from as u64,
-        0,
-        0,
-        0,
-        0,
+        values[8],
+        values[9],
+        values[10],
+        values[11],
         0,
         0,
         0,
@@ -145,7 +146,7 @@ pub extern "C" fn roskavel_run(
     put_run(figures, r);
 }
 
-// Document 01, the walk call.
+// Document 01, the walk call; `request_2_5` is who took part, in figures.
 #[no_mangle]
 pub extern "C" fn roskavel_walk(
     table: &[u8],
@@ -156,8 +157,9 @@ pub extern "C" fn roskavel_walk(
 )
     ensures demand_1 { λ _. ⌜ WalkLeaves (walkCall (now (table .entry)) (now (rules .entry)) (now (pile .entry)) (now (scratch .entry))) (length (now (rules .entry))) (now (figures .exit)) (now (pile .exit)) (now (scratch .exit)) ⌝ }
     ensures demand_2 { λ _. ⌜ Demand2Walk (now (table .entry)) (now (rules .entry)) (now (figures .exit)) (now (pile .exit)) ⌝ }
+    ensures request_2_5 { λ _. ⌜ TookPart (now (table .entry)) (now (rules .entry)) (getD (now (figures .exit)) 0 0) (getD (now (figures .exit)) 1 0) (take 4 (drop 9 (now (figures .exit)))) ⌝ }
 {
-    let mut values = [0u64; 8];
+    let mut values = [0u64; FIGURES];
     let rest = walk::walk(table, rules, pile, scratch, &mut values);
     let from = rules.len() - rest.len();
     put_walk(figures, &values, from);

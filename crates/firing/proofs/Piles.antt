@@ -51,7 +51,6 @@ closed-turn l (suc i) p z h q =
     ∙ ap (λ (k : ℕ). take (k + 1) l ++ (take (p - k) (drop k l) ++ drop (p + 1) l)) (sym s)
 
 -- ---- letters in front
--- ---- letters in front
 -- the whole of u, written over the places from `at` on
 pub paste-all : (l u : List ℕ) (at : ℕ) → paste l at u (length u) ≡ take at l ++ (u ++ drop (at + length u) l)
 paste-all l u at = append-assoc (take at l) (take (length u) u) (drop (at + length u) l) ∙ ap (λ (v : List ℕ). take at l ++ (v ++ drop (at + length u) l)) (take-all (length u) u (omega arith))

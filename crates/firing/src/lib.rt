@@ -13,9 +13,9 @@ ghost use mathlib.Core.Path.{_≡_};
 ghost use Prim.Native.Nat.{ℕ, _+_, _-_, _≤_, _<_};
 ghost use lib.ListN.{length, drop, getD};
 ghost use lib.Seq.{paste};
-ghost use Rattle.model.specs.Groups.{apartTest, merge, processesOf};
+ghost use Rattle.model.specs.Groups.{apartTest, processesOf};
 ghost use Rattle.model.specs.Systems as Systems;
-ghost use Rattle.table.specs.Reading.{Holds, systemIn, ruleIn};
+ghost use Rattle.table.specs.Reading.{BitsOf, Holds, systemIn, ruleIn};
 ghost use Rattle.firing.specs.Piles.{configuration, Stands, Fires};
 ghost use Rattle.firing.specs.Places.{place, firingPlace, closed, rewritten};
 
@@ -26,11 +26,26 @@ pub struct Placed {
     pub top: usize,
 }
 
-// What firing a rule comes to: it does not fire; the word after it is longer than the buffer; or the configuration after it.
+// A rule that fired: the configuration after it, and the processes of its letter as bits.
+pub struct Fired {
+    pub placed: Placed,
+    pub processes: u8,
+}
+
+// What firing a rule comes to: it does not fire; the word after it is longer than the buffer; or it fired.
 pub enum Firing {
     Idle,
     Full,
-    Done(Placed),
+    Done(Fired),
+}
+
+// The processes of the letter of rule k, as bits.
+fn rule_bits(table: &[u8], t: Table, k: usize) -> u8
+    requires { ⌜ Holds (now table) t × (k < t .rules) ⌝ }
+    ensures { λ r. ⌜ BitsOf (systemIn (now (table .entry)) .loc (ruleIn (now (table .entry)) k .letter)) r ⌝ }
+{
+    let a = rule_letter(table, t, k);
+    letter_bits(table, t, wide(a))
 }
 
 // Letter b shares no process with those in bits.
@@ -66,11 +81,11 @@ fn firing_place(table: &[u8], t: Table, k: usize, pile: &[u8], c: Placed) -> usi
     requires { ⌜ Holds (now table) t × (k < t .rules) × Stands (t .letters) (now pile) c ⌝ }
     ensures { λ r. ⌜ r ≡ firingPlace (systemIn (now (table .entry)) .loc) (ruleIn (now (table .entry)) k) (now (pile .entry)) c ⌝ }
 {
-    let a = rule_letter(table, t, k);
-    let bits = letter_bits(table, t, wide(a));
+    let bits = rule_bits(table, t, k);
     let before = rule_before(table, t, k);
     let states = c.states;
     if groups::reads(bits, states, before) {
+        let a = rule_letter(table, t, k);
         return find(table, t, pile, c.top, a);
     }
     pile.len()
@@ -111,21 +126,10 @@ fn rewrite(table: &[u8], t: Table, k: usize, pile: &mut [u8], top: usize, p: usi
     write_letters(table, t, k, pile, top + 1 - count);
 }
 
-// The states after rule k: its own at the processes of its letter, the others as they were.
-fn states_after(table: &[u8], t: Table, k: usize, states: Group) -> Group
-    requires { ⌜ Holds (now table) t × (k < t .rules) ⌝ }
-    ensures { λ r. ⌜ r ≡ merge (systemIn (now (table .entry)) .loc (ruleIn (now (table .entry)) k .letter)) (ruleIn (now (table .entry)) k .after) states ⌝ }
-{
-    let a = rule_letter(table, t, k);
-    let bits = letter_bits(table, t, wide(a));
-    let after = rule_after(table, t, k);
-    groups::merged(bits, after, states)
-}
-
 // Fires rule k. The length of the word after it is known before anything is moved.
 pub fn fire(table: &[u8], t: Table, k: usize, pile: &mut [u8], c: Placed) -> Firing
     requires { ⌜ Holds (now table) t × (k < t .rules) × Stands (t .letters) (now pile) c ⌝ }
-    ensures { λ r. ⌜ Fires (Systems.fire (systemIn (now (table .entry)) .loc) (ruleIn (now (table .entry)) k) (configuration (now (pile .entry)) c)) (now (pile .entry)) (now (pile .exit)) r ⌝ }
+    ensures { λ r. ⌜ Fires (systemIn (now (table .entry)) .loc (ruleIn (now (table .entry)) k .letter)) (Systems.fire (systemIn (now (table .entry)) .loc) (ruleIn (now (table .entry)) k) (configuration (now (pile .entry)) c)) (now (pile .entry)) (now (pile .exit)) r ⌝ }
 {
     let p = firing_place(table, t, k, pile, c);
     if pile.len() <= p {
@@ -137,9 +141,12 @@ pub fn fire(table: &[u8], t: Table, k: usize, pile: &mut [u8], c: Placed) -> Fir
         return Firing::Full;
     }
     rewrite(table, t, k, pile, top, p);
-    let states = states_after(table, t, k, c.states);
-    Firing::Done(Placed {
+    let processes = rule_bits(table, t, k);
+    let after = rule_after(table, t, k);
+    let states = groups::merged(processes, after, c.states);
+    let placed = Placed {
         states,
         top: top + 1 - count,
-    })
+    };
+    Firing::Done(Fired { placed, processes })
 }

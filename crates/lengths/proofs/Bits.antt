@@ -2,19 +2,11 @@
 use mathlib.Core.Path.{_≡_}
 use Prim.Native.Nat.{ℕ, _+_, _-_, _/_, _%_}
 use native.Mathlib.Omega.{arith}
-use lib.Dec.{eqb}
-use borrow.Author.Tests.{eqb-false, eqb-true}
-use Rattle.model.specs.Calls.{bit}
 use Rattle.model.specs.Groups.{processesOf}
-use Rattle.model.proofs.Tests.{by-test, each-process}
+use Rattle.model.proofs.Groups.{bit-is}
+use Rattle.model.proofs.Tests.{each-process}
 use Rattle.lengths.specs.declared.Lengths.{Lengths}
 use Rattle.lengths.specs.Projections.{Joined, Rest}
-
--- a bit as a number
-pub bit-is : (x : ℕ) → bit (eqb (x % 2) 1) ≡ x % 2
-bit-is x = by-test (eqb (x % 2) 1)
-    (λ y. let one : x % 2 ≡ 1 = eqb-true (x % 2) 1 y in rw (y, one))
-    (λ n. let not-one : x % 2 ≡ 1 → ⊥ = eqb-false (x % 2) 1 n in rw n (omega arith))
 
 module _ (bits : ℕ) {b0 b1 b2 b3 : ℕ} (is0 : b0 ≡ bits % 2) (is1 : b1 ≡ bits / 2 % 2) (is2 : b2 ≡ bits / 4 % 2) (is3 : b3 ≡ bits / 8 % 2) where
   pub rest-by-bits : Rest (processesOf bits) (record { s0 = 1 - b0; s1 = 1 - b1; s2 = 1 - b2; s3 = 1 - b3 })

@@ -7,8 +7,7 @@ use native.Mathlib.Numerals.{add-one}
 use native.Mathlib.Omega.{arith}
 use lib.ListN.{getD, length, take}
 use lib.Seq.{length-take-le, take-all, take-suc}
-use Rattle.model.specs.Calls.{bit}
-use Rattle.model.specs.Groups.{Process, Processes, has, processesOf}
+use Rattle.model.specs.Groups.{Process, Processes, bit, has, processesOf}
 use Rattle.model.specs.Systems.{Rule}
 use Rattle.model.specs.Words.{project}
 use Rattle.model.proofs.Peak.{append-length, project-length}

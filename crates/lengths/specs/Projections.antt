@@ -3,8 +3,7 @@ use mathlib.Core.Path.{_≡_}
 use mathlib.Core.List.{List}
 use Prim.Native.Nat.{ℕ, _+_, _*_, _^_, _<_, _≤_, max}
 use lib.ListN.{getD, length, set}
-use Rattle.model.specs.Calls.{bit}
-use Rattle.model.specs.Groups.{Process, Processes, has, p0, p1, p2, p3}
+use Rattle.model.specs.Groups.{Process, Processes, bit, has, p0, p1, p2, p3}
 use Rattle.model.specs.Systems.{Rule}
 use Rattle.model.specs.Tables.{ceiling}
 use Rattle.model.specs.Words.{project}

@@ -1,33 +1,35 @@
--- Request 2.1: each call keeps that a desk stands where its histories lead, so any sequence of calls does.
+-- Requests 2.1 and 2.5: each call keeps that a desk stands where its histories lead and counts the fires since, so any sequence of calls does.
 use mathlib.Core.Path.{_≡_, refl, ap, sym, subst, _∙_}
 use mathlib.Core.Bool.{Bool, true, false, cond}
 use mathlib.Core.Option.{Option, none, some}
-use mathlib.Core.List.{List, [], _∷_, _++_}
-use Prim.Native.Nat.{ℕ, zero, suc, _+_, _<_, _≤_}
+use mathlib.Core.List.{List, [], _∷_, _++_, map}
+use Prim.Native.Nat.{ℕ, zero, suc, _+_, _<_, _≤_, min}
 use native.Mathlib.Omega.{arith}
 use lib.Dec.{eqb, leb}
 use lib.ListN.{length, getD, getElem?, set, length-map, length-set, replicate}
 use lib.Seq.{getD-set-same, getD-set-other}
 use borrow.Author.Tests.{eqb-true, eqb-false, le-ltb, ltb-false, leb-false, lt-leb}
-use Rattle.model.specs.Calls.{Halt, filled, haltAt, haltEnd, scratchAfter, stepBy, stepTo, walkCall, walkFrom, walkGiven, walkScratch, zeros}
-use Rattle.model.specs.Desks.{Call, fires, saves, returns, forgets, Contents, Histories, Leads, Noted, HistoriesLead, after, checks, deskCall, deskCalls, deskPile, firstStop, isHigh, isMissing, movedTo, nameCount, named, note, noteCall, noteCalls, opened, outcome, renamed, unwritten}
+use Rattle.model.specs.Calls.{Halt, filled, haltAt, haltEnd, scratchAfter, stepBy, stepTo, walkCall, walkCounts, walkFrom, walkGiven, walkScratch, zeros}
+use Rattle.model.specs.Desks.{Call, fires, saves, returns, forgets, Contents, Histories, Leads, Noted, HistoriesLead, after, checks, countCeiling, countsAfter, deskCall, deskCalls, deskPile, firstStop, isHigh, isMissing, movedTo, nameCount, named, note, noteCall, noteCalls, opened, outcome, renamed, tells, uncounted, unwritten}
 use Rattle.model.specs.Lists.{valueOr}
+use Rattle.model.specs.Participation.{ruleProcesses, stepCounts, withStep}
 use Rattle.model.specs.Systems.{System, Rule, Configuration, fire, walk}
 use Rattle.model.specs.Tables.{Item, Reading, accepted, bodies, byteOf, read, systemOf}
 use Rattle.model.proofs.CheckedItems.{read-complete, count-ceiling}
+use Rattle.model.proofs.Participation.{counts-snoc}
 use Rattle.model.proofs.Steps.{WalkStep, walk-inv, walk-cons}
 use Rattle.model.proofs.Tests.{by-test}
 
 -- ---- where a history leads, whatever is said of that
-module _ {P Q : List ℕ → Configuration → Type 0} (f : (ns : List ℕ) (c : Configuration) → P ns c → Q ns c) where
+module _ (sys : System) {P Q : List ℕ → Configuration → Type 0} (f : (ns : List ℕ) (c : Configuration) → P ns c → Q ns c) where
   noted-map : (x : Option (List ℕ)) (y : Option Configuration) → Noted P x y → Noted Q x y
   noted-map none none p = p
   noted-map none (some c) p = p
   noted-map (some ns) none p = p
   noted-map (some ns) (some c) p = f ns c p
 
-  stands-map : (h : Histories) (s : Contents) → HistoriesLead P h s → HistoriesLead Q h s
-  stands-map h s g = record { here = f (h .current) (s .here) (g .here); names = λ a. noted-map (getD (h .noted) a none) (named s a) (g .names a) }
+  stands-map : (h : Histories) (s : Contents) → HistoriesLead sys P h s → HistoriesLead sys Q h s
+  stands-map h s g = record { here = f (h .current) (s .here) (g .here); names = λ a. noted-map (getD (h .noted) a none) (named s a) (g .names a); counts = g .counts }
 
 module _ (sys : System) where
   -- ---- a walk that takes one rule more
@@ -85,15 +87,15 @@ module _ (sys : System) where
   -- ---- the calls
   -- what is kept: the claim, and that there is a place for each name
   record Kept (h : Histories) (s : Contents) : Type 0 where
-    pub stands : HistoriesLead To h s
+    pub stands : HistoriesLead sys To h s
     pub noted : length (h .noted) ≡ nameCount
     pub names : length (s .names) ≡ nameCount
 
   module _ (h : Histories) (s : Contents) (k : Kept h s) where
     -- one name written anew on both sides
-    kept-renamed : (a : ℕ) (x : Option (List ℕ)) (y : Option Configuration) → a < nameCount → Noted To x y → Kept (record { current = h .current; noted = set (h .noted) a x }) (renamed s a y)
+    kept-renamed : (a : ℕ) (x : Option (List ℕ)) (y : Option Configuration) → a < nameCount → Noted To x y → Kept (record { current = h .current; noted = set (h .noted) a x; since = h .since }) (renamed s a y)
     kept-renamed a x y l p = record {
-      stands = record { here = k .stands .here; names = set-names };
+      stands = record { here = k .stands .here; names = set-names; counts = k .stands .counts };
       noted = length-set (h .noted) a x ∙ k .noted;
       names = length-set (s .names) a y ∙ k .names;
     }
@@ -105,9 +107,10 @@ module _ (sys : System) where
             (rw (getD-set-same (h .noted) a x none (omega (arith, k .noted)), getD-set-same (s .names) a y none (omega (arith, k .names))) p))
             (λ e. rw (getD-set-other (h .noted) a b x none (eqb-false b a e), getD-set-other (s .names) a b y none (eqb-false b a e)) (k .stands .names b))
 
-    -- another current history on both sides
-    kept-moved : (ns : List ℕ) (c : Configuration) → To ns c → Kept (record { current = ns; noted = h .noted }) (movedTo s c)
-    kept-moved ns c p = record { stands = record { here = p; names = k .stands .names }; noted = k .noted; names = k .names }
+    -- another current history on both sides, and other fires to count
+    kept-moved : (ns since : List ℕ) (counts : List ℕ) (c : Configuration) → To ns c → counts ≡ map (min countCeiling) (stepCounts sys since)
+        → Kept (record { current = ns; noted = h .noted; since = since }) (movedTo s counts c)
+    kept-moved ns since counts c p q = record { stands = record { here = p; names = k .stands .names; counts = q }; noted = k .noted; names = k .names }
 
     -- the step that firing takes
     takes : (n : ℕ) (d : Configuration) → walk sys (n ∷ []) (s .here) ≡ some d → isHigh d ≡ false → Takes n (s .here) d
@@ -117,18 +120,19 @@ module _ (sys : System) where
         record { rule = w .rule; is = w .is; first = w .first ∙ ap (λ (x : Configuration). some x) same; fits = ltb-false deskPile (length (d .word)) l }
 
     fire-keeps : (n : ℕ) (x : Option Rule) (o : Option Configuration) → getElem? (sys .rules) n ≡ x → walk sys (n ∷ []) (s .here) ≡ o
-        → _≡_ {A = ℕ} (cond (isMissing x) 13 (cond (isMissing o) 12 (cond (valueOr false isHigh o) 14 0))) 0 → Kept (noteCall h (fires n)) (valueOr s (movedTo s) o)
+        → _≡_ {A = ℕ} (cond (isMissing x) 13 (cond (isMissing o) 12 (cond (valueOr false isHigh o) 14 0))) 0 → Kept (noteCall h (fires n)) (valueOr s (movedTo s (countsAfter sys s n)) o)
     fire-keeps n none o is e z = absurd (omega arith)
     fire-keeps n (some r) none is e z = absurd (omega arith)
     fire-keeps n (some r) (some d) is e z = by-test (isHigh d)
         (λ y. absurd (let q : _≡_ {A = ℕ} 14 0 = rw y at z in omega arith))
-        (λ y. kept-moved (h .current ++ (n ∷ [])) d (ends-snoc (h .current) 0 n (sys .start) (s .here) d (takes n d e y) (k .stands .here)))
+        (λ y. kept-moved (h .current ++ (n ∷ [])) (h .since ++ (n ∷ [])) (countsAfter sys s n) d (ends-snoc (h .current) 0 n (sys .start) (s .here) d (takes n d e y) (k .stands .here))
+        (ap (withStep countCeiling (ruleProcesses sys n)) (k .stands .counts) ∙ counts-snoc countCeiling sys (h .since) n))
 
-    return-keeps : (a : ℕ) (x : Option (List ℕ)) (y : Option Configuration) → getD (h .noted) a none ≡ x → Noted To x y → (isMissing y ≡ true → ⊥) → Kept (noteCall h (returns a)) (valueOr s (movedTo s) y)
+    return-keeps : (a : ℕ) (x : Option (List ℕ)) (y : Option Configuration) → getD (h .noted) a none ≡ x → Noted To x y → (isMissing y ≡ true → ⊥) → Kept (noteCall h (returns a)) (valueOr s (movedTo s uncounted) y)
     return-keeps a x none e p z = absurd (z refl)
     return-keeps a none (some c) e p z = absurd p
     return-keeps a (some ns) (some c) e p z =
-        subst (λ (x : Option (List ℕ)). Kept (record { current = valueOr (h .current) (λ (ms : List ℕ). ms) x; noted = h .noted }) (movedTo s c)) (sym e) (kept-moved ns c p)
+        subst (λ (x : Option (List ℕ)). Kept (record { current = valueOr (h .current) (λ (ms : List ℕ). ms) x; noted = h .noted; since = [] }) (movedTo s uncounted c)) (sym e) (kept-moved ns [] uncounted c p refl)
 
     -- a name that check 18 does not stop, and one that 17 does not stop
     not-bad : (a m : ℕ) → cond (leb nameCount a) 18 m ≡ 0 → a < nameCount
@@ -145,8 +149,16 @@ module _ (sys : System) where
     after-keeps (returns a) z = return-keeps a (getD (h .noted) a none) (named s a) refl (k .stands .names a) (not-empty a (isMissing (named s a)) z)
     after-keeps (forgets a) z = kept-renamed a none none (not-bad a (cond (isMissing (named s a)) 17 0) z) tt
 
-    outcome-keeps : (c : Call) (n : ℕ) → firstStop (checks sys s c) ≡ n → Kept (note (outcome n s (after sys s c) .told) h c) (outcome n s (after sys s c) .contents)
-    outcome-keeps c zero e = after-keeps c e
+    -- what a call tells that no check stops is noted
+    tells-noted : (c : Call) → note (tells sys c) h c ≡ noteCall h c
+    tells-noted (fires n) = refl
+    tells-noted (saves a) = refl
+    tells-noted (returns a) = refl
+    tells-noted (forgets a) = refl
+
+    outcome-keeps : (c : Call) (n : ℕ) → firstStop (checks sys s c) ≡ n
+        → Kept (note (outcome n s (record { told = tells sys c; contents = after sys s c }) .told) h c) (outcome n s (record { told = tells sys c; contents = after sys s c }) .contents)
+    outcome-keeps c zero e = subst (λ (x : Histories). Kept x (after sys s c)) (sym (tells-noted c)) (after-keeps c e)
     outcome-keeps c (suc n) e = k
 
     call-keeps : (c : Call) → Kept (note (deskCall sys s c .told) h c) (deskCall sys s c .contents)
@@ -165,12 +177,12 @@ module _ (sys : System) where
 
   opened-kept : Kept unwritten (opened sys)
   opened-kept = record {
-    stands = record { here = record { run = refl; steps = refl }; names = λ a. rw (all-alike {A = Option (List ℕ)} nameCount a none, all-alike {A = Option Configuration} nameCount a none) tt };
+    stands = record { here = record { run = refl; steps = refl }; names = λ a. rw (all-alike {A = Option (List ℕ)} nameCount a none, all-alike {A = Option Configuration} nameCount a none) tt; counts = refl };
     noted = refl;
     names = refl;
   }
 
-  calls-stand : (cs : List Call) → HistoriesLead To (noteCalls sys (opened sys) unwritten cs) (deskCalls sys (opened sys) cs)
+  calls-stand : (cs : List Call) → HistoriesLead sys To (noteCalls sys (opened sys) unwritten cs) (deskCalls sys (opened sys) cs)
   calls-stand cs = calls-keep cs unwritten (opened sys) opened-kept .stands
 
 -- ---- the walk call
@@ -184,17 +196,17 @@ module _ (table : List ℕ) (items : List Item) (r : read table ≡ accepted ite
   start-fits = omega (arith, length-map (bodies 7 items) (λ (body : List ℕ). byteOf body 0), count-ceiling 7 (read-complete table items r .checked))
 
   ends-called : (ns : List ℕ) (c : Configuration) → Ends system ns 0 (system .start) c → (pile scratch : List ℕ) → length pile ≡ deskPile → walkScratch ≤ length scratch
-      → walkCall table ns pile scratch ≡ record { answer = haltEnd system c .answer; rest = []; pile = filled (c .word) pile; scratch = zeros scratch }
-  unfolding walkCall walkGiven scratchAfter
+      → walkCall table ns pile scratch ≡ record { answer = haltEnd system c .answer; counts = stepCounts system ns; rest = []; pile = filled (c .word) pile; scratch = zeros scratch }
+  unfolding walkCall walkGiven walkCounts scratchAfter
   ends-called ns c x pile scratch n l =
       let on : walkFrom system (length pile) 0 ns (system .start) ≡ haltEnd system c = ap (λ (k : ℕ). walkFrom system k 0 ns (system .start)) n ∙ x .steps in
       let halt : walkGiven (read table) ns (length pile) (length scratch) ≡ haltEnd system c =
       ap (λ (y : Reading). walkGiven y ns (length pile) (length scratch)) r
       ∙ rw (le-ltb (length scratch) walkScratch l, le-ltb (length pile) (length (system .start .word)) (omega (arith, start-fits))) on in
-      rw halt refl
+      rw (halt, r) refl
 
   ends-lead : (ns : List ℕ) (c : Configuration) → Ends system ns 0 (system .start) c → Leads table system ns c
   ends-lead ns c x = record { run = x .run; call = ends-called ns c x }
 
-  pub desk-walks : (cs : List Call) → HistoriesLead (Leads table system) (noteCalls system (opened system) unwritten cs) (deskCalls system (opened system) cs)
-  desk-walks cs = stands-map ends-lead (noteCalls system (opened system) unwritten cs) (deskCalls system (opened system) cs) (calls-stand system cs)
+  pub desk-walks : (cs : List Call) → HistoriesLead system (Leads table system) (noteCalls system (opened system) unwritten cs) (deskCalls system (opened system) cs)
+  desk-walks cs = stands-map system ends-lead (noteCalls system (opened system) unwritten cs) (deskCalls system (opened system) cs) (calls-stand system cs)

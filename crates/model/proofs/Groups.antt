@@ -1,12 +1,13 @@
--- Laws of restriction and of the joint tuple, one process at a time.
+-- Laws of restriction and of the joint tuple, one process at a time; the bits of a set of processes.
 use mathlib.Core.Path.{_∙_, _≡_, ap, refl, sym}
 use mathlib.Core.Bool.{Bool, cond, false, true}
-use Prim.Native.Nat.{ℕ}
+use Prim.Native.Nat.{ℕ, _+_, _*_, _/_, _%_, _≤_}
+use native.Mathlib.Omega.{arith}
 use lib.Dec.{eqb}
-use borrow.Author.Tests.{eq-eqb, eqb-true}
+use borrow.Author.Tests.{eq-eqb, eqb-false, eqb-true}
 use Rattle.model.specs.declared.Group.{Group}
-use Rattle.model.specs.Groups.{Apart, Process, Processes, Within, at, build, has, merge, p0, p1, p2, p3, restrict, sameGroup}
-use Rattle.model.proofs.Tests.{every-at, every-of}
+use Rattle.model.specs.Groups.{Apart, Process, Processes, Within, at, bit, build, has, merge, p0, p1, p2, p3, processBits, processesOf, restrict, sameGroup}
+use Rattle.model.proofs.Tests.{by-test, every-at, every-of}
 
 pub at-build : (f : Process → ℕ) (i : Process) → at (build f) i ≡ f i
 at-build f p0 = refl
@@ -109,3 +110,45 @@ sameGroup-true g h e = ext (λ i. eqb-true (at g i) (at h i) (every-at (λ i. eq
 pub sameGroup-of : (g h : Group) → g ≡ h → sameGroup g h ≡ true
 unfolding sameGroup
 sameGroup-of g h e = every-of (λ i. eqb (at g i) (at h i)) (λ i. eq-eqb (at g i) (at h i) (ap (λ (x : Group). at x i) e))
+
+-- ---- bits
+-- the bits of a set of processes stand for that set, and bits below 16 are those of the set that they stand for
+back : (a b c d : Bool) → processesOf (bit a + 2 * bit b + 4 * bit c + 8 * bit d) ≡ record { b0 = a; b1 = b; b2 = c; b3 = d }
+back true true true true = refl
+back true true true false = refl
+back true true false true = refl
+back true true false false = refl
+back true false true true = refl
+back true false true false = refl
+back true false false true = refl
+back true false false false = refl
+back false true true true = refl
+back false true true false = refl
+back false true false true = refl
+back false true false false = refl
+back false false true true = refl
+back false false true false = refl
+back false false false true = refl
+back false false false false = refl
+
+pub bits-back : (L : Processes) → processesOf (processBits L) ≡ L
+unfolding processBits
+bits-back L = back (L .b0) (L .b1) (L .b2) (L .b3)
+
+-- a bit as a number
+pub bit-low : (b : Bool) → bit b ≤ 1
+bit-low true = omega arith
+bit-low false = omega arith
+
+pub bit-is : (x : ℕ) → bit (eqb (x % 2) 1) ≡ x % 2
+bit-is x = by-test (eqb (x % 2) 1)
+    (λ y. let one : x % 2 ≡ 1 = eqb-true (x % 2) 1 y in rw (y, one))
+    (λ n. let not-one : x % 2 ≡ 1 → ⊥ = eqb-false (x % 2) 1 n in rw n (omega arith))
+
+pub bits-same : (bits : ℕ) → bits ≤ 15 → processBits (processesOf bits) ≡ bits
+unfolding processBits
+bits-same bits h =
+    let four : bits / 2 ≡ bits / 2 % 2 + 2 * (bits / 4) = omega arith in
+    let eight : bits / 4 ≡ bits / 4 % 2 + 2 * (bits / 8) = omega arith in
+    let last : bits / 8 % 2 ≡ bits / 8 = omega arith in
+    omega (arith, bit-is bits, bit-is (bits / 2), bit-is (bits / 4), bit-is (bits / 8))

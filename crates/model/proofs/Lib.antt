@@ -27,6 +27,7 @@ pub mod AcceptedTables
 pub mod AbsentProcesses
 pub mod RefusalNumbers
 pub mod Closing
+pub mod Participation
 pub mod Prefixes
 pub mod Demands
 pub mod DeskChecks

@@ -4,11 +4,12 @@ use mathlib.Core.Bool.{Bool, cond, false, false≢true, true, true≢false}
 use mathlib.Core.Logic.{_≢_, ⊎-elim}
 use mathlib.Core.Option.{Option, none, some}
 use mathlib.Core.List.{List, List·Memᴰ, List·Memᴰ·append-cases, List·Memᴰ·cases-cons, List·Memᴰ·head, List·Memᴰ·not-nil, List·Memᴰ·tail, [], _++_, _∷_, map}
-use Prim.Native.Nat.{_<_, _≤_, suc, zero, ℕ}
+use Prim.Native.Nat.{_+_, _<_, _≤_, suc, zero, ℕ}
 use native.Mathlib.Omega.{arith}
 use native.Mathlib.Nat.{not-suc-le-zero}
 use lib.Dec.{eqb}
-use lib.ListN.{getD, getElem?, length}
+use lib.ListN.{drop, drop-of-length-le, getD, getElem?, length}
+use lib.Seq.{drop-cons}
 use borrow.Author.Tests.{eqb-false, eqb-true, ne-eqb}
 use Rattle.model.specs.Groups.{at}
 use Rattle.model.specs.Lists.{Each, allOf, andThen, anyOf, isEmpty}
@@ -162,3 +163,12 @@ pub getD-mem : {A : Type 0} (xs : List A) (i : ℕ) (d : A) → i < length xs �
 getD-mem [] i d h = absurd (not-suc-le-zero h)
 getD-mem (x ∷ xs) zero d h = List·Memᴰ·head refl
 getD-mem (x ∷ xs) (suc i) d h = List·Memᴰ·tail (getD-mem xs i d (omega arith))
+
+-- ---- a list by its places
+abbrev pub placesFrom : ℕ → ℕ → List ℕ → List ℕ
+placesFrom k zero l = []
+placesFrom k (suc n) l = getD l k 0 ∷ placesFrom (suc k) n l
+
+pub by-places : (k n : ℕ) (l : List ℕ) → length l ≡ k + n → placesFrom k n l ≡ drop k l
+by-places k zero l e = sym (drop-of-length-le l {i = k} (omega arith))
+by-places k (suc n) l e = ap (λ (xs : List ℕ). getD l k 0 ∷ xs) (by-places (suc k) n l (omega arith)) ∙ sym (drop-cons l k 0 (omega arith))

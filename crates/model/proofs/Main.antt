@@ -4,8 +4,9 @@ use mathlib.Core.Bool.{false, true}
 use mathlib.Core.Option.{some}
 use mathlib.Core.List.{List, []}
 use Prim.Native.Nat.{ℕ}
+use lib.ListN.{getD}
 use Rattle.model.specs.Calls.{answerCall, answerRefusal, changesNothing, runCall, runRefusal, walkCall, walkFigures, walkRefusal, zeros}
-use Rattle.model.specs.Demands.{Demand2Walk, Demand3, LogHolds, Tells, Writes}
+use Rattle.model.specs.Demands.{Demand2Walk, Demand3, LogHolds, Tells, TookPart, Writes}
 use Rattle.model.specs.Desks.{Call, Leads, HistoriesLead, deskCalls, noteCalls, opened, unwritten}
 use Rattle.model.specs.Groups.{Process, has}
 use Rattle.model.specs.Systems.{Configuration, PeakIs, System, peak, walk}
@@ -18,7 +19,7 @@ use Rattle.model.proofs.Desks.{desk-walks}
 use Rattle.model.proofs.LogDemand.{answer-log, run-log}
 use Rattle.model.proofs.Meanings.{answer-tells, run-writes}
 use Rattle.model.proofs.Peak.{peak-is}
-use Rattle.model.proofs.WalkDemand.{walk-demand}
+use Rattle.model.proofs.WalkDemand.{walk-counts, walk-demand}
 
 -- ---- demand 1: what a call gives and leaves is its definition in Calls, whole. Of its buffers: refusals 1 to 9 and 15 change none; later the scratch is
 -- left zero.
@@ -61,9 +62,10 @@ demand-3-answer = answer-tells
 pub demand-3-run : (table log scratch page : List ℕ) → Writes table (runCall table log scratch page .page) (runCall table log scratch page .answer)
 demand-3-run = run-writes
 
--- ---- request 2.1: after any sequence of calls the desk stands where a walk of its current history stands, and each name where a walk of its own does
+-- ---- requests 2.1 and 2.5: after any sequence of calls the desk stands where a walk of its current history stands, and each name where a walk of its own does; and
+-- its counts are those of the fires since it was opened or last returned
 pub desk-stands : (table : List ℕ) (items : List Item) → read table ≡ accepted items → (cs : List Call)
-    → HistoriesLead (Leads table (systemOf items)) (noteCalls (systemOf items) (opened (systemOf items)) unwritten cs) (deskCalls (systemOf items) (opened (systemOf items)) cs)
+    → HistoriesLead (systemOf items) (Leads table (systemOf items)) (noteCalls (systemOf items) (opened (systemOf items)) unwritten cs) (deskCalls (systemOf items) (opened (systemOf items)) cs)
 desk-stands = desk-walks
 
 -- ---- request 2.2: the peak is the greatest length of any process's projection along the run, start included
@@ -74,3 +76,7 @@ peak-greatest = peak-is
 pub absent-projection : (table : List ℕ) (items : List Item) → read table ≡ accepted items → (i : Process) → has (present (bodies 1 items)) i ≡ false
     → (ns : List ℕ) (d : Configuration) → walk (systemOf items) ns (systemOf items .start) ≡ some d → project (systemOf items .loc) i (d .word) ≡ []
 absent-projection = absent-empty
+
+-- ---- request 2.5: a walk gives for each process the number of steps that it took part in; refused at a step, of those before it
+pub took-part : (table list pile scratch : List ℕ) → let o = walkCall table list pile scratch in TookPart table list (getD (walkFigures (o .answer)) 0 0) (getD (walkFigures (o .answer)) 1 0) (o .counts)
+took-part = walk-counts

@@ -8,8 +8,7 @@ use native.Mathlib.Omega.{arith}
 use lib.Dec.{leb}
 use lib.ListN.{length, length-append, take}
 use borrow.Author.Tests.{leb-false, leb-true}
-use Rattle.model.specs.Calls.{bit}
-use Rattle.model.specs.Groups.{Process, Processes, greatest, has, p0, p1, p2, p3}
+use Rattle.model.specs.Groups.{Process, Processes, bit, greatest, has, p0, p1, p2, p3}
 use Rattle.model.specs.Lists.{valueOr}
 use Rattle.model.specs.Systems.{Configuration, PeakIs, Rule, System, fire, peak, walk}
 use Rattle.model.specs.Words.{Located, height, keep, project, removeFirst}

@@ -1,4 +1,4 @@
--- Demand 2 of a walk: its steps are those of the paper, where it ends and where it is refused; its watched figure is acceptance.
+-- Demand 2 of a walk: its steps are those of the paper, where it ends and where it is refused; its watched figure is acceptance. Request 2.5: its counts.
 use mathlib.Core.Path.{_∙_, _≡_, ap, refl, subst, sym}
 use mathlib.Core.Bool.{Bool, false, true, true≢false}
 use mathlib.Core.Logic.{_↔_, _⊎_, inl, inr, ⊎-elim}
@@ -10,8 +10,11 @@ use lib.Dec.{ltb}
 use lib.ListN.{drop, getD, getElem?, length, length-append, length-replicate, replicate, take}
 use lib.Seq.{take-append-seam}
 use borrow.Author.Tests.{ltb-false, ltb-true}
-use Rattle.model.specs.Calls.{Halt, bit, filled, haltAt, haltBefore, haltEnd, stepBy, stepTo, walkCall, walkFigures, walkFrom, walkGiven, walkScratch}
-use Rattle.model.specs.Demands.{Demand2Walk, NoRoom, NoRule, NoStep, Reached, StoppedAt}
+use Rattle.model.specs.declared.Walked.{Walked}
+use Rattle.model.specs.Calls.{Halt, changesNothing, filled, firedRules, haltAt, haltBefore, haltEnd, stepBy, stepTo, walkCall, walkCounts, walkFigures, walkFrom, walkGiven, walkScratch}
+use Rattle.model.specs.Demands.{Demand2Walk, NoRoom, NoRule, NoStep, Reached, StoppedAt, TookPart}
+use Rattle.model.specs.Participation.{stepCounts}
+use Rattle.model.specs.Groups.{bit}
 use Rattle.model.specs.Lists.{valueOr}
 use Rattle.model.specs.Systems.{Configuration, Rule, System, accepts, fire, walk}
 use Rattle.model.specs.Tables.{Item, Reading, accepted, read, refused, systemOf}
@@ -115,6 +118,10 @@ bit-one false = ((λ e. absurd (omega arith)), (λ e. absurd (true≢false (sym 
 filled-size : (w pile : List ℕ) → length w ≤ length pile → length (filled w pile) ≡ length pile
 filled-size w pile h = length-append w (replicate (length pile - length w) 0) ∙ omega (arith, length-replicate {A = ℕ} (length pile - length w) 0)
 
+-- request 2.5, by the figures of an answer
+abbrev pub Counted : List ℕ → List ℕ → Walked → List ℕ → Type 0
+Counted table list x counts = TookPart table list (getD (walkFigures x) 0 0) (getD (walkFigures x) 1 0) counts
+
 module _ (table list pile : List ℕ) (items : List Item) (e : read table ≡ accepted items) where
   abbrev sys : System
   sys = systemOf items
@@ -215,14 +222,51 @@ module _ (table list pile : List ℕ) (items : List Item) (e : read table ≡ ac
     full = λ z. (items, e, inl long);
   }
 
-  given-right : (scratch : ℕ) → Right (walkGiven (accepted items) list (length pile) scratch)
+  -- ---- by the way that it halts
+  by-halt : (P : Halt → Type 0) → ((h : Halt) → Ends sys list (sys .start) h → P h) → ((h : Halt) → Stops sys (length pile) 0 list (sys .start) h → P h) → P (haltBefore 15 0)
+      → (length pile < length (sys .start .word) → P (haltBefore 14 0)) → (scratch : ℕ) → P (walkGiven (accepted items) list (length pile) scratch)
   unfolding walkGiven
-  given-right scratch = by-test (ltb scratch walkScratch)
-      (λ y. rw y (before-right 15 0 (inl refl)))
+  by-halt P ends stops short unfit scratch = by-test (ltb scratch walkScratch)
+      (λ y. rw y short)
       (λ n. rw n (by-test (ltb (length pile) (length (sys .start .word)))
-      (λ y. rw y (before-right 14 0 (inr (refl, ltb-true (length pile) (length (sys .start .word)) y))))
-      (λ m. rw m (⊎-elim (ends-right (walkFrom sys (length pile) 0 list (sys .start))) (stops-right (walkFrom sys (length pile) 0 list (sys .start)))
+      (λ y. rw y (unfit (ltb-true (length pile) (length (sys .start .word)) y)))
+      (λ m. rw m (⊎-elim (ends (walkFrom sys (length pile) 0 list (sys .start))) (stops (walkFrom sys (length pile) 0 list (sys .start)))
       (walk-comes sys (length pile) 0 list (sys .start) (ltb-false (length pile) (length (sys .start .word)) m))))))
+
+  given-right : (scratch : ℕ) → Right (walkGiven (accepted items) list (length pile) scratch)
+  given-right = by-halt Right ends-right stops-right (before-right 15 0 (inl refl)) (λ long. before-right 14 0 (inr (refl, long)))
+
+  -- ---- request 2.5
+  abbrev Counts : Halt → Type 0
+  Counts h = Counted table list (h .answer) (stepCounts sys (firedRules list (h .answer)))
+
+  ends-counted : (h : Halt) → Ends sys list (sys .start) h → Counts h
+  ends-counted h x = subst Counts (sym (x .halt)) (record {
+    ended = λ z. (items, e, refl);
+    stopped = λ a b. absurd (omega arith);
+    no-step = λ z. absurd (true≢false (sym z));
+  })
+
+  refused-counted : (number place : ℕ) → 1 ≤ number → (changesNothing number ≡ true → place ≡ 0) → Counts (haltBefore number place)
+  refused-counted number place l first = record {
+    ended = λ z. absurd (omega (arith, z));
+    stopped = λ a b. (items, e, refl);
+    no-step = λ z. ap (λ (k : ℕ). stepCounts sys (take k list)) (first z);
+  }
+
+  stops-counted : (h : Halt) → Stops sys (length pile) 0 list (sys .start) h → Counts h
+  stops-counted h x = subst Counts (sym (x .halt)) (by-number (x .why))
+    where
+      numbered : (k : ℕ) → 1 ≤ k → changesNothing k ≡ false → x .number ≡ k → Counts (haltBefore (x .number) (0 + x .k))
+      numbered k l q f = refused-counted (x .number) (0 + x .k) (omega (arith, f)) (λ z. absurd (true≢false (sym z ∙ ap changesNothing f ∙ q)))
+
+      by-number : Why sys (length pile) (getD list (x .k) 0) (x .at) (x .number) → Counts (haltBefore (x .number) (0 + x .k))
+      by-number (inl u) = numbered 13 (omega arith) refl (u .numbered)
+      by-number (inr (inl u)) = numbered 12 (omega arith) refl (u .numbered)
+      by-number (inr (inr u)) = numbered 14 (omega arith) refl (u .numbered)
+
+  given-counted : (scratch : ℕ) → Counts (walkGiven (accepted items) list (length pile) scratch)
+  given-counted = by-halt Counts ends-counted stops-counted (refused-counted 15 0 (omega arith) (λ z. refl)) (λ long. refused-counted 14 0 (omega arith) (λ z. refl))
 
 pub walk-demand : (table list pile scratch : List ℕ) → Demand2Walk table list (walkFigures (walkCall table list pile scratch .answer)) (walkCall table list pile scratch .pile)
 unfolding walkCall walkGiven
@@ -239,3 +283,39 @@ walk-demand table list pile scratch = by-reading (read table) refl
           idle = λ z. absurd (omega (arith, z, small .1));
           full = λ z. absurd (omega (arith, z, small .1));
         }
+
+pub walk-counts : (table list pile scratch : List ℕ) → Counted table list (walkCall table list pile scratch .answer) (walkCall table list pile scratch .counts)
+unfolding walkCall walkGiven walkCounts
+walk-counts table list pile scratch = by-reading (read table) refl
+  where
+    by-reading : (r : Reading) → read table ≡ r → Counted table list (walkGiven r list (length pile) (length scratch) .answer) (walkCounts r list (walkGiven r list (length pile) (length scratch) .answer))
+    by-reading (accepted items) e = given-counted table list pile items e (length scratch)
+    by-reading (refused number place) e =
+        let small : Numbered9 (refused number place) = subst Numbered9 e (read-numbered table) in
+        record { ended = λ z. absurd (omega (arith, z, small .0)); stopped = λ a b. absurd (omega (arith, a, small .1)); no-step = λ z. refl }
+
+-- ---- further figures behind those of the answer
+module _ {table list : List ℕ} (more : List ℕ) where
+  first-eight : {pile : List ℕ} {a b c d e f g h : ℕ} → Demand2Walk table list (a ∷ b ∷ c ∷ d ∷ e ∷ f ∷ g ∷ h ∷ []) pile → Demand2Walk table list (a ∷ b ∷ c ∷ d ∷ e ∷ f ∷ g ∷ h ∷ more) pile
+  first-eight w = record {
+    reached = λ z. let r = w .reached z in (
+      r .0,
+      r .1,
+      record { end = r .2 .end; steps = r .2 .steps; states = r .2 .states; word = r .2 .word; watched = r .2 .watched },
+    );
+    no-rule = w .no-rule;
+    idle = w .idle;
+    full = w .full;
+  }
+
+  pub demand-more : {pile : List ℕ} (x : Walked) → Demand2Walk table list (walkFigures x) pile → Demand2Walk table list (walkFigures x ++ more) pile
+  demand-more (Walked.Ended g n w) d = first-eight d
+  demand-more (Walked.Refused number place) d = first-eight d
+
+  pub counted-more : (x : Walked) (counts : List ℕ) → Counted table list x counts → TookPart table list (getD (walkFigures x ++ more) 0 0) (getD (walkFigures x ++ more) 1 0) counts
+  counted-more (Walked.Ended g n w) counts d = d
+  counted-more (Walked.Refused number place) counts d = d
+
+pub figures-behind : (x : Walked) (more : List ℕ) → drop 8 (walkFigures x ++ more) ≡ more
+figures-behind (Walked.Ended g n w) more = refl
+figures-behind (Walked.Refused number place) more = refl

@@ -1,22 +1,23 @@
 -- Document 01, "Calls and what they leave": for each call one definition of what it gives and of the closing contents of every lent buffer.
 -- What a call gives depends on its buffers by their lengths alone. The order of the checks: 1 to 9; 15; then 10, 16, 11; in a walk 14 for the
 -- start pile and, at each step, 13, 12, 14.
-use mathlib.Core.Bool.{Bool, true, false, cond, _&&_, _||_}
+use mathlib.Core.Bool.{Bool, cond, _&&_, _||_}
 use mathlib.Core.Option.{Option, none, some}
 use mathlib.Core.List.{List, [], _∷_, _++_}
 use Prim.Native.Nat.{ℕ, _+_, _-_, _*_, _/_, min}
 use lib.Dec.{eqb, ltb, leb}
-use lib.ListN.{length, replicate, getElem?}
+use lib.ListN.{length, replicate, take, getElem?}
 use Rattle.model.specs.declared.Answered.{Answered}
 use Rattle.model.specs.declared.Ran.{Ran}
 use Rattle.model.specs.declared.Walked.{Walked}
 use Rattle.model.specs.Lists.{valueOr}
-use Rattle.model.specs.Groups.{Processes}
+use Rattle.model.specs.Groups.{Processes, atEach, bit}
 use Rattle.model.specs.Systems.{System, Rule, Configuration, fire, peak, accepts}
 use Rattle.model.specs.Tables.{Reading, accepted, refused, read, systemOf}
 use Rattle.model.specs.Log.{Record, Path, limit, rounds}
 use Rattle.model.specs.Unfolding.{acceptingPath, emitted, pathSteps}
 use Rattle.model.specs.Records.{recordLength, logBytes}
+use Rattle.model.specs.Participation.{stepCounts}
 
 -- n: the number of whole records that a log of this length can hold, at most 65,535
 abbrev pub capacity : ℕ → ℕ
@@ -184,8 +185,20 @@ walkGiven (accepted items) list pileLength scratchLength =
     (cond (ltb pileLength (length (systemOf items .start .word))) (haltBefore 14 0)
     (walkFrom (systemOf items) pileLength 0 list (systemOf items .start)))
 
+-- request 2.5: the rules of the list that were fired, all where the walk ended, else those before the refused step. The place of a refusal before the first
+-- step is 0.
+abbrev pub firedRules : List ℕ → Walked → List ℕ
+firedRules list (Walked.Ended g n w) = list
+firedRules list (Walked.Refused number place) = take place list
+
+-- "A walk gives, for each station, the number of steps it took part in"; a table that is refused has no steps
+unfoldable pub walkCounts : Reading → List ℕ → Walked → List ℕ
+walkCounts (refused number place) list answer = atEach (λ i. 0)
+walkCounts (accepted items) list answer = stepCounts (systemOf items) (firedRules list answer)
+
 pub record WalkOutcome : Type 0 where
   pub answer : Walked
+  pub counts : List ℕ
   pub rest : List ℕ
   pub pile : List ℕ
   pub scratch : List ℕ
@@ -195,16 +208,13 @@ walkCall table list pile scratch =
     let halt = walkGiven (read table) list (length pile) (length scratch) in
     record {
       answer = halt .answer;
+      counts = walkCounts (read table) list (halt .answer);
       rest = halt .rest;
       pile = valueOr pile (λ (w : List ℕ). filled w pile) (halt .pile);
       scratch = scratchAfter (walkRefusal (halt .answer)) scratch;
     }
 
 -- ---- document 01's number and values for every case: the refusal's number or 0, its place or 0, then the values, 0 where a case has none
-abbrev pub bit : Bool → ℕ
-bit true = 1
-bit false = 0
-
 -- reachable or not, transitions, rounds, steps
 abbrev pub answerFigures : Answered → List ℕ
 answerFigures (Answered.Reachable t r s) = 0 ∷ 0 ∷ 1 ∷ t ∷ r ∷ s ∷ []

@@ -1,6 +1,6 @@
--- Demands 2 and 3 of the mission, as statements about what the calls give and leave. Demand 1 is the definitions of Calls.
+-- Demands 2 and 3 of the mission and request 2.5, as statements about what the calls give and leave. Demand 1 is the definitions of Calls.
 use mathlib.Core.Path.{_≡_}
-use mathlib.Core.Bool.{false, _||_}
+use mathlib.Core.Bool.{true, false, _||_}
 use mathlib.Core.Logic.{_⊎_, _↔_}
 use mathlib.Core.Option.{none, some}
 use mathlib.Core.List.{List}
@@ -9,6 +9,7 @@ use lib.Dec.{eqb}
 use lib.ListN.{length, take, drop, replicate, getD, getElem?}
 use Rattle.model.specs.declared.Answered.{Answered}
 use Rattle.model.specs.declared.Ran.{Ran}
+use Rattle.model.specs.Groups.{atEach}
 use Rattle.model.specs.Automata.{Transition}
 use Rattle.model.specs.Saturation.{Delta}
 use Rattle.model.specs.Systems.{System, Rule, Configuration, Step, Steps, Accepted, Joins, PeakIs, fire, peak}
@@ -16,6 +17,7 @@ use Rattle.model.specs.Tables.{Item, accepted, read, systemOf, groupOf}
 use Rattle.model.specs.Log.{Path, limit, rounds, stepsCap}
 use Rattle.model.specs.Unfolding.{Unfolds}
 use Rattle.model.specs.Records.{recordLength, keyAt, roundAt}
+use Rattle.model.specs.Participation.{stepCounts}
 use Rattle.model.specs.Calls.{capacity, changesNothing, filled, scratchNeeded, startPath}
 
 -- the table is accepted, and P holds of the system that it describes
@@ -76,6 +78,14 @@ pub record Demand2Walk (table list figures pile : List ℕ) : Type 0 where
   pub idle : getD figures 0 0 ≡ 12 → Describes table (StoppedAt list pile (getD figures 1 0) NoStep)
   -- 14 is also said of a start pile that is longer than the buffer
   pub full : getD figures 0 0 ≡ 14 → Describes table (λ (sys : System). (length pile < length (sys .start .word)) ⊎ StoppedAt list pile (getD figures 1 0) (NoRoom (length pile)) sys)
+
+-- ---- request 2.5, of a walk, by its refusal's number, or 0, and the place: for each process the number of steps that it took part in. They are the rules of
+-- the list; "A walk refused at a step gives the counts of the steps before it, beside its refusal."
+pub record TookPart (table list : List ℕ) (number place : ℕ) (counts : List ℕ) : Type 0 where
+  pub ended : number ≡ 0 → Describes table (λ (sys : System). counts ≡ stepCounts sys list)
+  pub stopped : 12 ≤ number → number ≤ 14 → Describes table (λ (sys : System). counts ≡ stepCounts sys (take place list))
+  -- 1 to 9 and 15
+  pub no-step : changesNothing number ≡ true → counts ≡ atEach (λ i. 0)
 
 -- ---- demand 3
 -- some run joins the start and the watched set; no finite run does, of any length, with piles of any height

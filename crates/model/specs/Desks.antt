@@ -1,15 +1,17 @@
 -- Request 2.1, named situations at the desk: what a desk holds, the checks of its calls, what each call does, and the histories of fires that its calls
--- note. A situation is a configuration here.
+-- note. Request 2.5: who took part since it was opened or last returned. A situation is a configuration here.
 use mathlib.Core.Path.{_≡_}
 use mathlib.Core.Bool.{Bool, true, false, cond}
 use mathlib.Core.Option.{Option, none, some}
-use mathlib.Core.List.{List, [], _∷_, _++_}
-use Prim.Native.Nat.{ℕ, zero, suc, _≤_}
+use mathlib.Core.List.{List, [], _∷_, _++_, map}
+use Prim.Native.Nat.{ℕ, zero, suc, _≤_, min}
 use lib.Dec.{ltb, leb}
 use lib.ListN.{length, getD, getElem?, set, replicate}
 use Rattle.model.specs.declared.Told.{Told}
 use Rattle.model.specs.Lists.{valueOr}
+use Rattle.model.specs.Groups.{atEach, processBits}
 use Rattle.model.specs.Systems.{System, Configuration, walk}
+use Rattle.model.specs.Participation.{ruleProcesses, stepCounts, withStep}
 use Rattle.model.specs.Tables.{Reading, accepted, refused}
 use Rattle.model.specs.Calls.{filled, haltEnd, walkCall, walkScratch, zeros}
 
@@ -21,14 +23,23 @@ deskPile = 256
 abbrev pub nameCount : ℕ
 nameCount = 8
 
--- the configuration where it stands, and for each name the one that is saved under it, none if the name is not held
+-- "A desk's count stops at 4,294,967,295."
+abbrev pub countCeiling : ℕ
+countCeiling = 4294967295
+
+-- the configuration where it stands; for each name the one that is saved under it, none if the name is not held; and for each process the number of steps that
+-- it took part in, since the desk was opened or last returned
 pub record Contents : Type 0 where
   pub here : Configuration
   pub names : List (Option Configuration)
+  pub counts : List ℕ
 
--- "opened once on a table, no name held": it stands at the table's start
+abbrev pub uncounted : List ℕ
+uncounted = atEach (λ i. 0)
+
+-- "opened once on a table, no name held": it stands at the table's start, and nothing is counted
 abbrev pub opened : System → Contents
-opened sys = record { here = sys .start; names = replicate nameCount none }
+opened sys = record { here = sys .start; names = replicate nameCount none; counts = uncounted }
 
 -- "one that meets 1 to 9 is refused so", with the place that reading the table gives
 abbrev pub openTold : Reading → Told
@@ -101,18 +112,30 @@ firstStop [] = 0
 firstStop (k ∷ ks) = cond (k .stops) (k .number) (firstStop ks)
 
 -- ---- what a call does that no check stops
-abbrev pub movedTo : Contents → Configuration → Contents
-movedTo s c = record { here = c; names = s .names }
+-- at the configuration c, with these counts
+abbrev pub movedTo : Contents → List ℕ → Configuration → Contents
+movedTo s counts c = record { here = c; names = s .names; counts = counts }
 
 abbrev pub renamed : Contents → ℕ → Option Configuration → Contents
-renamed s a x = record { here = s .here; names = set (s .names) a x }
+renamed s a x = record { here = s .here; names = set (s .names) a x; counts = s .counts }
 
--- "Saving over a name replaces it"; after a return "every name stays held"
+-- a fire counts for the processes that take part
+abbrev pub countsAfter : System → Contents → ℕ → List ℕ
+countsAfter sys s n = withStep countCeiling (ruleProcesses sys n) (s .counts)
+
+-- "Saving over a name replaces it"; after a return "every name stays held", and the counts begin anew
 abbrev pub after : System → Contents → Call → Contents
-after sys s (fires n) = valueOr s (movedTo s) (firedTo sys s n)
+after sys s (fires n) = valueOr s (movedTo s (countsAfter sys s n)) (firedTo sys s n)
 after sys s (saves a) = renamed s a (some (s .here))
-after sys s (returns a) = valueOr s (movedTo s) (named s a)
+after sys s (returns a) = valueOr s (movedTo s uncounted) (named s a)
 after sys s (forgets a) = renamed s a none
+
+-- "A fired rule now also tells its task's stations as bits"
+abbrev pub tells : System → Call → Told
+tells sys (fires n) = Told.Fired (processBits (ruleProcesses sys n))
+tells sys (saves a) = Told.Done
+tells sys (returns a) = Told.Done
+tells sys (forgets a) = Told.Done
 
 -- ---- what a call comes to: what it tells, and what the desk holds after it
 pub record DeskOutcome : Type 0 where
@@ -120,21 +143,28 @@ pub record DeskOutcome : Type 0 where
   pub contents : Contents
 
 -- "A refused call changes nothing", and its place is 0
-abbrev pub outcome : ℕ → Contents → Contents → DeskOutcome
-outcome zero s t = record { told = Told.Done; contents = t }
-outcome (suc n) s t = record { told = Told.Refused (suc n) 0; contents = s }
+abbrev pub outcome : ℕ → Contents → DeskOutcome → DeskOutcome
+outcome zero s o = o
+outcome (suc n) s o = record { told = Told.Refused (suc n) 0; contents = s }
 
 unfoldable pub deskCall : System → Contents → Call → DeskOutcome
-deskCall sys s c = outcome (firstStop (checks sys s c)) s (after sys s c)
+deskCall sys s c = outcome (firstStop (checks sys s c)) s (record { told = tells sys c; contents = after sys s c })
 
--- the refusal's number, 0 if there is none, and its place
+-- the refusal's number, 0 if there is none, and its place; the bits of the processes that took part, 0 where no rule was fired
 abbrev pub toldRefusal : Told → ℕ
 toldRefusal Told.Done = 0
+toldRefusal (Told.Fired processes) = 0
 toldRefusal (Told.Refused number place) = number
 
 abbrev pub toldPlace : Told → ℕ
 toldPlace Told.Done = 0
+toldPlace (Told.Fired processes) = 0
 toldPlace (Told.Refused number place) = place
+
+abbrev pub toldProcesses : Told → ℕ
+toldProcesses Told.Done = 0
+toldProcesses (Told.Fired processes) = processes
+toldProcesses (Told.Refused number place) = 0
 
 -- what a desk holds after a sequence of calls
 abbrev pub deskCalls : System → Contents → List Call → Contents
@@ -142,24 +172,26 @@ deskCalls sys s [] = s
 deskCalls sys s (c ∷ cs) = deskCalls sys (deskCall sys s c .contents) cs
 
 -- ---- the histories of fires
--- the current one, and for each name the one that is noted under it
+-- the current one; for each name the one that is noted under it; and the fires since the desk was opened or last returned
 pub record Histories : Type 0 where
   pub current : List ℕ
   pub noted : List (Option (List ℕ))
+  pub since : List ℕ
 
 abbrev pub unwritten : Histories
-unwritten = record { current = []; noted = replicate nameCount none }
+unwritten = record { current = []; noted = replicate nameCount none; since = [] }
 
 -- "A save notes the current history of fires; a return makes the noted history the current one, and every name stays held."
 abbrev pub noteCall : Histories → Call → Histories
-noteCall h (fires n) = record { current = h .current ++ (n ∷ []); noted = h .noted }
-noteCall h (saves a) = record { current = h .current; noted = set (h .noted) a (some (h .current)) }
-noteCall h (returns a) = record { current = valueOr (h .current) (λ (ns : List ℕ). ns) (getD (h .noted) a none); noted = h .noted }
-noteCall h (forgets a) = record { current = h .current; noted = set (h .noted) a none }
+noteCall h (fires n) = record { current = h .current ++ (n ∷ []); noted = h .noted; since = h .since ++ (n ∷ []) }
+noteCall h (saves a) = record { current = h .current; noted = set (h .noted) a (some (h .current)); since = h .since }
+noteCall h (returns a) = record { current = valueOr (h .current) (λ (ns : List ℕ). ns) (getD (h .noted) a none); noted = h .noted; since = [] }
+noteCall h (forgets a) = record { current = h .current; noted = set (h .noted) a none; since = h .since }
 
 -- a refused call notes nothing
 abbrev pub note : Told → Histories → Call → Histories
 note Told.Done h c = noteCall h c
+note (Told.Fired processes) h c = noteCall h c
 note (Told.Refused number place) h c = h
 
 abbrev pub noteCalls : System → Contents → Histories → List Call → Histories
@@ -168,11 +200,11 @@ noteCalls sys s h (c ∷ cs) = noteCalls sys (deskCall sys s c .contents) (note 
 
 -- ---- the claim
 -- A walk of the history on the table leads to c: the history is a run, and the walk call, with any pile of 256 bytes and any scratch that serves, is not
--- refused, gives the states of c and leaves the word of c.
+-- refused, gives the states of c and the counts of the history, and leaves the word of c.
 pub record Leads (table : List ℕ) (sys : System) (ns : List ℕ) (c : Configuration) : Type 0 where
   pub run : walk sys ns (sys .start) ≡ some c
   pub call : (pile scratch : List ℕ) → length pile ≡ deskPile → walkScratch ≤ length scratch
-      → walkCall table ns pile scratch ≡ record { answer = haltEnd sys c .answer; rest = []; pile = filled (c .word) pile; scratch = zeros scratch }
+      → walkCall table ns pile scratch ≡ record { answer = haltEnd sys c .answer; counts = stepCounts sys ns; rest = []; pile = filled (c .word) pile; scratch = zeros scratch }
 
 -- a name is held exactly if a history is noted under it, and that leads to what is saved
 abbrev pub Noted : (List ℕ → Configuration → Type 0) → Option (List ℕ) → Option Configuration → Type 0
@@ -181,8 +213,9 @@ Noted To none (some c) = ⊥
 Noted To (some ns) none = ⊥
 Noted To (some ns) (some c) = To ns c
 
--- The histories lead to what the desk holds: "the desk stands where a walk of its current history stands", and so does each name. `To` says where a history
--- leads.
-pub record HistoriesLead (To : List ℕ → Configuration → Type 0) (h : Histories) (s : Contents) : Type 0 where
+-- The histories lead to what the desk holds: "the desk stands where a walk of its current history stands", and so does each name; and for each process it
+-- gives the number of steps that it took part in "since it was opened or last returned", up to the ceiling. `To` says where a history leads.
+pub record HistoriesLead (sys : System) (To : List ℕ → Configuration → Type 0) (h : Histories) (s : Contents) : Type 0 where
   pub here : To (h .current) (s .here)
   pub names : (a : ℕ) → Noted To (getD (h .noted) a none) (named s a)
+  pub counts : s .counts ≡ map (min countCeiling) (stepCounts sys (h .since))

@@ -1,7 +1,8 @@
 -- Section 2 of the paper: processes, tuples of local states, their restriction to a set of processes, and the joint tuple.
 use mathlib.Core.Path.{_≡_}
 use mathlib.Core.Bool.{Bool, _&&_, _||_, cond, false, not, true}
-use Prim.Native.Nat.{ℕ, _/_, _%_, max}
+use mathlib.Core.List.{List, [], _∷_}
+use Prim.Native.Nat.{ℕ, _+_, _*_, _/_, _%_, max}
 use lib.Dec.{eqb}
 use Rattle.model.specs.declared.Group.{Group}
 
@@ -16,6 +17,10 @@ every f = f p0 && f p1 && f p2 && f p3
 -- the greatest of the numbers at the four processes
 unfoldable pub greatest : (Process → ℕ) → ℕ
 greatest f = max (max (f p0) (f p1)) (max (f p2) (f p3))
+
+-- what stands at the four processes, in order
+abbrev pub atEach : {A : Type 0} → (Process → A) → List A
+atEach f = f p0 ∷ f p1 ∷ f p2 ∷ f p3 ∷ []
 
 -- the local state of a process in a group
 abbrev pub at : Group → Process → ℕ
@@ -46,6 +51,14 @@ has L p3 = L .b3
 -- document 01: station bits, bit 0 is station 0
 abbrev pub processesOf : ℕ → Processes
 processesOf bits = record { b0 = eqb (bits % 2) 1; b1 = eqb (bits / 2 % 2) 1; b2 = eqb (bits / 4 % 2) 1; b3 = eqb (bits / 8 % 2) 1 }
+
+abbrev pub bit : Bool → ℕ
+bit true = 1
+bit false = 0
+
+-- the same backwards; request 2.5: a task's stations "as bits, bit 0 for station 0"
+unfoldable pub processBits : Processes → ℕ
+processBits L = bit (L .b0) + 2 * bit (L .b1) + 4 * bit (L .b2) + 8 * bit (L .b3)
 
 -- no process is in both sets; each process of M is in L
 abbrev pub Apart : Processes → Processes → Type 0

@@ -1,17 +1,18 @@
--- Document 01, "Small tables": the starred ones, as one table of calls and what they give, with one theorem; rows of requests 2.1, 2.2 and 2.4.
+-- Document 01, "Small tables": the starred ones, as one table of calls and what they give, with one theorem; rows of requests 2.1, 2.2, 2.4 and 2.5.
 use mathlib.Core.Path.{_≡_, refl}
 use mathlib.Core.List.{List, [], _∷_, _++_, map}
 use Prim.Native.Nat.{ℕ}
 use lib.ListN.{replicate}
-use Rattle.model.specs.Groups.{greatest, sameGroup, restrict, merge}
+use Rattle.model.specs.Groups.{greatest, sameGroup, processBits, restrict, merge}
 use Rattle.model.specs.Words.{tops}
 use Rattle.model.specs.Systems.{System, Configuration, enabled, fire}
 use Rattle.model.specs.Tables.{Reading, accepted, refused, isOutOfTurn, groupFits, transitionFits, writtenFit, valueFits, cooperates, leavesControl, isTwin, refusal, readFrom, read, systemOf}
 use Rattle.model.specs.Log.{readsAt, keyLess, sameKey, additions, logAt, firstSaturated, saturatedAt}
 use Rattle.model.specs.Unfolding.{acceptingPath, emittedBy}
 use Rattle.model.specs.Records.{recordBytes}
-use Rattle.model.specs.Calls.{recordsOf, runOf, logAfter, pageAfter, answerGiven, answerCall, runCall, walkCall, answerFigures, runGiven, runFigures, walkGiven, walkFigures}
-use Rattle.model.specs.Desks.{Contents, fires, saves, returns, forgets, checks, deskCall, opened, toldRefusal}
+use Rattle.model.specs.Calls.{recordsOf, runOf, logAfter, pageAfter, answerGiven, answerCall, runCall, walkCall, answerFigures, runGiven, runFigures, walkCounts, walkGiven, walkFigures}
+use Rattle.model.specs.Desks.{Contents, fires, saves, returns, forgets, checks, deskCall, movedTo, opened, toldProcesses, toldRefusal, uncounted}
+use Rattle.model.specs.Participation.{withStep}
 use Rattle.model.specs.Desks as Desks
 
 -- a call, with the lengths of its lent buffers
@@ -21,6 +22,7 @@ pub data Call : Type 0 where
   runs : (table : List ℕ) (log scratch page : ℕ) → Call
   walks : (table list : List ℕ) (pile scratch : ℕ) → Call
   opens : (table : List ℕ) (calls : List Desks.Call) → Call
+  resumes : (table counts : List ℕ) (calls : List Desks.Call) → Call
 
 -- a buffer that was used before
 abbrev pub used : ℕ → List ℕ
@@ -30,18 +32,18 @@ used n = replicate n 7
 abbrev pub standing : Configuration → List ℕ
 standing c = c .states .s0 ∷ c .states .s1 ∷ c .states .s2 ∷ c .states .s3 ∷ c .word
 
--- of each call of a desk the refusal's number, 0 if there is none, and where the desk stands after it
+-- of each call of a desk the refusal's number, 0 if there is none, the bits of the processes that took part, and after it the counts and where the desk stands
 abbrev pub traceFrom : System → Contents → List Desks.Call → List (List ℕ)
 traceFrom sys s [] = []
 traceFrom sys s (c ∷ cs) =
-    let o = deskCall sys s c in (toldRefusal (o .told) ∷ standing (o .contents .here)) ∷ traceFrom sys (o .contents) cs
+    let o = deskCall sys s c in (toldRefusal (o .told) ∷ toldProcesses (o .told) ∷ (o .contents .counts ++ standing (o .contents .here))) ∷ traceFrom sys (o .contents) cs
 
--- of a desk's opening the refusal's number and its place; where there is none, the calls follow
-abbrev pub trace : Reading → List Desks.Call → List (List ℕ)
-trace (refused number place) cs = (number ∷ place ∷ []) ∷ []
-trace (accepted items) cs = (0 ∷ 0 ∷ []) ∷ traceFrom (systemOf items) (opened (systemOf items)) cs
+-- of a desk's opening the refusal's number and its place; where there is none, the calls follow, on a desk that has counted so many steps
+abbrev pub trace : Reading → List ℕ → List Desks.Call → List (List ℕ)
+trace (refused number place) counts cs = (number ∷ place ∷ []) ∷ []
+trace (accepted items) counts cs = (0 ∷ 0 ∷ []) ∷ traceFrom (systemOf items) (movedTo (opened (systemOf items)) counts (systemOf items .start)) cs
 
--- its figures, and what it leaves: of an answer nothing more or the log, of a run the page, of a walk the part handed back and the pile
+-- its figures, and what it leaves: of an answer nothing more or the log, of a run the page, of a walk its counts, the part handed back and the pile
 abbrev pub gives : Call → List (List ℕ)
 gives (asks table log scratch) = answerFigures (answerCall table (used log) (used scratch) .answer) ∷ []
 gives (logs table log scratch) =
@@ -49,8 +51,9 @@ gives (logs table log scratch) =
 gives (runs table log scratch page) =
     let o = runCall table (used log) (used scratch) (used page) in runFigures (o .answer) ∷ o .page ∷ []
 gives (walks table list pile scratch) =
-    let o = walkCall table list (used pile) (used scratch) in walkFigures (o .answer) ∷ o .rest ∷ o .pile ∷ []
-gives (opens table calls) = trace (read table) calls
+    let o = walkCall table list (used pile) (used scratch) in walkFigures (o .answer) ∷ o .counts ∷ o .rest ∷ o .pile ∷ []
+gives (opens table calls) = trace (read table) uncounted calls
+gives (resumes table counts calls) = trace (read table) counts calls
 
 -- ---- the tables
 -- Table T: two stations, q = s = 2; tasks 0 {0,1}, 1 {0}, 2 {1}
@@ -162,10 +165,10 @@ starred =
     ∷ record { call = asks table-T 83 34030; result = (10 ∷ 0 ∷ 0 ∷ 0 ∷ 0 ∷ 0 ∷ []) ∷ [] }
     -- the empty file: 1 at 0
     ∷ record { call = asks [] 84 34030; result = (1 ∷ 0 ∷ 0 ∷ 0 ∷ 0 ∷ 0 ∷ []) ∷ [] }
-    -- T, walk 0 2 1: (1,1), empty, watched
-    ∷ record { call = walks table-T (0 ∷ 2 ∷ 1 ∷ []) 3 2048; result = (0 ∷ 0 ∷ 1 ∷ 0 ∷ 1 ∷ 1 ∷ 255 ∷ 255 ∷ []) ∷ [] ∷ (0 ∷ 0 ∷ 0 ∷ []) ∷ [] }
+    -- T, walk 0 2 1: (1,1), empty, watched; request 2.5: each station took part in two steps
+    ∷ record { call = walks table-T (0 ∷ 2 ∷ 1 ∷ []) 3 2048; result = (0 ∷ 0 ∷ 1 ∷ 0 ∷ 1 ∷ 1 ∷ 255 ∷ 255 ∷ []) ∷ (2 ∷ 2 ∷ 0 ∷ 0 ∷ []) ∷ [] ∷ (0 ∷ 0 ∷ 0 ∷ []) ∷ [] }
     -- T, walk 1: 12 at 0
-    ∷ record { call = walks table-T (1 ∷ []) 3 2048; result = (12 ∷ 0 ∷ 0 ∷ 0 ∷ 0 ∷ 0 ∷ 0 ∷ 0 ∷ []) ∷ (1 ∷ []) ∷ (0 ∷ 0 ∷ 0 ∷ []) ∷ [] }
+    ∷ record { call = walks table-T (1 ∷ []) 3 2048; result = (12 ∷ 0 ∷ 0 ∷ 0 ∷ 0 ∷ 0 ∷ 0 ∷ 0 ∷ []) ∷ (0 ∷ 0 ∷ 0 ∷ 0 ∷ []) ∷ (1 ∷ []) ∷ (0 ∷ 0 ∷ 0 ∷ []) ∷ [] }
     -- re-entry: 7 at the watch transition
     ∷ record { call = asks re-entry 84 34030; result = (7 ∷ 24 ∷ 0 ∷ 0 ∷ 0 ∷ 0 ∷ []) ∷ [] }
     -- doubling: run 0 1 2 2 1 2 2, peak 3
@@ -191,16 +194,25 @@ starred =
     ∷ record { call = runs (roast 6) 56 34019 7; result = (15 ∷ 0 ∷ 0 ∷ 0 ∷ 0 ∷ 0 ∷ 0 ∷ []) ∷ (7 ∷ 7 ∷ 7 ∷ 7 ∷ 7 ∷ 7 ∷ 7 ∷ []) ∷ [] }
     ∷ record { call = asks (roast 7) 56 34020; result = (5 ∷ 7 ∷ 0 ∷ 0 ∷ 0 ∷ 0 ∷ []) ∷ [] }
     ∷ record { call = asks short-bodies-T 84 34030; result = (5 ∷ 12 ∷ 0 ∷ 0 ∷ 0 ∷ 0 ∷ []) ∷ [] }
+    -- request 2.5: refused at step 2, a walk gives the counts of the steps before it; refused before its first step, none
+    ∷ record { call = walks table-T (0 ∷ 1 ∷ 1 ∷ 2 ∷ []) 3 2048; result = (12 ∷ 2 ∷ 0 ∷ 0 ∷ 0 ∷ 0 ∷ 0 ∷ 0 ∷ []) ∷ (2 ∷ 1 ∷ 0 ∷ 0 ∷ []) ∷ (1 ∷ 2 ∷ []) ∷ (2 ∷ 0 ∷ 0 ∷ []) ∷ [] }
+    ∷ record { call = walks table-T (0 ∷ []) 0 2048; result = (14 ∷ 0 ∷ 0 ∷ 0 ∷ 0 ∷ 0 ∷ 0 ∷ 0 ∷ []) ∷ (0 ∷ 0 ∷ 0 ∷ 0 ∷ []) ∷ [] ∷ [] ∷ [] }
+    ∷ record { call = walks re-entry (0 ∷ []) 3 2048; result = (7 ∷ 24 ∷ 0 ∷ 0 ∷ 0 ∷ 0 ∷ 0 ∷ 0 ∷ []) ∷ (0 ∷ 0 ∷ 0 ∷ 0 ∷ []) ∷ [] ∷ (7 ∷ 7 ∷ 7 ∷ []) ∷ [] }
     -- a desk on T: refused by 12, 13, 18 and 17; then 0 and 2 fired, each after a save, and a return to where 2 had not fired
     ∷ record {
-      call = opens table-T (fires 1 ∷ fires 3 ∷ returns 8 ∷ returns 0 ∷ saves 0 ∷ fires 0 ∷ saves 1 ∷ fires 2 ∷ returns 1 ∷ fires 1 ∷ returns 1 ∷ forgets 0 ∷ returns 0 ∷ []);
+      call = opens table-T (fires 1 ∷ fires 3 ∷ returns 8 ∷ returns 0 ∷ saves 0 ∷ fires 0 ∷ saves 1 ∷ fires 2 ∷ returns 1 ∷ fires 1 ∷ forgets 0 ∷ returns 0 ∷ returns 1 ∷ []);
       result = (0 ∷ 0 ∷ [])
-          ∷ (12 ∷ 0 ∷ 0 ∷ 255 ∷ 255 ∷ 0 ∷ []) ∷ (13 ∷ 0 ∷ 0 ∷ 255 ∷ 255 ∷ 0 ∷ []) ∷ (18 ∷ 0 ∷ 0 ∷ 255 ∷ 255 ∷ 0 ∷ []) ∷ (17 ∷ 0 ∷ 0 ∷ 255 ∷ 255 ∷ 0 ∷ [])
-          ∷ (0 ∷ 0 ∷ 0 ∷ 255 ∷ 255 ∷ 0 ∷ []) ∷ (0 ∷ 0 ∷ 0 ∷ 255 ∷ 255 ∷ 1 ∷ 2 ∷ []) ∷ (0 ∷ 0 ∷ 0 ∷ 255 ∷ 255 ∷ 1 ∷ 2 ∷ []) ∷ (0 ∷ 0 ∷ 1 ∷ 255 ∷ 255 ∷ 1 ∷ [])
-          -- the name 1 stays held: it is returned to twice
-          ∷ (0 ∷ 0 ∷ 0 ∷ 255 ∷ 255 ∷ 1 ∷ 2 ∷ []) ∷ (0 ∷ 1 ∷ 0 ∷ 255 ∷ 255 ∷ 2 ∷ []) ∷ (0 ∷ 0 ∷ 0 ∷ 255 ∷ 255 ∷ 1 ∷ 2 ∷ [])
-          -- the name 0 is forgotten
-          ∷ (0 ∷ 0 ∷ 0 ∷ 255 ∷ 255 ∷ 1 ∷ 2 ∷ []) ∷ (17 ∷ 0 ∷ 0 ∷ 255 ∷ 255 ∷ 1 ∷ 2 ∷ []) ∷ [];
+          ∷ (12 ∷ 0 ∷ 0 ∷ 0 ∷ 0 ∷ 0 ∷ 0 ∷ 0 ∷ 255 ∷ 255 ∷ 0 ∷ []) ∷ (13 ∷ 0 ∷ 0 ∷ 0 ∷ 0 ∷ 0 ∷ 0 ∷ 0 ∷ 255 ∷ 255 ∷ 0 ∷ []) ∷ (18 ∷ 0 ∷ 0 ∷ 0 ∷ 0 ∷ 0 ∷ 0 ∷ 0 ∷ 255 ∷ 255 ∷ 0 ∷ []) ∷ (17 ∷ 0 ∷ 0 ∷ 0 ∷ 0 ∷ 0 ∷ 0 ∷ 0 ∷ 255 ∷ 255 ∷ 0 ∷ [])
+          ∷ (0 ∷ 0 ∷ 0 ∷ 0 ∷ 0 ∷ 0 ∷ 0 ∷ 0 ∷ 255 ∷ 255 ∷ 0 ∷ []) ∷ (0 ∷ 3 ∷ 1 ∷ 1 ∷ 0 ∷ 0 ∷ 0 ∷ 0 ∷ 255 ∷ 255 ∷ 1 ∷ 2 ∷ []) ∷ (0 ∷ 0 ∷ 1 ∷ 1 ∷ 0 ∷ 0 ∷ 0 ∷ 0 ∷ 255 ∷ 255 ∷ 1 ∷ 2 ∷ []) ∷ (0 ∷ 2 ∷ 1 ∷ 2 ∷ 0 ∷ 0 ∷ 0 ∷ 1 ∷ 255 ∷ 255 ∷ 1 ∷ [])
+          -- a return begins the counts anew, a save and a forget leave them
+          ∷ (0 ∷ 0 ∷ 0 ∷ 0 ∷ 0 ∷ 0 ∷ 0 ∷ 0 ∷ 255 ∷ 255 ∷ 1 ∷ 2 ∷ []) ∷ (0 ∷ 1 ∷ 1 ∷ 0 ∷ 0 ∷ 0 ∷ 1 ∷ 0 ∷ 255 ∷ 255 ∷ 2 ∷ []) ∷ (0 ∷ 0 ∷ 1 ∷ 0 ∷ 0 ∷ 0 ∷ 1 ∷ 0 ∷ 255 ∷ 255 ∷ 2 ∷ [])
+          -- the name 0 is forgotten; the name 1 stays held, and is returned to twice
+          ∷ (17 ∷ 0 ∷ 1 ∷ 0 ∷ 0 ∷ 0 ∷ 1 ∷ 0 ∷ 255 ∷ 255 ∷ 2 ∷ []) ∷ (0 ∷ 0 ∷ 0 ∷ 0 ∷ 0 ∷ 0 ∷ 0 ∷ 0 ∷ 255 ∷ 255 ∷ 1 ∷ 2 ∷ []) ∷ [];
+    }
+    -- a desk's count stops at 4,294,967,295
+    ∷ record {
+      call = resumes table-T (4294967294 ∷ 4294967295 ∷ 0 ∷ 0 ∷ []) (fires 0 ∷ fires 1 ∷ []);
+      result = (0 ∷ 0 ∷ []) ∷ (0 ∷ 3 ∷ 4294967295 ∷ 4294967295 ∷ 0 ∷ 0 ∷ 0 ∷ 0 ∷ 255 ∷ 255 ∷ 1 ∷ 2 ∷ []) ∷ (0 ∷ 1 ∷ 4294967295 ∷ 4294967295 ∷ 0 ∷ 0 ∷ 1 ∷ 0 ∷ 255 ∷ 255 ∷ 2 ∷ []) ∷ [];
     }
     -- and none on the re-entry table
     ∷ record { call = opens re-entry (fires 0 ∷ []); result = (7 ∷ 24 ∷ []) ∷ [] }
@@ -208,5 +220,5 @@ starred =
 
 -- the definitions give each result
 pub starred-hold : map (λ (e : Example). gives (e .call)) starred ≡ map (λ (e : Example). e .result) starred
-unfolding greatest sameGroup restrict merge tops enabled fire isOutOfTurn groupFits transitionFits writtenFit valueFits cooperates leavesControl isTwin refusal readFrom read systemOf readsAt keyLess sameKey additions logAt firstSaturated saturatedAt acceptingPath emittedBy recordsOf runOf logAfter pageAfter recordBytes answerGiven answerCall runGiven runCall walkGiven walkCall checks deskCall
+unfolding greatest sameGroup processBits restrict merge tops enabled fire isOutOfTurn groupFits transitionFits writtenFit valueFits cooperates leavesControl isTwin refusal readFrom read systemOf readsAt keyLess sameKey additions logAt firstSaturated saturatedAt acceptingPath emittedBy recordsOf runOf logAfter pageAfter recordBytes answerGiven answerCall runGiven runCall walkCounts walkGiven withStep walkCall checks deskCall
 starred-hold = refl

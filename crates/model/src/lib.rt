@@ -62,8 +62,9 @@ pub enum Walked {
     },
 }
 
-// What a call of the desk tells: done, or a refusal.
+// What a call of the desk tells: done; fired, with the processes of the rule's letter as bits; or a refusal.
 pub enum Told {
     Done,
+    Fired { processes: u8 },
     Refused { number: u8, place: usize },
 }

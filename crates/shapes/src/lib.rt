@@ -3,7 +3,7 @@ use table::Table;
 ghost use mathlib.Core.Path.{_≡_};
 ghost use Prim.Native.Nat.{_+_, _≤_};
 ghost use lib.ListN.{length};
-ghost use Rattle.automaton.specs.ProcessBits.{processBits};
+ghost use Rattle.model.specs.Groups.{processBits};
 ghost use Rattle.shapes.specs.Shapes.{presentIn, fronted};
 
 // The processes of the table, as bits.

@@ -1,5 +1,5 @@
 -- One step of a walk: refused by 13, 12 or 14, or taken.
-use mathlib.Core.Path.{_≡_, refl, ap, subst, _∙_}
+use mathlib.Core.Path.{_≡_, refl, ap, subst, sym, _∙_}
 use mathlib.Core.Option.{Option, none, some}
 use mathlib.Core.List.{List, [], _∷_}
 use Prim.Native.Nat.{ℕ, zero, suc, _+_, _<_, _≤_}
@@ -8,8 +8,10 @@ use native.Mathlib.Omega.{arith}
 use lib.ListN.{length, getD, getElem?, drop}
 use borrow.Author.Tests.{lt-ltb, le-ltb}
 use Rattle.model.specs.Calls.{Halt, stepBy, stepTo, walkFrom}
-use Rattle.model.specs.Lists.{Each}
-use Rattle.model.specs.Systems.{System, Configuration, fire, fired}
+use Rattle.model.specs.Groups.{processBits, processesOf}
+use Rattle.model.specs.Lists.{Each, valueOr}
+use Rattle.model.specs.Participation.{ruleProcesses}
+use Rattle.model.specs.Systems.{System, Rule, Configuration, fire, fired}
 use Rattle.model.specs.Tables.{ruleOf}
 use Rattle.model.proofs.Steps.{fire-inv}
 use Rattle.automaton.specs.StateNumbers.{Over}
@@ -18,6 +20,7 @@ use Rattle.table.specs.Reading.{Holds, systemIn, ruleIn}
 use Rattle.table.proofs.Layouts.{rules-count}
 use Rattle.shapes.specs.Shapes.{presentIn}
 use Rattle.shapes.proofs.Shapes.{fired-over, fired-lettered}
+use Rattle.firing.specs.declared.Fired.{Fired}
 use Rattle.firing.specs.declared.Placed.{Placed}
 use Rattle.firing.specs.declared.Firing.the-variants.{Idle, Full, Done}
 use Rattle.firing.specs.Piles.{configuration, Fires, firedPile}
@@ -57,6 +60,10 @@ module _ (table : List ℕ) (t : Table) (h : Holds table t) (n : ℕ) (pile : Li
   }
 
   module _ (l : n < t .rules) where
+    -- the processes that take part
+    rule-is : ruleProcesses (systemIn table) n ≡ systemIn table .loc (ruleIn table n .letter)
+    rule-is = ap (valueOr (processesOf 0) (λ (r : Rule). systemIn table .loc (r .letter))) (elem-some (sys .rules) n (ruleOf []) (omega (arith, rules-count table t h)))
+
     -- the rule that the number names, and what it comes to
     by-rule : (step : ℕ) (ns : List ℕ) (o : Option Configuration) → fire (systemIn table .loc) (ruleIn table n) (configuration pile c) ≡ o
         → walkFrom (systemIn table) (length pile) step (n ∷ ns) (configuration pile c) ≡ stepTo (λ d. walkFrom (systemIn table) (length pile) (step + 1) ns d) (length pile) step (n ∷ ns) (configuration pile c) o
@@ -65,15 +72,15 @@ module _ (table : List ℕ) (t : Table) (h : Holds table t) (n : ℕ) (pile : Li
         ∙ ap (stepTo (after step ns) (length pile) step (n ∷ ns) before) e
 
     -- 12: it does not fire
-    pub step-idle : (pile′ : List ℕ) → Fires (fire (systemIn table .loc) (ruleIn table n) (configuration pile c)) pile pile′ Idle → StepRefused (systemIn table) n c pile pile′ 12
+    pub step-idle : (pile′ : List ℕ) → Fires (systemIn table .loc (ruleIn table n .letter)) (fire (systemIn table .loc) (ruleIn table n) (configuration pile c)) pile pile′ Idle → StepRefused (systemIn table) n c pile pile′ 12
     unfolding firedPile
     step-idle pile′ f =
-        let e : fire (systemIn table .loc) (ruleIn table n) (configuration pile c) ≡ none = idle-of (length pile) (fire (systemIn table .loc) (ruleIn table n) (configuration pile c)) (f .answer) in
+        let e : fire (systemIn table .loc) (ruleIn table n) (configuration pile c) ≡ none = idle-of (length pile) (systemIn table .loc (ruleIn table n .letter)) (fire (systemIn table .loc) (ruleIn table n) (configuration pile c)) (f .answer) in
         record { numbered = refl; late = refl; leaves = f .leaves ∙ ap (firedPile pile) e; halt = λ step ns. by-rule step ns none e }
 
     -- 14: the word after it is longer than the buffer
-    pub step-full : (pile′ : List ℕ) → Fires (fire (systemIn table .loc) (ruleIn table n) (configuration pile c)) pile pile′ Full → StepRefused (systemIn table) n c pile pile′ 14
-    step-full pile′ f = go (full-of (length pile) (fire (systemIn table .loc) (ruleIn table n) (configuration pile c)) (f .answer))
+    pub step-full : (pile′ : List ℕ) → Fires (systemIn table .loc (ruleIn table n .letter)) (fire (systemIn table .loc) (ruleIn table n) (configuration pile c)) pile pile′ Full → StepRefused (systemIn table) n c pile pile′ 14
+    step-full pile′ f = go (full-of (length pile) (systemIn table .loc (ruleIn table n .letter)) (fire (systemIn table .loc) (ruleIn table n) (configuration pile c)) (f .answer))
       where
         go : ((d : Configuration) × (fire (systemIn table .loc) (ruleIn table n) (configuration pile c) ≡ some d) × (length pile < length (d .word))) → StepRefused (systemIn table) n c pile pile′ 14
         go (d, e, q) = record {
@@ -84,10 +91,10 @@ module _ (table : List ℕ) (t : Table) (h : Holds table t) (n : ℕ) (pile : Li
         }
 
     -- it fires, and the word fits
-    pub step-done : (pile′ : List ℕ) (d : Placed) → InShape t pile c → Fires (fire (systemIn table .loc) (ruleIn table n) (configuration pile c)) pile pile′ (Done d) → StepTaken table t n c d pile pile′
-    step-done pile′ d s f =
-        let x = fires-fit (fire (systemIn table .loc) (ruleIn table n) (configuration pile c)) pile pile′ d f in
-        let is : fired (systemIn table .loc) (ruleIn table n) (configuration pile c) ≡ configuration pile′ d = fire-inv (systemIn table .loc) (ruleIn table n) (configuration pile c) (configuration pile′ d) (x .gives) .gives in
+    pub step-done : (pile′ : List ℕ) (f : Fired) → InShape t pile c → Fires (systemIn table .loc (ruleIn table n .letter)) (fire (systemIn table .loc) (ruleIn table n) (configuration pile c)) pile pile′ (Done f) → StepTaken table t n c f pile pile′
+    step-done pile′ f s z =
+        let x = fires-fit (systemIn table .loc (ruleIn table n .letter)) (fire (systemIn table .loc) (ruleIn table n) (configuration pile c)) pile pile′ f z in
+        let is : fired (systemIn table .loc) (ruleIn table n) (configuration pile c) ≡ configuration pile′ (f .placed) = fire-inv (systemIn table .loc) (ruleIn table n) (configuration pile c) (configuration pile′ (f .placed)) (x .gives) .gives in
         record {
           shape = record {
             stands = record {
@@ -97,5 +104,6 @@ module _ (table : List ℕ) (t : Table) (h : Holds table t) (n : ℕ) (pile : Li
             over = subst (λ (k : Configuration). Over (presentIn t) (k .states)) is (fired-over table t h n (c .states) l (s .over));
           };
           size = x .size;
-          onward = λ step ns. by-rule step ns (some (configuration pile′ d)) (x .gives) ∙ rw (le-ltb (length pile) (length (drop (d .top) pile′)) (x .fits)) refl;
+          onward = λ step ns. by-rule step ns (some (configuration pile′ (f .placed))) (x .gives) ∙ rw (le-ltb (length pile) (length (drop (f .placed .top) pile′)) (x .fits)) refl;
+          tells = x .tells ∙ ap processBits (sym rule-is);
         }

@@ -6,11 +6,14 @@ use Prim.Native.Nat.{ℕ, _+_}
 use lib.Dec.{eqb}
 use lib.ListN.{length}
 use Rattle.model.specs.Calls.{changesNothing, haltAt, walkFrom}
+use Rattle.model.specs.Groups.{processBits, processesOf}
+use Rattle.model.specs.Participation.{ruleProcesses, withStep}
 use Rattle.model.specs.Systems.{System}
 use Rattle.automaton.specs.StateNumbers.{Over}
 use Rattle.table.specs.declared.Table.{Table}
 use Rattle.table.specs.Reading.{systemIn}
 use Rattle.shapes.specs.Shapes.{presentIn}
+use Rattle.firing.specs.declared.Fired.{Fired}
 use Rattle.firing.specs.declared.Placed.{Placed}
 use Rattle.firing.specs.Piles.{configuration, Stands}
 use Rattle.steps.specs.declared.Taken.{Taken}
@@ -29,12 +32,18 @@ pub record StepRefused (sys : System) (n : ℕ) (c : Placed) (pile pile′ : Lis
   pub leaves : pile′ ≡ pile
   pub halt : (step : ℕ) (ns : List ℕ) → walkFrom sys (length pile) step (n ∷ ns) (configuration pile c) ≡ haltAt number step (n ∷ ns) (configuration pile c)
 
--- fired: the walk goes on from the configuration after it
-pub record StepTaken (table : List ℕ) (t : Table) (n : ℕ) (c d : Placed) (pile pile′ : List ℕ) : Type 0 where
-  pub shape : InShape t pile′ d
+-- fired: the walk goes on from the configuration after it, and the processes that took part are told
+pub record StepTaken (table : List ℕ) (t : Table) (n : ℕ) (c : Placed) (f : Fired) (pile pile′ : List ℕ) : Type 0 where
+  pub shape : InShape t pile′ (f .placed)
   pub size : length pile′ ≡ length pile
-  pub onward : (step : ℕ) (ns : List ℕ) → walkFrom (systemIn table) (length pile) step (n ∷ ns) (configuration pile c) ≡ walkFrom (systemIn table) (length pile) (step + 1) ns (configuration pile′ d)
+  pub onward : (step : ℕ) (ns : List ℕ) → walkFrom (systemIn table) (length pile) step (n ∷ ns) (configuration pile c) ≡ walkFrom (systemIn table) (length pile) (step + 1) ns (configuration pile′ (f .placed))
+  pub tells : f .processes ≡ processBits (ruleProcesses (systemIn table) n)
 
 abbrev pub StepTo : List ℕ → Table → ℕ → Placed → List ℕ → List ℕ → Taken → Type 0
 StepTo table t n c pile pile′ (Refused number) = StepRefused (systemIn table) n c pile pile′ number
-StepTo table t n c pile pile′ (Onward d) = StepTaken table t n c d pile pile′
+StepTo table t n c pile pile′ (Onward f) = StepTaken table t n c f pile pile′
+
+-- the counts after it: a step more for each process that took part, and as they were where it is refused
+abbrev pub countsBy : Taken → ℕ → List ℕ → List ℕ
+countsBy (Refused number) ceiling counts = counts
+countsBy (Onward f) ceiling counts = withStep ceiling (processesOf (f .processes)) counts

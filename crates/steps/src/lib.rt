@@ -1,25 +1,30 @@
-// What a walk and a desk have in common: the start's word put at the end of a buffer, one step there, and the word moved to the front.
+// What a walk and a desk have in common: the start's word put at the end of a buffer, one step there, the count of who took part, and the word moved to the
+// front.
 use automaton::sets;
+use firing::Fired;
 use firing::Firing;
 use firing::Placed;
 use firing::fire;
+use numbers::as_bit;
 use shapes::move_front;
 use table::Table;
 use table::pile_letter;
 use table::start_group;
 ghost use mathlib.Core.Path.{_≡_};
-ghost use Prim.Native.Nat.{_+_, _≤_};
+ghost use Prim.Native.Nat.{_+_, _≤_, min};
 ghost use lib.ListN.{length, drop};
 ghost use lib.Seq.{paste};
 ghost use Rattle.model.specs.Calls.{filled};
+ghost use Rattle.model.specs.Groups.{bit, processesOf};
+ghost use Rattle.model.specs.Participation.{withStep};
 ghost use Rattle.table.specs.Reading.{Holds, systemIn};
 ghost use Rattle.firing.specs.Piles.{configuration};
-ghost use Rattle.steps.specs.Stepping.{InShape, StepTo};
+ghost use Rattle.steps.specs.Stepping.{InShape, StepTo, countsBy};
 
-// What one step comes to: the number of its refusal, or the configuration after it.
+// What one step comes to: the number of its refusal, or the rule that fired.
 pub enum Taken {
     Refused(u8),
-    Onward(Placed),
+    Onward(Fired),
 }
 
 // ---- the start
@@ -48,11 +53,42 @@ pub fn place_start(table: &[u8], t: Table, pile: &mut [u8]) -> Placed
     Placed { states, top }
 }
 
+// ---- who took part
+// One step more where the process took part in it, up to the ceiling.
+fn raised(count: u64, part: bool, ceiling: u64) -> u64
+    ensures { λ r. ⌜ r ≡ min ceiling (count + bit part) ⌝ }
+{
+    if count < ceiling {
+        return count + as_bit(part);
+    }
+    ceiling
+}
+
+// The counts with one step more at each process in bits. A count stops at the ceiling.
+fn with_step(counts: [u64; Table::PROCESSES], bits: u8, ceiling: u64) -> [u64; Table::PROCESSES]
+    requires { ⌜ length counts ≡ 4 ⌝ }
+    ensures { λ r. ⌜ r ≡ withStep ceiling (processesOf bits) counts ⌝ }
+{
+    let c0 = raised(counts[0], bits % 2 == 1, ceiling);
+    let c1 = raised(counts[1], bits / 2 % 2 == 1, ceiling);
+    let c2 = raised(counts[2], bits / 4 % 2 == 1, ceiling);
+    let c3 = raised(counts[3], bits / 8 % 2 == 1, ceiling);
+    [c0, c1, c2, c3]
+}
+
 // ---- a step
-// Fires the rule n. The order of the refusals: 13, 12, 14.
-pub fn take_step(table: &[u8], t: Table, n: usize, pile: &mut [u8], c: Placed) -> Taken
-    requires { ⌜ Holds (now table) t × InShape t (now pile) c ⌝ }
-    ensures { λ r. ⌜ StepTo (now (table .entry)) t n c (now (pile .entry)) (now (pile .exit)) r ⌝ }
+// Fires the rule n, and counts the step for each process that takes part. The order of the refusals: 13, 12, 14.
+pub fn take_step(
+    table: &[u8],
+    t: Table,
+    n: usize,
+    pile: &mut [u8],
+    c: Placed,
+    counts: &mut [u64; Table::PROCESSES],
+    ceiling: u64,
+) -> Taken
+    requires { ⌜ Holds (now table) t × InShape t (now pile) c × (length (now counts) ≡ 4) ⌝ }
+    ensures { λ r. ⌜ StepTo (now (table .entry)) t n c (now (pile .entry)) (now (pile .exit)) r × (now (counts .exit) ≡ countsBy r ceiling (now (counts .entry))) ⌝ }
 {
     let rules = t.rules;
     if rules <= n {
@@ -65,8 +101,10 @@ pub fn take_step(table: &[u8], t: Table, n: usize, pile: &mut [u8], c: Placed) -
         Firing::Full => {
             return Taken::Refused(14);
         }
-        Firing::Done(d) => {
-            return Taken::Onward(d);
+        Firing::Done(f) => {
+            let next = with_step(*counts, f.processes, ceiling);
+            *counts = next;
+            return Taken::Onward(f);
         }
     }
 }

@@ -3,6 +3,7 @@ use acceptance::is_accepted;
 use automaton::sets;
 use firing::Placed;
 use model::Walked;
+use numbers::as_bit;
 use numbers::wide_two;
 use scratch::NEEDED_BY_WALK;
 use steps::Taken;
@@ -14,24 +15,34 @@ use table::Table;
 use table::read;
 ghost use mathlib.Core.Path.{_≡_};
 ghost use Prim.Native.Nat.{_≤_};
-ghost use lib.ListN.{length};
-ghost use Rattle.model.specs.Calls.{bit, zeros, walkScratch, walkFrom, walkCall, walkFigures};
-ghost use Rattle.model.specs.Demands.{Demand2Walk};
+ghost use mathlib.Core.List.{_++_};
+ghost use lib.ListN.{length, drop, getD};
+ghost use Rattle.model.specs.Calls.{zeros, walkScratch, walkFrom, walkCall, walkFigures};
+ghost use Rattle.model.specs.Demands.{Demand2Walk, TookPart};
 ghost use Rattle.table.specs.Reading.{Holds, systemIn};
 ghost use Rattle.firing.specs.Piles.{configuration};
 ghost use Rattle.steps.specs.Stepping.{InShape};
 ghost use Rattle.walk.specs.Walking.{answerAt, Stopped, haltedBefore, outcomeOf, Halts, Walks};
 
-// Where the steps stopped: the number of the refusal, 0 at the list's end; the step; and the configuration there.
+// A walk's figures: eight of its answer, and a count for each process.
+pub const FIGURES: usize = 8 + Table::PROCESSES;
+
+// No walk has so many steps.
+const UNBOUNDED: u64 = 18446744073709551615;
+
+// Where the steps stopped: the number of the refusal, 0 at the list's end; the step; the configuration there; and of the steps before it how many each process
+// took part in.
 pub struct Stop {
     pub number: u8,
     pub at: usize,
     pub placed: Placed,
+    pub counts: [u64; Table::PROCESSES],
 }
 
-// What a walk gives, and where the part of the list begins that it hands back.
+// What a walk gives, the steps that each process took part in, and where the part of the list begins that it hands back.
 pub struct Halted {
     pub answer: Walked,
+    pub counts: [u64; Table::PROCESSES],
     pub from: usize,
 }
 
@@ -42,18 +53,20 @@ fn take_steps(table: &[u8], t: Table, list: &[u16], pile: &mut [u8], start: Plac
     ensures { λ r. ⌜ Stopped (now (table .entry)) t (now (list .entry)) (walkFrom (systemIn (now (table .entry))) (length (now (pile .entry))) 0 (now (list .entry)) (configuration (now (pile .entry)) start)) (now (pile .exit)) r ⌝ }
 {
     let mut c = start;
+    let mut counts = [0; Table::PROCESSES];
     let mut k = 0;
     while k < list.len() {
-        match take_step(table, t, wide_two(list[k]), pile, c) {
+        match take_step(table, t, wide_two(list[k]), pile, c, &mut counts, UNBOUNDED) {
             Taken::Refused(number) => {
                 return Stop {
                     number,
                     at: k,
                     placed: c,
+                    counts,
                 };
             }
-            Taken::Onward(d) => {
-                c = d;
+            Taken::Onward(f) => {
+                c = f.placed;
                 k += 1;
             }
         }
@@ -62,6 +75,7 @@ fn take_steps(table: &[u8], t: Table, list: &[u16], pile: &mut [u8], start: Plac
         number: 0,
         at: k,
         placed: c,
+        counts,
     }
 }
 
@@ -94,15 +108,17 @@ fn conclude(table: &[u8], t: Table, pile: &[u8], s: Stop, scratch: &mut [u8]) ->
 // A walk whose start pile fits.
 fn walk_placed(table: &[u8], t: Table, list: &[u16], pile: &mut [u8], scratch: &mut [u8]) -> Halted
     requires { ⌜ Holds (now table) t × (t .pile ≤ length (now pile)) × (walkScratch ≤ length (now scratch)) ⌝ }
-    ensures { λ r. ⌜ Halts (outcomeOf (walkFrom (systemIn (now (table .entry))) (length (now (pile .entry))) 0 (now (list .entry)) (systemIn (now (table .entry)) .start)) (now (pile .entry)) (now (scratch .entry))) (now (list .entry)) r (now (pile .exit)) (now (scratch .exit)) ⌝ }
+    ensures { λ r. ⌜ Halts (outcomeOf (systemIn (now (table .entry))) (now (list .entry)) (walkFrom (systemIn (now (table .entry))) (length (now (pile .entry))) 0 (now (list .entry)) (systemIn (now (table .entry)) .start)) (now (pile .entry)) (now (scratch .entry))) (now (list .entry)) r (now (pile .exit)) (now (scratch .exit)) ⌝ }
 {
     let start = place_start(table, t, pile);
     let stop = take_steps(table, t, list, pile, start);
     let answer = conclude(table, t, pile, stop, scratch);
     let c = stop.placed;
     settle(pile, c.top);
+    let counts = stop.counts;
     Halted {
         answer,
+        counts,
         from: stop.at,
     }
 }
@@ -113,6 +129,7 @@ fn halt_before(number: u8, place: usize, list: &[u16]) -> Halted
 {
     Halted {
         answer: Walked::Refused { number, place },
+        counts: [0; Table::PROCESSES],
         from: list.len(),
     }
 }
@@ -152,18 +169,10 @@ fn walk_table(table: &[u8], list: &[u16], pile: &mut [u8], scratch: &mut [u8]) -
     }
 }
 
-fn as_figure(b: bool) -> u64
-    ensures { λ r. ⌜ r ≡ bit b ⌝ }
-{
-    if b {
-        return 1;
-    }
-    0
-}
-
-// Document 01's number and values: the refusal's number, its place, watched or not, pile length, end states.
-fn put_figures(figures: &mut [u64; 8], answer: Walked)
-    ensures { λ _. ⌜ now (figures .exit) ≡ walkFigures answer ⌝ }
+// Document 01's number and values: the refusal's number, its place, watched or not, pile length, end states; then request 2.5's counts.
+fn put_figures(figures: &mut [u64; FIGURES], answer: Walked, counts: [u64; Table::PROCESSES])
+    requires { ⌜ length counts ≡ 4 ⌝ }
+    ensures { λ _. ⌜ now (figures .exit) ≡ walkFigures answer ++ counts ⌝ }
 {
     match answer {
         Walked::Ended {
@@ -174,35 +183,55 @@ fn put_figures(figures: &mut [u64; 8], answer: Walked)
             *figures = [
                 0,
                 0,
-                as_figure(watched),
+                as_bit(watched),
                 length as u64,
                 states.s0 as u64,
                 states.s1 as u64,
                 states.s2 as u64,
                 states.s3 as u64,
+                counts[0],
+                counts[1],
+                counts[2],
+                counts[3],
             ];
         }
         Walked::Refused { number, place } => {
-            *figures = [number as u64, place as u64, 0, 0, 0, 0, 0, 0];
+            *figures = [
+                number as u64,
+                place as u64,
+                0,
+                0,
+                0,
+                0,
+                0,
+                0,
+                counts[0],
+                counts[1],
+                counts[2],
+                counts[3],
+            ];
         }
     }
 }
 
-// Walks the list of rules over the table. Hands back the part of the list from the refused step on, the empty part in any other case. The two
-// clauses are the mission's demands: what the call gives and leaves in every buffer; its steps, taken and refused, in the paper's terms.
+// Walks the list of rules over the table. Hands back the part of the list from the refused step on, the empty part in any other case. The first two
+// clauses are the mission's demands: what the call gives and leaves in every buffer; its steps, taken and refused, in the paper's terms. The third is
+// request 2.5: who took part in them.
 pub fn walk<'a>(
     table: &[u8],
     list: &'a [u16],
     pile: &mut [u8],
     scratch: &mut [u8],
-    figures: &mut [u64; 8],
+    figures: &mut [u64; FIGURES],
 ) -> &'a [u16]
     ensures demand_1 { λ r. ⌜ Walks (walkCall (now (table .entry)) (now (list .entry)) (now (pile .entry)) (now (scratch .entry))) (now (figures .exit)) (now r) (now (pile .exit)) (now (scratch .exit)) ⌝ }
     ensures demand_2 { λ _. ⌜ Demand2Walk (now (table .entry)) (now (list .entry)) (now (figures .exit)) (now (pile .exit)) ⌝ }
+    ensures request_2_5 { λ _. ⌜ TookPart (now (table .entry)) (now (list .entry)) (getD (now (figures .exit)) 0 0) (getD (now (figures .exit)) 1 0) (drop 8 (now (figures .exit))) ⌝ }
 {
     let halted = walk_table(table, list, pile, scratch);
     let answer = halted.answer;
+    let counts = halted.counts;
     let from = halted.from;
-    put_figures(figures, answer);
+    put_figures(figures, answer, counts);
     &list[from..]
 }

@@ -1,4 +1,6 @@
-// Walks over table T of document 01. One line for each: the eight figures, the length of the part handed back, and the pile bytes.
+// Walks over table T of document 01. One line for each: the eight figures of the answer and the four counts, the length of the part handed back, and the pile
+// bytes.
+use walk::FIGURES;
 
 // Two stations, q = s = 2; tasks 0 {0,1}, 1 {0}, 2 {1}; rule 0: task 0, (0,0) to (0,0), writes 1 2; rule 1: task 1, 0 to 1, writes none;
 // rule 2: task 2, the same; accepting (1,1); start (0,0), pile 0.
@@ -86,9 +88,9 @@ fn print_number(n: u64) {
     io::print_decimal(1, n);
 }
 
-fn print_figures(figures: &[u64; 8]) {
+fn print_figures(figures: &[u64; FIGURES]) {
     let mut i = 0;
-    while i < 8 {
+    while i < FIGURES {
         print_number(figures[i]);
         i += 1;
     }
@@ -107,7 +109,7 @@ fn print_bytes(bytes: &[u8]) {
 }
 
 fn show(table: &[u8], list: &[u16], pile: &mut [u8], scratch: &mut [u8]) {
-    let mut figures = [0u64; 8];
+    let mut figures = [7u64; FIGURES];
     let rest = walk::walk(table, list, pile, scratch, &mut figures);
     let left = rest.len();
     io::write_all(1, b"figures");
@@ -126,12 +128,14 @@ fn show_in(list: &[u16], pile: &mut [u8]) {
 }
 
 fn main() {
-    // 0 2 1: (1,1), empty, watched
+    // 0 2 1: (1,1), empty, watched; stations 0 and 1 took part in two steps each
     show_in(&[0u16, 2, 1], &mut [7u8; 3]);
     // 1 does not fire: 12 at 0
     show_in(&[1u16], &mut [7u8; 3]);
-    // no rule 3: 13 at 1, after rule 0
+    // no rule 3: 13 at 1, after rule 0, in which both took part
     show_in(&[0u16, 3, 1], &mut [7u8; 3]);
+    // 1 does not fire again: 12 at 2, station 0 took part in two steps, station 1 in one
+    show_in(&[0u16, 1, 1, 2], &mut [7u8; 3]);
     // the pile 1 2 fills a buffer of 2, and is too long for one of 1: 14 at 0
     show_in(&[0u16], &mut [7u8; 2]);
     show_in(&[0u16], &mut [7u8; 1]);

@@ -41,7 +41,7 @@ struct Row {
 const SAVE: usize = 5;
 const SAVE_AND_FORGET: usize = 6;
 
-const ROWS: [Row; 11] = [
+const ROWS: [Row; 12] = [
     row("fire, pile of 1", one_letter, MANY, |subject, times| {
         repeat(times, || subject.desk.fire(ONCE).is_ok());
     }),
@@ -70,6 +70,9 @@ const ROWS: [Row; 11] = [
     }),
     row("look", one_letter, MANY, |subject, times| {
         repeat(times, || black_box(&subject.desk.look()).pile().len() == 1);
+    }),
+    row("count", one_letter, MANY, |subject, times| {
+        repeat(times, || subject.desk.counts() == [0; 4]);
     }),
     row("open, table T", table_t, FEW, |subject, times| {
         repeat(times, || Desk::open(&subject.table).is_ok());
@@ -105,7 +108,7 @@ fn repeat(times: usize, mut call: impl FnMut() -> bool) {
     }
 }
 
-fn refused(given: Result<(), Refusal>, cause: Cause) -> bool {
+fn refused(given: Result<u8, Refusal>, cause: Cause) -> bool {
     given.is_err_and(|refusal| refusal.cause == cause)
 }
 

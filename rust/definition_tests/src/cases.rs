@@ -1,7 +1,7 @@
 //! Small tables, accepted and refused, and the calls that are made of them.
 
 use crate::equations::Equation;
-use crate::sequences::{self, DeskCall};
+use crate::sequences::{self, Counts, DeskCall, wide_counts};
 use second_engine::{
     Answer, RECORD_BYTES, Refusal, Run, WALK_SCRATCH, Walk, answer, run, scratch_needed, walk,
 };
@@ -36,8 +36,11 @@ pub enum Call {
         pile: usize,
         scratch: usize,
     },
-    /// A desk, opened and called.
-    Desk(Vec<DeskCall>),
+    /// A desk, opened with these counts and called.
+    Desk {
+        counts: Counts,
+        calls: Vec<DeskCall>,
+    },
 }
 
 pub struct Case {
@@ -46,52 +49,86 @@ pub struct Case {
 }
 
 /// The small tables of documents 01 and 02, random ones and damaged ones, each with one of the
-/// calls; the runs of those with a peak or a path of their own; and a desk whose pile is filled.
+/// calls; then the chosen runs, walks and desks.
 pub fn all(seed: u64) -> Vec<Case> {
     let mut rng = Rng::new(seed);
-    let mut tables: Vec<Vec<u8>> = Vec::new();
-    let named = named::all().into_iter().map(|(_, table)| table.bytes());
-    tables.extend(named.filter(|table| is_small(table)));
-    while tables.len() < EACH {
-        let table = random::table(&mut rng, &Shape::TINY).bytes();
-        if is_small(&table) {
-            tables.push(table);
-        }
-    }
-    while tables.len() < 2 * EACH {
-        let whole = random::table(&mut rng, &Shape::TINY);
-        let table = damage::damaged(&mut rng, &whole);
-        if is_small(&table) {
-            tables.push(table);
-        }
-    }
-    let calls = tables.into_iter().enumerate();
+    let calls = small_tables(&mut rng).into_iter().enumerate();
     let mut cases: Vec<Case> = calls
         .map(|(number, table)| Case {
             call: call(&mut rng, number, &table),
             table,
         })
         .collect();
-    for table in [
+    cases.extend(chosen_runs());
+    cases.extend(chosen_walks());
+    cases.extend(chosen_desks());
+    cases
+}
+
+fn small_tables(rng: &mut Rng) -> Vec<Vec<u8>> {
+    let mut tables: Vec<Vec<u8>> = Vec::new();
+    let named = named::all().into_iter().map(|(_, table)| table.bytes());
+    tables.extend(named.filter(|table| is_small(table)));
+    while tables.len() < EACH {
+        let table = random::table(rng, &Shape::TINY).bytes();
+        if is_small(&table) {
+            tables.push(table);
+        }
+    }
+    while tables.len() < 2 * EACH {
+        let whole = random::table(rng, &Shape::TINY);
+        let table = damage::damaged(rng, &whole);
+        if is_small(&table) {
+            tables.push(table);
+        }
+    }
+    tables
+}
+
+/// The runs of tables with a peak or a path of their own.
+fn chosen_runs() -> impl Iterator<Item = Case> {
+    let tables = [
         named::t(),
         named::idle_station(),
         named::spread_word(),
         named::count(WRITTEN_PLACES - 1),
         named::count(WRITTEN_PLACES),
         named::six_written(),
-    ] {
+    ];
+    tables.into_iter().map(|table| {
         let table = table.bytes();
-        cases.push(Case {
+        Case {
             call: exact_run(&table),
             table,
-        });
-    }
-    let (table, calls) = sequences::filling();
-    cases.push(Case {
+        }
+    })
+}
+
+/// Walks with counts: different ones at four processes, and those beside refusals 12, 13 and 14.
+fn chosen_walks() -> impl Iterator<Item = Case> {
+    let walks = [
+        (named::six_written(), vec![0, 4, 3, 6, 1], 6),
+        (named::t(), vec![0, 1, 1, 2], 3),
+        (named::t(), vec![0, 2, 3], 3),
+        (named::doubling(3), vec![0, 1], 2),
+    ];
+    walks.into_iter().map(|(table, rules, pile)| Case {
         table: table.bytes(),
-        call: Call::Desk(calls),
-    });
-    cases
+        call: Call::Walk {
+            rules,
+            pile,
+            scratch: WALK_SCRATCH,
+        },
+    })
+}
+
+/// A desk whose pile is filled, and one whose counts stop.
+fn chosen_desks() -> impl Iterator<Item = Case> {
+    let desks = [sequences::filling(), sequences::stopping()];
+    desks.into_iter().map(|(table, counts, calls)| Case {
+        table: table.bytes(),
+        call: Call::Desk { counts, calls },
+    })
 }
 
 /// The figures of a table with room for everything: its records, its run and the greatest length
@@ -167,7 +204,10 @@ fn call(rng: &mut Rng, number: usize, table: &[u8]) -> Call {
         },
         _ => {
             let rules = list(rng, size.run);
-            Call::Desk(sequences::random(rng, &rules))
+            Call::Desk {
+                counts: sequences::random_counts(rng),
+                calls: sequences::random(rng, &rules),
+            }
         }
     }
 }
@@ -214,16 +254,18 @@ impl Case {
                 let (mut pile, mut scratch) = (vec![DIRT; *pile], vec![DIRT; *scratch]);
                 let list = numbers(rules);
                 let left = format!("(walked {table} {list} {} {})", pile.len(), scratch.len());
-                let (figures, rest) =
-                    walk_figures(walk(&self.table, rules, &mut pile, &mut scratch));
+                let given = walk(&self.table, rules, &mut pile, &mut scratch);
+                let (figures, counts, rest) = walk_figures(given);
+                let rest = wide(&rules[rest..]);
                 Equation::new(
                     left,
-                    vec![figures, wide(&rules[rest..]), wide(&pile), front(&scratch)],
+                    vec![figures, counts, rest, wide(&pile), front(&scratch)],
                 )
             }
-            Call::Desk(calls) => {
-                let left = format!("(trace (read {table}) {})", sequences::text(calls));
-                Equation::new(left, sequences::trace(&self.table, calls))
+            Call::Desk { counts, calls } => {
+                let (before, made) = (numbers(&wide_counts(*counts)), sequences::text(calls));
+                let left = format!("(trace (read {table}) {before} {made})");
+                Equation::new(left, sequences::trace(&self.table, *counts, calls))
             }
         }
     }
@@ -256,20 +298,27 @@ fn run_figures(run: Run) -> Vec<u64> {
     }
 }
 
-fn walk_figures(walk: Walk) -> (Vec<u64>, usize) {
-    match walk {
+/// The figures of a walk, its counts, and where the part handed back begins.
+fn walk_figures(walk: Walk) -> (Vec<u64>, Vec<u64>, usize) {
+    let (figures, counts, rest) = match walk {
         Walk::Walked {
             states,
             length,
             watched,
+            counts,
             rest,
         } => {
             let mut figures = vec![0, 0, u64::from(watched), length as u64];
             figures.extend(states.map(u64::from));
-            (figures, rest)
+            (figures, counts, rest)
         }
-        Walk::Refused { refusal, rest } => (refused(refusal, 8), rest),
-    }
+        Walk::Refused {
+            refusal,
+            counts,
+            rest,
+        } => (refused(refusal, 8), counts, rest),
+    };
+    (figures, wide_counts(counts).to_vec(), rest)
 }
 
 /// A refusal's figures: its number, its place, and zeros.

@@ -7,14 +7,15 @@ use mathlib.Core.Path.{_≡_, refl}
 use mathlib.Core.List.{List, [], _∷_}
 use Prim.Native.Nat.{ℕ}
 use lib.ListN.{take}
-use Rattle.model.specs.Groups.{greatest, sameGroup, restrict, merge}
+use Rattle.model.specs.Groups.{greatest, sameGroup, processBits, restrict, merge}
 use Rattle.model.specs.Words.{tops}
 use Rattle.model.specs.Systems.{enabled, fire}
 use Rattle.model.specs.Tables.{isOutOfTurn, groupFits, transitionFits, writtenFit, valueFits, cooperates, leavesControl, isTwin, refusal, readFrom, read, systemOf}
 use Rattle.model.specs.Log.{readsAt, keyLess, sameKey, additions, logAt, firstSaturated, saturatedAt}
 use Rattle.model.specs.Unfolding.{acceptingPath, emittedBy}
 use Rattle.model.specs.Records.{recordBytes}
-use Rattle.model.specs.Calls.{recordsOf, runOf, scratchAfter, logAfter, pageAfter, answerGiven, answerCall, runCall, walkCall, answerFigures, runGiven, runFigures, walkGiven, walkFigures}
+use Rattle.model.specs.Participation.{withStep}
+use Rattle.model.specs.Calls.{recordsOf, runOf, scratchAfter, logAfter, pageAfter, answerGiven, answerCall, runCall, walkCall, answerFigures, runGiven, runFigures, walkCounts, walkGiven, walkFigures}
 use Rattle.model.specs.Desks.{fires, saves, returns, forgets, checks, deskCall}
 use Rattle.model.specs.SmallTables.{trace, used}
 
@@ -28,11 +29,11 @@ ran table log scratch page =
 
 abbrev walked : List ℕ → List ℕ → ℕ → ℕ → List (List ℕ)
 walked table list pile scratch =
-    let o = walkCall table list (used pile) (used scratch) in walkFigures (o .answer) ∷ o .rest ∷ o .pile ∷ take 3 (o .scratch) ∷ []
+    let o = walkCall table list (used pile) (used scratch) in walkFigures (o .answer) ∷ o .counts ∷ o .rest ∷ o .pile ∷ take 3 (o .scratch) ∷ []
 ";
 
 /// The definitions that an equation may unfold.
-const UNFOLDING: &str = "unfolding greatest sameGroup restrict merge tops enabled fire isOutOfTurn groupFits transitionFits writtenFit valueFits cooperates leavesControl isTwin refusal readFrom read systemOf readsAt keyLess sameKey additions logAt firstSaturated saturatedAt acceptingPath emittedBy recordBytes recordsOf runOf scratchAfter logAfter pageAfter answerGiven answerCall runGiven runCall walkGiven walkCall checks deskCall";
+const UNFOLDING: &str = "unfolding greatest sameGroup processBits restrict merge tops enabled fire isOutOfTurn groupFits transitionFits writtenFit valueFits cooperates leavesControl isTwin refusal readFrom read systemOf readsAt keyLess sameKey additions logAt firstSaturated saturatedAt acceptingPath emittedBy recordBytes recordsOf runOf scratchAfter logAfter pageAfter answerGiven answerCall runGiven runCall walkCounts walkGiven withStep walkCall checks deskCall";
 
 /// A call's outcome by the definitions, and the lists that it shall be.
 pub struct Equation {

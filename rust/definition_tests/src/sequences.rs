@@ -1,7 +1,7 @@
 //! Sequences of calls at a desk, and what the second engine's desk gives for them.
 
-use second_engine::Desk;
-use tables::{Rng, Table, WRITTEN_PLACES, group};
+use second_engine::{COUNT_CEILING, Desk};
+use tables::{Rng, Table, WRITTEN_PLACES, group, named};
 
 /// A call with its rule or its name.
 #[derive(Clone, Copy)]
@@ -10,6 +10,20 @@ pub enum DeskCall {
     Save(u8),
     Return(u8),
     Forget(u8),
+}
+
+/// For each process the steps that a desk has counted.
+pub type Counts = [usize; 4];
+
+/// A table, and a desk on it: what it has counted, and its calls.
+type Sequence = (Table, Counts, Vec<DeskCall>);
+
+/// Nothing, or about as much as a desk can count.
+pub fn random_counts(rng: &mut Rng) -> Counts {
+    match rng.below(2) {
+        0 => [0; 4],
+        _ => std::array::from_fn(|_| COUNT_CEILING - rng.below(3)),
+    }
 }
 
 /// The rules of the list fired in turn, with calls about names in between.
@@ -40,7 +54,7 @@ fn about_a_name(rng: &mut Rng) -> DeskCall {
 /// A pile of 64 letters is brought to 256 by rule 0, which adds five, and once by rule 1, which adds
 /// two. Then rule 0 and rule 2, which would add one letter, are refused, and rule 3, which adds none,
 /// fires.
-pub fn filling() -> (Table, Vec<DeskCall>) {
+pub fn filling() -> Sequence {
     let mut table = Table::new(1, 1, 1);
     let letter = table.letter(1);
     let state = group(&[0]);
@@ -50,7 +64,17 @@ pub fn filling() -> (Table, Vec<DeskCall>) {
     table.pile = vec![letter; 64];
     let mut calls = vec![DeskCall::Fire(0); 38];
     calls.extend([1, 0, 2, 3].map(DeskCall::Fire));
-    (table, calls)
+    (table, [0; 4], calls)
+}
+
+/// Table T: the first count comes to the ceiling with rule 0 and stops there with rule 1, the
+/// second comes to it with rule 2, and a return begins both again.
+pub fn stopping() -> Sequence {
+    let counts = [COUNT_CEILING - 1, COUNT_CEILING - 2, 0, 0];
+    let mut calls = vec![DeskCall::Save(0)];
+    calls.extend([0, 1, 2].map(DeskCall::Fire));
+    calls.extend([DeskCall::Return(0), DeskCall::Fire(0)]);
+    (named::t(), counts, calls)
 }
 
 /// The calls as the definitions name them.
@@ -64,10 +88,15 @@ pub fn text(calls: &[DeskCall]) -> String {
     format!("({}[])", items.collect::<String>())
 }
 
+pub fn wide_counts(counts: Counts) -> [u64; 4] {
+    counts.map(|count| count as u64)
+}
+
 /// Number and place of the opening's refusal, 0 and 0 if there is none; then for each call the
-/// refusal's number and where the desk stands after it, states and word.
-pub fn trace(table: &[u8], calls: &[DeskCall]) -> Vec<Vec<u64>> {
-    let mut desk = match Desk::open(table) {
+/// refusal's number, the bits of the processes that took part, and after it the counts and where
+/// the desk stands, states and word.
+pub fn trace(table: &[u8], counts: Counts, calls: &[DeskCall]) -> Vec<Vec<u64>> {
+    let mut desk = match Desk::resume(table, counts) {
         Ok(desk) => desk,
         Err(refusal) => return vec![vec![u64::from(refusal.number), refusal.place as u64]],
     };
@@ -75,19 +104,18 @@ pub fn trace(table: &[u8], calls: &[DeskCall]) -> Vec<Vec<u64>> {
     for &call in calls {
         let given = match call {
             DeskCall::Fire(rule) => desk.fire(rule),
-            DeskCall::Save(name) => desk.save(name),
-            DeskCall::Return(name) => desk.return_to(name),
-            DeskCall::Forget(name) => desk.forget(name),
+            DeskCall::Save(name) => desk.save(name).map(|()| 0),
+            DeskCall::Return(name) => desk.return_to(name).map(|()| 0),
+            DeskCall::Forget(name) => desk.forget(name).map(|()| 0),
         };
-        let number = given.err().map_or(0, |refusal| refusal.number);
-        let standing = desk.states().into_iter().chain(desk.pile());
-        lists.push(
-            [number]
-                .into_iter()
-                .chain(standing)
-                .map(u64::from)
-                .collect(),
-        );
+        let told = match given {
+            Ok(bits) => [0, bits],
+            Err(refusal) => [refusal.number, 0],
+        };
+        let mut list = told.map(u64::from).to_vec();
+        list.extend(wide_counts(desk.counts()));
+        list.extend(desk.states().into_iter().chain(desk.pile()).map(u64::from));
+        lists.push(list);
     }
     lists
 }

@@ -23,13 +23,18 @@ impl Call {
     }
 }
 
-/// Where a desk stands.
+/// Where a desk stands, and what it has counted.
 #[derive(Clone, PartialEq, Eq, Debug)]
 pub struct Stand {
     pub states: [u8; 4],
     /// The whole pile, top first.
     pub pile: Vec<u8>,
+    pub counts: [usize; 4],
 }
+
+/// What a call gives: the bits of the processes that took part, which only a fire has, or its
+/// refusal.
+pub type Given = Result<u8, Refusal>;
 
 /// Two desks on one table. Where they differ, a call fails with the text of the difference.
 pub struct Desks {
@@ -49,33 +54,35 @@ impl Desks {
         }
     }
 
-    /// Makes a call at both desks; gives their refusal, if they refuse it.
-    pub fn call(&mut self, call: Call) -> Result<Option<Refusal>, String> {
+    /// Makes a call at both desks; gives what they give.
+    pub fn call(&mut self, call: Call) -> Result<Given, String> {
         let ours = match call {
             Call::Fire(rule) => self.ours.fire(rule),
-            Call::Save(name) => self.ours.save(name),
-            Call::Return(name) => self.ours.return_to(name),
-            Call::Forget(name) => self.ours.forget(name),
+            Call::Save(name) => self.ours.save(name).map(|()| 0),
+            Call::Return(name) => self.ours.return_to(name).map(|()| 0),
+            Call::Forget(name) => self.ours.forget(name).map(|()| 0),
         };
         let second = match call {
             Call::Fire(rule) => self.second.fire(rule),
-            Call::Save(name) => self.second.save(name),
-            Call::Return(name) => self.second.return_to(name),
-            Call::Forget(name) => self.second.forget(name),
+            Call::Save(name) => self.second.save(name).map(|()| 0),
+            Call::Return(name) => self.second.return_to(name).map(|()| 0),
+            Call::Forget(name) => self.second.forget(name).map(|()| 0),
         };
-        same("refusal", ours.err().map(refusal_of), second.err())
+        same("call", ours.map_err(refusal_of), second)
     }
 
-    /// Where both desks stand.
+    /// Where both desks stand, and what both have counted.
     pub fn stand(&self) -> Result<Stand, String> {
         let sight = self.ours.look();
         let ours = Stand {
             states: sight.states,
             pile: sight.pile().to_vec(),
+            counts: self.ours.counts(),
         };
         let second = Stand {
             states: self.second.states(),
             pile: self.second.pile(),
+            counts: self.second.counts(),
         };
         same("standing", ours, second)
     }

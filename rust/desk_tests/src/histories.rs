@@ -6,6 +6,8 @@ use second_engine::NAMES;
 #[derive(Default)]
 pub struct Histories {
     pub current: Vec<u16>,
+    /// What was the current one when the desk was opened or last returned.
+    pub origin: Vec<u16>,
     /// The history noted under each name that is held.
     pub noted: [Option<Vec<u16>>; NAMES],
     /// How often each name was returned to since it was saved.
@@ -25,6 +27,7 @@ impl Histories {
             }
             Call::Return(name) => {
                 self.current = self.of(name).clone();
+                self.origin = self.current.clone();
                 self.returns[usize::from(name)] += 1;
             }
             Call::Forget(name) => self.noted[usize::from(name)] = None,

@@ -1,6 +1,6 @@
 //! Compares the proved engine's desk with the second engine's in random sequences of calls on
-//! named, random and damaged tables: what every call gives, and the states and the whole pile
-//! after it. Argument: a seed.
+//! named, random and damaged tables: what every call gives, and the states, the whole pile and the
+//! counts after it. Argument: a seed.
 //!
 //! It fails too if a situation that it is for was never met.
 

@@ -3,9 +3,9 @@
 use crate::choice::any_call;
 use crate::desks::{Call, Desks, Stand};
 use crate::histories::Histories;
-use crate::situations::Step;
+use crate::situations::{OTHER_COUNTS, Step};
 use comparison::Counts;
-use second_engine::{DESK_PILE, NAMES, Refusal, WALK_SCRATCH, Walk, walk};
+use second_engine::{DESK_PILE, NAMES, WALK_SCRATCH, Walk, walk};
 use tables::Rng;
 
 /// The most calls on the way to a full pile, and the most other calls.
@@ -71,58 +71,80 @@ impl<'t> Sequence<'t> {
             }
             if rng.chance(1, 16) {
                 self.any_call(rng)?;
-            } else if self.call(Call::Fire(*rng.pick(&adding)))?.is_some() {
+            } else if !self.call(Call::Fire(*rng.pick(&adding)))? {
                 break;
             }
         }
         Ok(())
     }
 
-    fn any_call(&mut self, rng: &mut Rng) -> Result<Option<Refusal>, String> {
+    fn any_call(&mut self, rng: &mut Rng) -> Result<bool, String> {
         let firing = self.desks.second.firing();
         self.call(any_call(rng, self.written.len(), &firing))
     }
 
-    /// Makes a call at both desks. They stay where they stand unless a rule fires or they return.
-    fn call(&mut self, call: Call) -> Result<Option<Refusal>, String> {
+    /// Makes a call at both desks; false if they refuse it. They stay where they stand, with the
+    /// counts that they have, unless a rule fires or they return.
+    fn call(&mut self, call: Call) -> Result<bool, String> {
         self.calls.push(call);
-        let refusal = self.desks.call(call)?;
+        let given = self.desks.call(call)?;
         let stand = self.desks.stand()?;
-        let leads = refusal.is_none() && matches!(call, Call::Fire(_) | Call::Return(_));
+        let leads = given.is_ok() && matches!(call, Call::Fire(_) | Call::Return(_));
         if !leads && stand != self.stand {
             return Err(format!("from {:?}\nto {stand:?}\n", self.stand));
         }
         let step = Step {
             call,
-            refusal,
+            given,
             before: &self.stand,
             after: &stand,
             histories: &self.histories,
             written: &self.written,
         };
         step.count(self.counts);
-        if refusal.is_none() {
+        if given.is_ok() {
             self.histories.keep(call);
         }
         self.stand = stand;
-        Ok(refusal)
+        Ok(given.is_ok())
     }
 
-    /// The second engine's walk of the current history ends where the desks stand.
-    fn check_walk(&self) -> Result<(), String> {
-        let mut pile = [DIRT; DESK_PILE];
-        let list = &self.histories.current;
-        let walked = walk(self.table, list, &mut pile, &mut [DIRT; WALK_SCRATCH]);
-        match walked {
-            Walk::Walked { states, length, .. }
-                if states == self.stand.states && pile[..length] == self.stand.pile =>
-            {
-                Ok(())
-            }
-            _ => Err(format!(
-                "walk {walked:?}\npile {pile:?}\ndesk {:?}\nhistory {list:?}\n",
+    /// The second engine's walk of the current history ends where the desks stand. Its counts are
+    /// theirs and those of the history that they began to count from.
+    fn check_walk(&mut self) -> Result<(), String> {
+        let (current, origin) = (&self.histories.current, &self.histories.origin);
+        let (walked, before) = (self.walk_of(current)?, self.walk_of(origin)?);
+        let mut expected = self.stand.clone();
+        for (count, before) in expected.counts.iter_mut().zip(before.counts) {
+            *count += before;
+        }
+        if walked != expected {
+            return Err(format!(
+                "walk {walked:?}\ndesk {:?}\nhistory {current:?}, counted from {origin:?}\n",
                 self.stand
-            )),
+            ));
+        }
+        if self.stand.has_counts() && walked.counts != self.stand.counts {
+            self.counts.meet(OTHER_COUNTS);
+        }
+        Ok(())
+    }
+
+    /// Where the second engine's walk of a history ends, and what it counts.
+    fn walk_of(&self, history: &[u16]) -> Result<Stand, String> {
+        let mut pile = [DIRT; DESK_PILE];
+        match walk(self.table, history, &mut pile, &mut [DIRT; WALK_SCRATCH]) {
+            Walk::Walked {
+                states,
+                length,
+                counts,
+                ..
+            } => Ok(Stand {
+                states,
+                pile: pile[..length].to_vec(),
+                counts,
+            }),
+            refused => Err(format!("walk {refused:?}\nhistory {history:?}\n")),
         }
     }
 }

@@ -1,5 +1,7 @@
 //! One call on both engines, with equal buffers: what they give and what they leave.
 
+use crate::figures::{dirty, of_answer, of_run, of_walk};
+use roskavel::figures::{self, Figures};
 use roskavel::{Answer, Cause, Refusal, Run, Walk};
 use std::fmt::Debug;
 use std::ops::Range;
@@ -52,10 +54,13 @@ impl Pool {
     ) -> Result<Answer, String> {
         let mut log = self.bytes(rng, "log", lengths[0]);
         let mut scratch = self.bytes(rng, "scratch", lengths[1]);
-        let ours = roskavel::answer(table, log.ours(), scratch.ours());
+        let mut ours = dirty(rng);
+        figures::answer(table, log.ours(), scratch.ours(), &mut ours);
         let second = second_engine::answer(table, log.second(), scratch.second());
-        let buffers = [log.left(), scratch.left()];
-        judge("answer", ours, answer_of(second), &buffers)
+        let second = answer_of(second);
+        let figures = Left::of_figures(ours, of_answer(&second));
+        let buffers = [figures, log.left(), scratch.left()];
+        judge("answer", Answer::of(&ours), second, &buffers)
     }
 
     /// The run call with a log, a scratch and a page of these lengths.
@@ -63,10 +68,13 @@ impl Pool {
         let mut log = self.bytes(rng, "log", lengths[0]);
         let mut scratch = self.bytes(rng, "scratch", lengths[1]);
         let mut page = self.numbers(rng, "page", lengths[2]);
-        let ours = roskavel::run(table, log.ours(), scratch.ours(), page.ours());
+        let mut ours = dirty(rng);
+        figures::run(table, log.ours(), scratch.ours(), page.ours(), &mut ours);
         let second = second_engine::run(table, log.second(), scratch.second(), page.second());
-        let buffers = [log.left(), scratch.left(), page.left()];
-        judge("run", ours, run_of(second), &buffers)
+        let second = run_of(second);
+        let figures = Left::of_figures(ours, of_run(&second));
+        let buffers = [figures, log.left(), scratch.left(), page.left()];
+        judge("run", Run::of(&ours), second, &buffers)
     }
 
     /// The walk call with a pile and a scratch of these lengths.
@@ -79,10 +87,13 @@ impl Pool {
     ) -> Result<Walk<'l>, String> {
         let mut pile = self.bytes(rng, "pile", lengths[0]);
         let mut scratch = self.bytes(rng, "scratch", lengths[1]);
-        let ours = roskavel::walk(table, list, pile.ours(), scratch.ours());
+        let mut ours = dirty(rng);
+        figures::walk(table, list, pile.ours(), scratch.ours(), &mut ours);
         let second = second_engine::walk(table, list, pile.second(), scratch.second());
-        let buffers = [pile.left(), scratch.left()];
-        let judged = judge("walk", ours, walk_of(second, list), &buffers);
+        let second = walk_of(second, list);
+        let figures = Left::of_figures(ours, of_walk(&second, list.len()));
+        let buffers = [figures, pile.left(), scratch.left()];
+        let judged = judge("walk", Walk::of(&ours, list), second, &buffers);
         judged.map_err(|text| format!("{text}list {list:?}\n"))
     }
 }
@@ -129,6 +140,15 @@ impl<T: Copy + PartialEq + Debug> Pair<T> {
 struct Left {
     text: String,
     differs: bool,
+}
+
+impl Left {
+    fn of_figures(ours: Figures, second: Figures) -> Left {
+        Left {
+            text: format!("figures ours {ours:?}, second {second:?}"),
+            differs: ours != second,
+        }
+    }
 }
 
 /// What both engines give, or the text of their difference.
@@ -193,15 +213,22 @@ fn walk_of(given: second_engine::Walk, list: &[u16]) -> Walk<'_> {
             states,
             length,
             watched,
+            counts,
             rest,
         } => Walk::Walked {
             states,
             length,
             watched,
+            counts,
             rest: &list[rest..],
         },
-        second_engine::Walk::Refused { refusal, rest } => Walk::Refused {
+        second_engine::Walk::Refused {
+            refusal,
+            counts,
+            rest,
+        } => Walk::Refused {
             refusal: refusal_of(refusal),
+            counts,
             rest: &list[rest..],
         },
     }

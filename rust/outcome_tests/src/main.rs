@@ -1,13 +1,15 @@
 //! Compares the proved engine with the second engine on named, random and damaged tables: for
-//! each call every figure, every lent buffer and the part of the list handed back. The buffers
-//! hold random bytes before, and have lengths around every bound. Argument: a seed.
+//! each call every figure, every lent buffer and the part of the list handed back. They hold random
+//! bytes before, and the buffers have lengths around every bound. Argument: a seed.
 //!
 //! It fails too if a situation that it is for was never met.
 
 mod bounds;
 mod engines;
 mod facts;
+mod figures;
 mod lists;
+mod participation;
 mod reasons;
 mod situations;
 mod trials;

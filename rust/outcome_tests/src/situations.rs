@@ -2,7 +2,7 @@
 
 use crate::facts::Facts;
 use crate::reasons::{Several, note_paths, path_situations};
-use crate::{bounds, lists};
+use crate::{bounds, lists, participation};
 use comparison::{
     Counts, Demand, note_peak, note_rules, peak_situations, refusal_situations, rule_situations,
 };
@@ -17,7 +17,7 @@ const ACCEPTED: &str = "random tables accepted";
 pub const REFUSED: &str = "damaged tables refused";
 
 /// Outcomes of calls and features of limits.
-const OUTCOMES: [&str; 15] = [
+const OUTCOMES: [&str; 11] = [
     "answer reachable",
     "answer unreachable",
     "run reachable",
@@ -25,10 +25,6 @@ const OUTCOMES: [&str; 15] = [
     "walk watched at once",
     "walk watched after steps",
     "walk not watched",
-    "walk refused 14 for the start pile",
-    "walk refused 12 after steps",
-    "walk refused 13 after steps",
-    "walk refused 14 after steps",
     "limits of 100 rounds or more",
     "limits above 65,535 records",
     "limits with several rules for a record",
@@ -89,6 +85,7 @@ pub fn all() -> Vec<Demand> {
     let kinds = [1, 2, 3, 4, 5, 7];
     names.extend(kinds.map(|kind| format!("tables with kind {kind} at its ceiling")));
     names.extend(OUTCOMES.map(str::to_string));
+    names.extend(participation::situations());
     names.extend(peak_situations().map(str::to_string));
     names.extend(rule_situations().chain(path_situations()));
     names.extend(refusal_situations());

@@ -4,6 +4,7 @@ use crate::bounds::{Length, around};
 use crate::engines::Pool;
 use crate::facts::Facts;
 use crate::lists;
+use crate::participation::note_walk;
 use comparison::{Counts, note_refusal};
 use roskavel::{Answer, Cause, Refusal, Run, STEP_CEILING, Walk};
 use second_engine::{RECORD_BYTES, WALK_SCRATCH, scratch_needed};
@@ -89,22 +90,15 @@ impl Trials<'_> {
         let scratch = around(&mut self.rng, "walk scratch", WALK_SCRATCH);
         let lengths = [pile.value, scratch.value];
         let names = [&scratch.name[..], &pile.name, list_name];
-        match self.pool.walk(&mut self.rng, self.table, &list, lengths)? {
+        let walked = self.pool.walk(&mut self.rng, self.table, &list, lengths)?;
+        note_walk(self.table, &list, &walked, self.counts);
+        match walked {
             Walk::Walked { watched: true, .. } if !list.is_empty() => {
                 self.meet("walk watched after steps", &names);
             }
             Walk::Walked { watched: true, .. } => self.meet("walk watched at once", &names),
             Walk::Walked { .. } => self.meet("walk not watched", &names),
-            Walk::Refused { refusal, rest } => {
-                let number = refusal.cause.number();
-                let at_step = !rest.is_empty();
-                if at_step && refusal.place > 0 {
-                    self.meet(&format!("walk refused {number} after steps"), &[]);
-                } else if !at_step && refusal.cause == Cause::FullPile {
-                    self.meet("walk refused 14 for the start pile", &[]);
-                }
-                self.refused("walk", refusal, &names);
-            }
+            Walk::Refused { refusal, .. } => self.refused("walk", refusal, &names),
         }
         Ok(())
     }

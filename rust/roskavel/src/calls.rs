@@ -7,8 +7,7 @@
 
 use crate::{Refusal, Sight};
 
-/// What a call gives, by the places below; a place that the call or its outcome does not name
-/// is 0.
+/// What a call gives, by places; a place that the call or its outcome does not name is 0.
 pub type Figures = [u64; 16];
 
 pub const REFUSAL: usize = 0;
@@ -21,17 +20,18 @@ pub const ROUNDS: usize = 4;
 pub const STEPS: usize = 5;
 pub const PEAK: usize = 6;
 
-// Walk; the states are four places.
+// Walk; the states and the counts are four places each.
 pub const WATCHED: usize = 2;
 pub const PILE_LENGTH: usize = 3;
 pub const STATES: usize = 4;
 pub const REST: usize = 8;
+pub const COUNTS: usize = 9;
 
 /// The archive's desk. Only an opening that is not refused makes one and only the calls below
 /// change it, as the archive asks.
 #[repr(C)]
 #[derive(Clone)]
-pub struct RawDesk([u64; 1_063]);
+pub struct RawDesk([u64; 1_067]);
 
 /// What opening a desk gives: the number of the refusal and its place, or 0 and the desk.
 #[repr(C)]
@@ -39,6 +39,19 @@ struct Opening {
     desk: RawDesk,
     number: u8,
     place: usize,
+}
+
+/// What firing a rule gives: the number of the refusal, or 0 and the processes of its letter.
+#[repr(C)]
+pub struct Fire {
+    pub number: u8,
+    pub processes: u8,
+}
+
+/// What a desk has counted.
+#[repr(C)]
+struct Counts {
+    steps: [u64; 4],
 }
 
 unsafe extern "C" {
@@ -74,15 +87,16 @@ unsafe extern "C" {
         figures: *mut Figures,
     );
     fn roskavel_desk_open(table: *const u8, table_length: usize) -> Opening;
-    fn roskavel_desk_fire(desk: *mut RawDesk, rule: u16) -> u8;
+    fn roskavel_desk_fire(desk: *mut RawDesk, rule: u16) -> Fire;
     fn roskavel_desk_save(desk: *mut RawDesk, name: u8) -> u8;
     fn roskavel_desk_return(desk: *mut RawDesk, name: u8) -> u8;
     fn roskavel_desk_forget(desk: *mut RawDesk, name: u8) -> u8;
     fn roskavel_desk_look(desk: *const RawDesk) -> Sight;
+    fn roskavel_desk_count(desk: *const RawDesk) -> Counts;
 }
 
-pub fn answer(table: &[u8], log: &mut [u8], scratch: &mut [u8]) -> Figures {
-    let mut figures = [0; 16];
+/// What [`crate::answer`] does.
+pub fn answer(table: &[u8], log: &mut [u8], scratch: &mut [u8], figures: &mut Figures) {
     // SAFETY: pointers and lengths are those of slices, as said above.
     unsafe {
         roskavel_answer(
@@ -92,14 +106,19 @@ pub fn answer(table: &[u8], log: &mut [u8], scratch: &mut [u8]) -> Figures {
             log.len(),
             scratch.as_mut_ptr(),
             scratch.len(),
-            &mut figures,
+            figures,
         );
     }
-    figures
 }
 
-pub fn run(table: &[u8], log: &mut [u8], scratch: &mut [u8], page: &mut [u16]) -> Figures {
-    let mut figures = [0; 16];
+/// What [`crate::run`] does.
+pub fn run(
+    table: &[u8],
+    log: &mut [u8],
+    scratch: &mut [u8],
+    page: &mut [u16],
+    figures: &mut Figures,
+) {
     // SAFETY: as for answer.
     unsafe {
         roskavel_run(
@@ -111,14 +130,19 @@ pub fn run(table: &[u8], log: &mut [u8], scratch: &mut [u8], page: &mut [u16]) -
             scratch.len(),
             page.as_mut_ptr(),
             page.len(),
-            &mut figures,
+            figures,
         );
     }
-    figures
 }
 
-pub fn walk(table: &[u8], rules: &[u16], pile: &mut [u8], scratch: &mut [u8]) -> Figures {
-    let mut figures = [0; 16];
+/// What [`crate::walk`] does.
+pub fn walk(
+    table: &[u8],
+    rules: &[u16],
+    pile: &mut [u8],
+    scratch: &mut [u8],
+    figures: &mut Figures,
+) {
     // SAFETY: as for answer; the table and the list are only read.
     unsafe {
         roskavel_walk(
@@ -130,10 +154,9 @@ pub fn walk(table: &[u8], rules: &[u16], pile: &mut [u8], scratch: &mut [u8]) ->
             pile.len(),
             scratch.as_mut_ptr(),
             scratch.len(),
-            &mut figures,
+            figures,
         );
     }
-    figures
 }
 
 pub fn open(table: &[u8]) -> Result<RawDesk, Refusal> {
@@ -145,7 +168,7 @@ pub fn open(table: &[u8]) -> Result<RawDesk, Refusal> {
 
 // The calls that change a desk give the number of the refusal, 0 if there is none.
 
-pub fn fire(desk: &mut RawDesk, rule: u16) -> u8 {
+pub fn fire(desk: &mut RawDesk, rule: u16) -> Fire {
     // SAFETY: the desk is one that an opening gave, and nothing else has changed it.
     unsafe { roskavel_desk_fire(desk, rule) }
 }
@@ -168,4 +191,9 @@ pub fn forget(desk: &mut RawDesk, name: u8) -> u8 {
 pub fn look(desk: &RawDesk) -> Sight {
     // SAFETY: as for fire; the desk is only read.
     unsafe { roskavel_desk_look(desk) }
+}
+
+pub fn count(desk: &RawDesk) -> [u64; 4] {
+    // SAFETY: as for look.
+    unsafe { roskavel_desk_count(desk) }.steps
 }

@@ -10,15 +10,18 @@ use std::fmt::{self, Debug, Formatter};
 pub const DESK_PILE: usize = 256;
 /// How many names a desk has, from 0.
 pub const NAMES: u8 = 8;
+/// Where a desk's count of steps stops.
+pub const COUNT_CEILING: usize = 4_294_967_295;
 
 /// A desk, opened on a table that it keeps a copy of. It stands in a configuration, at first the
-/// start, and holds up to [`NAMES`] other ones by name.
+/// start, and holds up to [`NAMES`] other ones by name. It counts for each process the steps that
+/// it takes part in, which are the fires of rules whose letter has it.
 ///
 /// A save notes the history of fires so far, and a return makes a noted history the current one.
 /// The desk stands where a [`walk`](crate::walk) of its current history ends. A refused call
 /// changes nothing.
 ///
-/// A desk is plain data of 8,504 bytes; a clone is a desk of its own.
+/// A desk is plain data of 8,536 bytes; a clone is a desk of its own.
 ///
 /// # Example
 ///
@@ -38,15 +41,17 @@ pub const NAMES: u8 = 8;
 ///     8, // end
 /// ];
 /// let mut desk = Desk::open(&table)?;
-/// desk.fire(0)?;
+/// assert_eq!(desk.fire(0)?, 0b11); // both processes took part
 /// desk.save(5)?;
-/// desk.fire(2)?;
+/// assert_eq!(desk.fire(2)?, 0b10); // the second did
 /// assert_eq!(desk.look().states, [0, 1, 255, 255]);
 /// assert_eq!(desk.look().pile(), [1]);
+/// assert_eq!(desk.counts(), [1, 2, 0, 0]);
 ///
 /// desk.return_to(5)?;
 /// assert_eq!(desk.look().states, [0, 0, 255, 255]);
 /// assert_eq!(desk.look().pile(), [1, 2]);
+/// assert_eq!(desk.counts(), [0; 4]);
 ///
 /// let refusal = desk.fire(0).unwrap_err();
 /// assert_eq!(refusal.cause, Cause::IdleRule);
@@ -67,15 +72,18 @@ pub struct Sight {
 }
 
 impl Desk {
-    /// Opens a desk at the table's start, no name held. Refused by the table (causes 1 to 9).
+    /// Opens a desk at the table's start, no name held and nothing counted. Refused by the table
+    /// (causes 1 to 9).
     pub fn open(table: &[u8]) -> Result<Desk, Refusal> {
         calls::open(table).map(Desk)
     }
 
-    /// Fires a rule. Refused by [`Cause::NoRule`], then [`Cause::IdleRule`], then
-    /// [`Cause::FullPile`] if the pile would have more than [`DESK_PILE`] letters.
-    pub fn fire(&mut self, rule: u16) -> Result<(), Refusal> {
-        check(calls::fire(&mut self.0, rule))
+    /// Fires a rule, and gives the processes of its letter as bits, bit 0 for process 0. Refused by
+    /// [`Cause::NoRule`], then [`Cause::IdleRule`], then [`Cause::FullPile`] if the pile would have
+    /// more than [`DESK_PILE`] letters.
+    pub fn fire(&mut self, rule: u16) -> Result<u8, Refusal> {
+        let fire = calls::fire(&mut self.0, rule);
+        check(fire.number).map(|()| fire.processes)
     }
 
     /// Saves under a name, in place of what the name held. Refused by [`Cause::BadName`].
@@ -83,8 +91,8 @@ impl Desk {
         check(calls::save(&mut self.0, name))
     }
 
-    /// Returns to a name; every name stays held. Refused by [`Cause::BadName`], then
-    /// [`Cause::EmptyName`].
+    /// Returns to a name; every name stays held, and the counts begin again at 0. Refused by
+    /// [`Cause::BadName`], then [`Cause::EmptyName`].
     pub fn return_to(&mut self, name: u8) -> Result<(), Refusal> {
         check(calls::return_to(&mut self.0, name))
     }
@@ -97,6 +105,12 @@ impl Desk {
     /// Where the desk stands.
     pub fn look(&self) -> Sight {
         calls::look(&self.0)
+    }
+
+    /// For each process the number of steps that it took part in, since the desk was opened or last
+    /// returned, at most [`COUNT_CEILING`]; 0 where the table lacks it.
+    pub fn counts(&self) -> [usize; 4] {
+        calls::count(&self.0).map(|count| count as usize)
     }
 }
 

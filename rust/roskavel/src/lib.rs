@@ -44,17 +44,25 @@
 //! let mut pile = [0; 2];
 //! let given = roskavel::walk(&table, &page[..3], &mut pile, &mut scratch);
 //! let states = [1, 1, 255, 255];
-//! assert_eq!(given, Walk::Walked { states, length: 0, watched: true, rest: &[] });
+//! let counts = [2, 2, 0, 0]; // each process took part in two of the three steps
+//! assert_eq!(given, Walk::Walked { states, length: 0, watched: true, counts, rest: &[] });
 //! ```
 
 mod calls;
 mod desk;
 
-pub use desk::{DESK_PILE, Desk, NAMES, Sight};
+pub use desk::{COUNT_CEILING, DESK_PILE, Desk, NAMES, Sight};
 
 use calls::Figures;
 use std::error::Error;
 use std::fmt::{self, Display, Formatter};
+
+/// The three calls with figures as C has them: `include/roskavel.h` says what stands at each place,
+/// and [`Answer::of`], [`Run::of`] and [`Walk::of`] tell it. What the figures are before a call is
+/// of no account.
+pub mod figures {
+    pub use crate::calls::{Figures, answer, run, walk};
+}
 
 /// The most letters that a rule writes, and the places of a record's path.
 pub const WRITTEN_PLACES: usize = 6;
@@ -229,7 +237,9 @@ pub enum Run {
     Refused(Refusal),
 }
 
-/// What [`walk`] gives. The rest is the part of the caller's list that begins at the step that
+/// What [`walk`] gives. The counts are, for each process, the number of steps that it took part in,
+/// which are the fires of rules whose letter has it; refused at a step, of the steps before it; 0
+/// with any other refusal. The rest is the part of the caller's list that begins at the step that
 /// was refused, and else empty.
 #[derive(Clone, Copy, PartialEq, Eq, Debug)]
 pub enum Walk<'l> {
@@ -239,61 +249,93 @@ pub enum Walk<'l> {
         states: [u8; 4],
         length: usize,
         watched: bool,
+        counts: [usize; 4],
         rest: &'l [u16],
     },
     Refused {
         refusal: Refusal,
+        counts: [usize; 4],
         rest: &'l [u16],
     },
+}
+
+impl Answer {
+    /// What the figures of an answer tell.
+    pub fn of(figures: &Figures) -> Answer {
+        let [transitions, rounds, steps] =
+            [calls::TRANSITIONS, calls::ROUNDS, calls::STEPS].map(|place| figures[place] as usize);
+        match Refusal::of(figures) {
+            Some(refusal) => Answer::Refused(refusal),
+            None if figures[calls::REACHABLE] == 0 => Answer::Unreachable {
+                transitions,
+                rounds,
+            },
+            None => Answer::Reachable {
+                transitions,
+                rounds,
+                steps,
+            },
+        }
+    }
+}
+
+impl Run {
+    /// What the figures of a run tell.
+    pub fn of(figures: &Figures) -> Run {
+        match Refusal::of(figures) {
+            Some(refusal) => Run::Refused(refusal),
+            None => Run::Reachable {
+                transitions: figures[calls::TRANSITIONS] as usize,
+                rounds: figures[calls::ROUNDS] as usize,
+                steps: figures[calls::STEPS] as usize,
+                peak: figures[calls::PEAK] as usize,
+            },
+        }
+    }
+}
+
+impl<'l> Walk<'l> {
+    /// What the figures of a walk along this list tell.
+    pub fn of(figures: &Figures, rules: &'l [u16]) -> Walk<'l> {
+        let counts = std::array::from_fn(|process| figures[calls::COUNTS + process] as usize);
+        let rest = &rules[figures[calls::REST] as usize..];
+        match Refusal::of(figures) {
+            Some(refusal) => Walk::Refused {
+                refusal,
+                counts,
+                rest,
+            },
+            None => Walk::Walked {
+                states: std::array::from_fn(|process| figures[calls::STATES + process] as u8),
+                length: figures[calls::PILE_LENGTH] as usize,
+                watched: figures[calls::WATCHED] == 1,
+                counts,
+                rest,
+            },
+        }
+    }
 }
 
 /// Says whether the watched set can be reached from the start. The log then holds the records of
 /// the limit automaton, then zeros; only zeros if refused by [`Cause::ShortLog`].
 pub fn answer(table: &[u8], log: &mut [u8], scratch: &mut [u8]) -> Answer {
-    let figures = calls::answer(table, log, scratch);
-    let [transitions, rounds, steps] =
-        [calls::TRANSITIONS, calls::ROUNDS, calls::STEPS].map(|place| figures[place] as usize);
-    match Refusal::of(&figures) {
-        Some(refusal) => Answer::Refused(refusal),
-        None if figures[calls::REACHABLE] == 0 => Answer::Unreachable {
-            transitions,
-            rounds,
-        },
-        None => Answer::Reachable {
-            transitions,
-            rounds,
-            steps,
-        },
-    }
+    let mut figures = [0; 16];
+    calls::answer(table, log, scratch, &mut figures);
+    Answer::of(&figures)
 }
 
 /// Answers and writes a run: the page then holds its rules, then zeros. The log is left as by
 /// [`answer`]; a refusal leaves the page as it was.
 pub fn run(table: &[u8], log: &mut [u8], scratch: &mut [u8], page: &mut [u16]) -> Run {
-    let figures = calls::run(table, log, scratch, page);
-    match Refusal::of(&figures) {
-        Some(refusal) => Run::Refused(refusal),
-        None => Run::Reachable {
-            transitions: figures[calls::TRANSITIONS] as usize,
-            rounds: figures[calls::ROUNDS] as usize,
-            steps: figures[calls::STEPS] as usize,
-            peak: figures[calls::PEAK] as usize,
-        },
-    }
+    let mut figures = [0; 16];
+    calls::run(table, log, scratch, page, &mut figures);
+    Run::of(&figures)
 }
 
 /// Follows a list of rules from the start. The pile buffer then holds the pile, top first, then
 /// zeros; refused at a step, the pile before it. It is unchanged if the start pile has no room.
 pub fn walk<'l>(table: &[u8], rules: &'l [u16], pile: &mut [u8], scratch: &mut [u8]) -> Walk<'l> {
-    let figures = calls::walk(table, rules, pile, scratch);
-    let rest = &rules[figures[calls::REST] as usize..];
-    match Refusal::of(&figures) {
-        Some(refusal) => Walk::Refused { refusal, rest },
-        None => Walk::Walked {
-            states: std::array::from_fn(|process| figures[calls::STATES + process] as u8),
-            length: figures[calls::PILE_LENGTH] as usize,
-            watched: figures[calls::WATCHED] == 1,
-            rest,
-        },
-    }
+    let mut figures = [0; 16];
+    calls::walk(table, rules, pile, scratch, &mut figures);
+    Walk::of(&figures, rules)
 }

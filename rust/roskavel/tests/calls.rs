@@ -74,9 +74,26 @@ fn slices_may_be_empty() {
     assert_eq!(run(&[], &mut [], &mut [], &mut []), Run::Refused(cut));
     let refused = Walk::Refused {
         refusal: cut,
+        counts: [0; 4],
         rest: &[],
     };
     assert_eq!(walk(&[], &[], &mut [], &mut []), refused);
+}
+
+#[test]
+fn a_walk_counts_the_steps_of_each_process() {
+    let table = named::six_written().bytes();
+    let (mut pile, mut scratch) = ([DIRT; 6], [DIRT; roskavel::WALK_SCRATCH]);
+    let given = walk(&table, &[0, 4, 3, 6, 1], &mut pile, &mut scratch);
+    let walked = Walk::Walked {
+        states: [1, 0, 2, 2],
+        length: 2,
+        watched: false,
+        counts: [2, 1, 3, 3],
+        rest: &[],
+    };
+    assert_eq!(given, walked);
+    assert_eq!(pile, [2, 5, 0, 0, 0, 0]);
 }
 
 #[test]
@@ -87,12 +104,14 @@ fn a_refused_walk_hands_back_the_callers_list() {
     let given = walk(&table, &list, &mut pile, &mut scratch);
     let Walk::Refused {
         refusal: idle,
+        counts,
         rest,
     } = given
     else {
         panic!("rule 1 fires twice: {given:?}");
     };
     assert_eq!(idle, refusal(Cause::IdleRule, 2));
+    assert_eq!(counts, [2, 1, 0, 0]);
     assert!(std::ptr::eq(rest, &list[2..]));
     assert_eq!(pile, [2, 0, 0, 0]);
     assert_eq!(scratch, [0; roskavel::WALK_SCRATCH]);
@@ -105,7 +124,7 @@ fn sight(desk: &Desk) -> ([u8; 2], Vec<u8>) {
     ([sight.states[0], sight.states[1]], sight.pile().to_vec())
 }
 
-fn refused(cause: Cause) -> Result<(), Refusal> {
+fn refused<T>(cause: Cause) -> Result<T, Refusal> {
     Err(refusal(cause, 0))
 }
 
@@ -115,19 +134,23 @@ fn a_desk_fires_and_returns() {
     assert_eq!(sight(&desk), ([0, 0], vec![0]));
     assert_eq!(desk.fire(1), refused(Cause::IdleRule));
     assert_eq!(desk.fire(3), refused(Cause::NoRule));
-    assert_eq!(desk.fire(0), Ok(()));
+    assert_eq!(desk.counts(), [0; 4]);
+    assert_eq!(desk.fire(0), Ok(0b11));
     assert_eq!(desk.save(7), Ok(()));
-    assert_eq!(desk.fire(2), Ok(()));
+    assert_eq!(desk.fire(2), Ok(0b10));
     let mut other = desk.clone();
-    assert_eq!(desk.fire(1), Ok(()));
+    assert_eq!(desk.fire(1), Ok(0b01));
     assert_eq!(sight(&desk), ([1, 1], vec![]));
+    assert_eq!(desk.counts(), [2, 2, 0, 0]);
     assert_eq!(desk.return_to(7), Ok(()));
     assert_eq!(desk.forget(7), Ok(()));
     assert_eq!(sight(&desk), ([0, 0], vec![1, 2]));
+    assert_eq!(desk.counts(), [0; 4]);
     assert_eq!(desk.return_to(7), refused(Cause::EmptyName));
     assert_eq!(desk.forget(7), refused(Cause::EmptyName));
-    // The clone stands where the desk stood, and holds what it held.
+    // The clone stands where the desk stood, and holds what it held and counted.
     assert_eq!(sight(&other), ([0, 1], vec![1]));
+    assert_eq!(other.counts(), [1, 2, 0, 0]);
     assert_eq!(other.return_to(7), Ok(()));
     assert_eq!(other.look(), desk.look());
     let text = "Desk(Sight { states: [0, 0, 255, 255], pile: [1, 2] })";
@@ -145,10 +168,11 @@ fn a_desk_refuses() {
     table.pile.push(letter);
     let mut desk = Desk::open(&table.bytes()).unwrap();
     while desk.look().pile().len() < roskavel::DESK_PILE {
-        assert_eq!(desk.fire(0), Ok(()));
+        assert_eq!(desk.fire(0), Ok(1));
     }
     assert_eq!(desk.fire(0), refused(Cause::FullPile));
     assert_eq!(desk.look().pile(), [letter; 256]);
+    assert_eq!(desk.counts(), [51, 0, 0, 0]);
     for name in [roskavel::NAMES, 255] {
         assert_eq!(desk.save(name), refused(Cause::BadName));
         assert_eq!(desk.return_to(name), refused(Cause::BadName));

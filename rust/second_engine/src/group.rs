@@ -21,6 +21,12 @@ impl Locations {
         Locations((0..PROCESSES).map(nibble).sum())
     }
 
+    /// The station bits of kind 2.
+    pub fn to_bits(self) -> u8 {
+        let own = (0..PROCESSES).filter(|&process| self.contains(process));
+        own.map(|process| 1 << process).sum()
+    }
+
     pub fn contains(self, process: usize) -> bool {
         self.0 >> (12 - 4 * process) & 1 == 1
     }

@@ -1,18 +1,21 @@
 //! A second engine for document 01, of independent make: reachability of cooperating
 //! multi-pushdown systems by saturation of a watch automaton, with the desk of request 2.1, the
-//! peak of request 2.2 and the written places of request 2.4. Every call works on tables of any
-//! bytes and on buffers of any length.
+//! peak of request 2.2, the written places of request 2.4 and the counts of request 2.5. Every call
+//! works on tables of any bytes and on buffers of any length.
 
 mod desk;
 mod group;
+mod participation;
 mod peak;
 mod saturation;
 mod table;
 mod walk;
 
-pub use desk::{DESK_PILE, Desk, NAMES};
+pub use desk::{COUNT_CEILING, DESK_PILE, Desk, NAMES};
 pub use table::WRITTEN_PLACES;
 
+use group::PROCESSES;
+use participation::step_counts;
 use peak::peak;
 use saturation::{Limit, Record, STEPS_CAP};
 use table::Table;
@@ -75,18 +78,21 @@ pub enum Run {
     Refused(Refusal),
 }
 
-/// What the walk call gives; `rest` is the index where the part of the caller's list that is
-/// handed back begins (the list's length for the empty part).
+/// What the walk call gives; `counts` are, for each process, the steps that it took part in, and
+/// `rest` is the index where the part of the caller's list that is handed back begins (the list's
+/// length for the empty part).
 #[derive(Clone, Copy, PartialEq, Eq, Debug)]
 pub enum Walk {
     Walked {
         states: [u8; 4],
         length: usize,
         watched: bool,
+        counts: [usize; PROCESSES],
         rest: usize,
     },
     Refused {
         refusal: Refusal,
+        counts: [usize; PROCESSES],
         rest: usize,
     },
 }
@@ -155,8 +161,11 @@ pub fn walk(table: &[u8], rules: &[u16], pile: &mut [u8], scratch: &mut [u8]) ->
     let table = match open_walk(table, pile.len(), scratch) {
         Ok(table) => table,
         Err(refusal) => {
-            let rest = rules.len();
-            return Walk::Refused { refusal, rest };
+            return Walk::Refused {
+                refusal,
+                counts: [0; PROCESSES],
+                rest: rules.len(),
+            };
         }
     };
     let mut at = Configuration::start(&table);
@@ -174,12 +183,14 @@ pub fn walk(table: &[u8], rules: &[u16], pile: &mut [u8], scratch: &mut [u8]) ->
                 number,
                 place: step,
             },
+            counts: step_counts(&table, &rules[..step]),
             rest: step,
         },
         None => Walk::Walked {
             states: at.states.to_bytes(),
             length: at.height(),
             watched: at.watched(&table),
+            counts: step_counts(&table, rules),
             rest: rules.len(),
         },
     }

@@ -1,7 +1,7 @@
 -- The bits stand for the table's processes.
 use mathlib.Core.Path.{refl}
 use borrow.Author.Needs.{needs}
-use Rattle.automaton.proofs.ProcessBits.{bits-back}
+use Rattle.model.proofs.Groups.{bits-back}
 use Rattle.shapes.specs.Shapes.{presentIn}
 use Rattle.acceptance.proofs.state_at.Statement.{statement}
 use Rattle.acceptance.proofs.state_at.Tie as tie

@@ -1,7 +1,7 @@
 -- The bits of 0 to 4 processes, case by case.
 use mathlib.Core.Path.{_≡_, ap, sym}
 use Prim.Native.Nat.{ℕ}
-use Rattle.automaton.specs.ProcessBits.{processBits}
+use Rattle.model.specs.Groups.{processBits}
 use Rattle.shapes.specs.Shapes.{processesBelow}
 use native.Mathlib.Omega.{arith}
 use Rattle.shapes.proofs.present.Statement.{statement}

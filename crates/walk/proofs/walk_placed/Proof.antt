@@ -1,15 +1,31 @@
--- The start has the table's shape, and where the steps stop the answer and the buffers are the outcome's (Outcomes).
+-- The start has the table's shape, and where the steps stop the answer, the counts and the buffers are the outcome's (Outcomes).
 use Rattle.walk.proofs.Outcomes.{start-shape, placed-halts}
 use borrow.Author.Needs.{needs}
 use Rattle.walk.proofs.walk_placed.Statement.{statement}
 use Rattle.walk.proofs.walk_placed.Tie as tie
 
+take-steps-requires : tie.Need-take-steps-requires
+take-steps-requires c κs =
+    let at-place-start = c .before .before .before in
+    let entry = at-place-start .before .before .before .before .before .before in
+    let a = entry .args in
+    let placed = at-place-start .place-start in
+    (entry .pre .0, start-shape (a .table .now) (a .t) (entry .pre .0) (placed .last .1 .1 .0) (placed .result) (placed .ensures .0) (placed .ensures .1))
+
+returns : tie.Need-returns
+returns c =
+    let at-settle = c .before .before .before in
+    let at-conclude = at-settle .before .before .before .before .before in
+    let at-take-steps = at-conclude .before .before .before .before .before in
+    let at-place-start = at-take-steps .before .before .before .before in
+    let entry = at-place-start .before .before .before .before .before .before in
+    let a = entry .args in
+    let placed = at-place-start .place-start in
+    let steps = at-take-steps .take-steps in
+    let end = at-conclude .conclude in
+    placed-halts (a .table .now) (a .t) (a .list .now) (a .pile .now) (a .scratch .now) (placed .result) (placed .last .1 .1 .0) (steps .last .1 .1 .1 .0) (at-settle .settle .last .0) (end .last .1 .1 .1 .1 .0) (steps .result) (end .result)
+    (placed .ensures .0) (placed .kept .1 .1 .0) (steps .kept .1 .1 .1 .0) (steps .ensures) (end .ensures .0) (end .ensures .1) (at-settle .settle .ensures)
+
 pub walk-placed-spec : {M : Type 1} → statement M
-walk-placed-spec = tie.close (tie.spec (λ c κs. search needs)
-    (λ c κs. (c .before .before .before .before .before .before .before .before .before .pre .0, start-shape (c .before .before .before .before .before .before .before .before .before .args .table .now) (c .before .before .before .before .before .before .before .before .before .args .t) (c .before .before .before .before .before .before .before .before .before .pre .0) (c .before .before .before .place-start .last .1 .1 .0) (c .before .before .before .place-start .result) (c .before .before .before .place-start .ensures .0) (c .before .before .before .place-start .ensures .1)))
-    (λ c κs. search needs) (λ c κs. search needs) (λ c. search needs) (λ c. search needs)
-    (λ c.
-    let a = c .before .before .before .before .before .before .before .before .before .before .before .before .before .before .before .before .before .before .before .before .before .before .args in
-    placed-halts (a .table .now) (a .t) (a .list .now) (a .pile .now) (a .scratch .now) (c .before .before .before .before .before .before .before .before .before .before .before .before .before .before .before .before .place-start .result) (c .before .before .before .before .before .before .before .before .before .before .before .before .before .before .before .before .place-start .last .1 .1 .0) (c .before .before .before .before .before .before .before .before .before .before .before .before .take-steps .last .1 .1 .1 .0) (c .before .before .settle .last .0)
-    (c .before .before .before .before .before .before .before .conclude .last .1 .1 .1 .1 .0) (c .before .before .before .before .before .before .before .before .before .before .before .before .take-steps .result) (c .before .before .before .before .before .before .before .conclude .result) (c .before .before .before .before .before .before .before .before .before .before .before .before .before .before .before .before .place-start .ensures .0) (c .before .before .before .before .before .before .before .before .before .before .before .before .before .before .before .before .place-start .kept .1 .1 .0) (c .before .before .before .before .before .before .before .before .before .before .before .before .take-steps .kept .1 .1 .1 .0)
-    (c .before .before .before .before .before .before .before .before .before .before .before .before .take-steps .ensures) (c .before .before .before .before .before .before .before .conclude .ensures .0) (c .before .before .before .before .before .before .before .conclude .ensures .1) (c .before .before .settle .ensures)))
+walk-placed-spec = tie.close (tie.spec (λ c κs. search needs) take-steps-requires (λ c κs. search needs) (λ c κs. search needs) (λ c. search needs)
+    (λ c. search needs) returns)

@@ -1,4 +1,4 @@
--- Eight figures are read, one after the other.
+-- Twelve figures are read, one after the other.
 use Prim.Native.Nat.{_≤_, _-_}
 use native.Mathlib.Omega.{arith}
 use borrow.Author.Needs.{needs}
@@ -6,10 +6,10 @@ use Rattle.walk_cases.proofs.print_figures.Statement.{statement}
 use Rattle.walk_cases.proofs.print_figures.Tie as tie
 
 abbrev Inv-loop : tie.InvT-loop
-Inv-loop figures i₀ i = i ≤ 8
+Inv-loop figures i₀ i = i ≤ 12
 
 abbrev μ-loop : tie.MeasureT-loop
-μ-loop figures i₀ i = 8 - i
+μ-loop figures i₀ i = 12 - i
 
 pub print-figures-spec : {M : Type 1} → statement M
 print-figures-spec = tie.close (tie.spec Inv-loop μ-loop (λ c. omega arith) (λ c. omega arith) (λ c. search needs) (λ c κs. search needs) (λ c. omega arith)

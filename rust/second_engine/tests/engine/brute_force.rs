@@ -91,9 +91,11 @@ fn replay(table: &Table, rules: &[u16]) -> usize {
     let mut at = Configuration::start(table);
     let mut peak = at.height(table);
     let mut room = at.word.len();
+    let mut counts = [0; 4];
     for &rule in rules {
         let next = at.fire(table, &table.rules[usize::from(rule)]);
         at = next.expect("every rule of a run fires");
+        naive::count_step(table, rule, &mut counts);
         peak = peak.max(at.height(table));
         room = room.max(at.word.len());
     }
@@ -103,6 +105,7 @@ fn replay(table: &Table, rules: &[u16]) -> usize {
         states: at.states,
         length: at.word.len(),
         watched: true,
+        counts,
         rest: rules.len(),
     };
     assert_eq!(walk, expected);

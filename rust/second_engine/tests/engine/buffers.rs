@@ -1,7 +1,7 @@
 //! Lent buffers of all lengths: what they decide and what they hold afterwards.
 
 use crate::calls::{Seed, answered, junk, junk_page, log_of, ran, walked};
-use crate::naive::Configuration;
+use crate::naive::{Configuration, count_step};
 use second_engine::{
     Answer, RECORD_BYTES, Refusal, Run, WALK_SCRATCH, Walk, answer, run, scratch_needed, walk,
 };
@@ -142,8 +142,12 @@ fn short_walk_scratch() {
         for room in [0, 5] {
             let (mut pile, mut scratch) = (vec![9; room], vec![9; length]);
             let given = walk(&bytes, &[0, 7], &mut pile, &mut scratch);
-            let refusal = REFUSED(15);
-            assert_eq!(given, Walk::Refused { refusal, rest: 2 });
+            let refused = Walk::Refused {
+                refusal: REFUSED(15),
+                counts: [0; 4],
+                rest: 2,
+            };
+            assert_eq!(given, refused);
             assert_eq!((pile, scratch), (vec![9; room], vec![9; length]));
         }
     }
@@ -177,36 +181,34 @@ fn random_list(rng: &mut Rng, table: &Table) -> Vec<u16> {
 /// The walk by the definitions: what the call gives and the pile it leaves.
 fn expected_walk(table: &Table, list: &[u16], room: usize) -> (Walk, Vec<u8>) {
     let mut at = Configuration::start(table);
+    let mut counts = [0; 4];
     if at.word.len() > room {
-        let (refusal, rest) = (REFUSED(14), list.len());
-        return (Walk::Refused { refusal, rest }, vec![0xA5; room]);
-    }
-    for (step, &number) in list.iter().enumerate() {
-        let rule = table.rules.get(usize::from(number));
-        let next = rule.and_then(|rule| at.fire(table, rule));
-        let number = match (rule, &next) {
-            (None, _) => 13,
-            (_, None) => 12,
-            (_, Some(next)) if next.word.len() > room => 14,
-            _ => 0,
+        let given = Walk::Refused {
+            refusal: REFUSED(14),
+            counts,
+            rest: list.len(),
         };
-        if number > 0 {
-            let refusal = Refusal {
-                number,
-                place: step,
-            };
-            let given = Walk::Refused {
-                refusal,
-                rest: step,
-            };
-            return (given, log_of(&at.word, room));
-        }
-        at = next.unwrap_or(at);
+        return (given, vec![0xA5; room]);
+    }
+    for (place, &rule) in list.iter().enumerate() {
+        at = match at.step(table, rule, room) {
+            Ok(next) => next,
+            Err(number) => {
+                let given = Walk::Refused {
+                    refusal: Refusal { number, place },
+                    counts,
+                    rest: place,
+                };
+                return (given, log_of(&at.word, room));
+            }
+        };
+        count_step(table, rule, &mut counts);
     }
     let given = Walk::Walked {
         states: at.states,
         length: at.word.len(),
         watched: at.watched(table),
+        counts,
         rest: list.len(),
     };
     (given, log_of(&at.word, room))
@@ -229,9 +231,11 @@ fn walks_follow_the_definitions() {
         assert_eq!(walked(&table.bytes(), &list, room), expected);
         match expected.0 {
             Walk::Walked { watched: w, .. } => watched += usize::from(w),
-            Walk::Refused { refusal, .. } => met[usize::from(refusal.number)] += 1,
+            Walk::Refused {
+                refusal, counts, ..
+            } => met[usize::from(refusal.number)] += usize::from(counts != [0; 4]),
         }
     }
-    println!("refusals by number {met:?}, watched {watched}");
+    println!("refusals after steps by number {met:?}, watched {watched}");
     assert!(met[12] > 500 && met[13] > 500 && met[14] > 500 && watched > 100);
 }

@@ -1,8 +1,8 @@
-//! The desk of request 2.1.
+//! The desk of request 2.1, with the counts of request 2.5.
 
 use crate::calls::Seed;
-use crate::naive::Configuration;
-use second_engine::{DESK_PILE, Desk, NAMES, Refusal};
+use crate::naive::{Configuration, count_step, participants};
+use second_engine::{COUNT_CEILING, DESK_PILE, Desk, NAMES, Refusal};
 use tables::random::{self, Shape};
 use tables::{NO_PART, Rng, Table, WRITTEN_PLACES, damage, named};
 
@@ -10,7 +10,7 @@ fn opened(table: &Table) -> Desk {
     Desk::open(&table.bytes()).expect("an accepted table")
 }
 
-fn refused(number: u8) -> Result<(), Refusal> {
+fn refused<T>(number: u8) -> Result<T, Refusal> {
     Err(Refusal { number, place: 0 })
 }
 
@@ -39,12 +39,14 @@ fn t_fires() {
     assert_eq!(desk.firing(), [0]);
     assert_eq!(desk.fire(1), refused(12));
     assert_eq!(sight(&desk), ([0, 0], vec![0]));
-    for (rule, states, pile) in [
-        (0, [0, 0], &[1, 2][..]),
-        (2, [0, 1], &[1]),
-        (1, [1, 1], &[]),
+    assert_eq!(desk.counts(), [0; 4]);
+    for (rule, bits, counts, states, pile) in [
+        (0, 0b11, [1, 1, 0, 0], [0, 0], &[1, 2][..]),
+        (2, 0b10, [1, 2, 0, 0], [0, 1], &[1]),
+        (1, 0b01, [2, 2, 0, 0], [1, 1], &[]),
     ] {
-        assert_eq!(desk.fire(rule), Ok(()));
+        assert_eq!(desk.fire(rule), Ok(bits));
+        assert_eq!(desk.counts(), counts);
         assert_eq!(sight(&desk), (states, pile.to_vec()));
     }
     assert_eq!(desk.firing(), []);
@@ -53,6 +55,7 @@ fn t_fires() {
         assert_eq!(desk.fire(absent), refused(13));
     }
     assert_eq!(sight(&desk), ([1, 1], vec![]));
+    assert_eq!(desk.counts(), [2, 2, 0, 0]);
 }
 
 #[test]
@@ -70,19 +73,20 @@ fn refused_tables_have_no_desk() {
 fn piles_have_room_for_256_letters() {
     let mut desk = opened(&heap());
     for _ in 0..51 {
-        assert_eq!(desk.fire(6), Ok(()));
+        assert_eq!(desk.fire(6), Ok(1));
     }
     assert_eq!(desk.pile(), [0; DESK_PILE]);
     for rule in 2..=6 {
         assert_eq!(desk.fire(rule), refused(14));
     }
-    assert_eq!(desk.fire(1), Ok(()));
+    assert_eq!(desk.fire(1), Ok(1));
     assert_eq!(desk.pile(), [0; 256]);
     assert_eq!(desk.firing(), [0, 1, 2, 3, 4, 5, 6]);
-    assert_eq!(desk.fire(0), Ok(()));
+    assert_eq!(desk.fire(0), Ok(1));
     assert_eq!(desk.fire(3), refused(14));
-    assert_eq!(desk.fire(2), Ok(()));
+    assert_eq!(desk.fire(2), Ok(1));
     assert_eq!(desk.pile(), [0; 256]);
+    assert_eq!(desk.counts(), [54, 0, 0, 0]);
 }
 
 /// An idle rule that would write too much is idle.
@@ -93,7 +97,7 @@ fn idle_comes_before_full() {
     table.rule(other, [0; 4], [0; 4], &[0; WRITTEN_PLACES]);
     let mut desk = opened(&table);
     for _ in 0..51 {
-        assert_eq!(desk.fire(6), Ok(()));
+        assert_eq!(desk.fire(6), Ok(1));
     }
     assert_eq!(desk.fire(7), refused(12));
     assert_eq!(desk.fire(6), refused(14));
@@ -123,9 +127,9 @@ fn names_are_checked() {
 fn a_return_keeps_every_name() {
     let mut desk = opened(&named::t());
     assert_eq!(desk.save(0), Ok(()));
-    assert_eq!(desk.fire(0), Ok(()));
+    assert_eq!(desk.fire(0), Ok(0b11));
     assert_eq!(desk.save(1), Ok(()));
-    assert_eq!(desk.fire(2), Ok(()));
+    assert_eq!(desk.fire(2), Ok(0b10));
     assert_eq!(desk.save(2), Ok(()));
     let stands = [([0, 0], vec![0]), ([0, 0], vec![1, 2]), ([0, 1], vec![1])];
     for name in [0, 2, 2, 1, 0, 1] {
@@ -133,7 +137,7 @@ fn a_return_keeps_every_name() {
         assert_eq!(sight(&desk), stands[usize::from(name)]);
     }
     // Fires go on from the noted history, and a name does not follow them.
-    assert_eq!(desk.fire(1), Ok(()));
+    assert_eq!(desk.fire(1), Ok(0b01));
     assert_eq!(sight(&desk), ([1, 0], vec![2]));
     assert_eq!(desk.return_to(1), Ok(()));
     assert_eq!(sight(&desk), stands[1]);
@@ -144,34 +148,75 @@ fn saving_over_a_name_replaces_it() {
     let mut desk = opened(&named::t());
     assert_eq!(desk.save(3), Ok(()));
     assert_eq!(desk.save(4), Ok(()));
-    assert_eq!(desk.fire(0), Ok(()));
+    assert_eq!(desk.fire(0), Ok(0b11));
     assert_eq!(desk.save(3), Ok(()));
     assert_eq!(desk.forget(4), Ok(()));
     assert_eq!(desk.return_to(4), refused(17));
     assert_eq!(sight(&desk), ([0, 0], vec![1, 2]));
-    assert_eq!(desk.fire(1), Ok(()));
+    assert_eq!(desk.fire(1), Ok(0b01));
     assert_eq!(desk.return_to(3), Ok(()));
     assert_eq!(sight(&desk), ([0, 0], vec![1, 2]));
 }
 
-/// The desk by the definitions: configurations, not histories, are kept.
+/// Only a fire and a return that are not refused change the counts.
+#[test]
+fn a_return_begins_the_counts_again() {
+    let mut desk = opened(&named::t());
+    assert_eq!(desk.fire(0), Ok(0b11));
+    assert_eq!(desk.save(0), Ok(()));
+    assert_eq!(desk.save(1), Ok(()));
+    assert_eq!(desk.forget(1), Ok(()));
+    assert_eq!(desk.counts(), [1, 1, 0, 0]);
+    assert_eq!(desk.fire(0), refused(12));
+    assert_eq!(desk.return_to(1), refused(17));
+    assert_eq!(desk.forget(1), refused(17));
+    assert_eq!(desk.save(8), refused(18));
+    assert_eq!(desk.counts(), [1, 1, 0, 0]);
+    assert_eq!(desk.return_to(0), Ok(()));
+    assert_eq!(desk.counts(), [0; 4]);
+    assert_eq!(desk.fire(2), Ok(0b10));
+    assert_eq!(desk.counts(), [0, 1, 0, 0]);
+}
+
+#[test]
+fn counts_stop_at_the_ceiling() {
+    let before = [COUNT_CEILING - 1, COUNT_CEILING - 2, 0, 0];
+    let mut desk = Desk::resume(&named::t().bytes(), before).expect("an accepted table");
+    assert_eq!(desk.save(0), Ok(()));
+    assert_eq!(desk.counts(), before);
+    for (rule, counts) in [
+        (0, [4_294_967_295, 4_294_967_294, 0, 0]),
+        (1, [4_294_967_295, 4_294_967_294, 0, 0]),
+        (2, [4_294_967_295, 4_294_967_295, 0, 0]),
+    ] {
+        assert!(desk.fire(rule).is_ok());
+        assert_eq!(desk.counts(), counts);
+    }
+    assert_eq!(desk.return_to(0), Ok(()));
+    assert_eq!(desk.counts(), [0; 4]);
+}
+
+/// The desk by the definitions: configurations and counts, not histories, are kept.
 struct Plain {
     at: Configuration,
     named: [Option<Configuration>; NAMES],
+    counts: [usize; 4],
+    /// How often a count stopped at the ceiling.
+    stops: usize,
 }
 
 impl Plain {
-    fn fire(&mut self, table: &Table, rule: u16) -> Result<(), Refusal> {
-        let rule = table.rules.get(usize::from(rule)).ok_or(13);
-        let next = rule.and_then(|rule| self.at.fire(table, rule).ok_or(12));
-        match next {
-            Ok(next) if next.word.len() > DESK_PILE => refused(14),
-            Ok(next) => {
-                self.at = next;
-                Ok(())
-            }
-            Err(number) => refused(number),
+    fn fire(&mut self, table: &Table, rule: u16) -> Result<u8, Refusal> {
+        match self.at.step(table, rule, DESK_PILE) {
+            Ok(next) => self.at = next,
+            Err(number) => return refused(number),
         }
+        count_step(table, rule, &mut self.counts);
+        for count in &mut self.counts {
+            self.stops += usize::from(*count > COUNT_CEILING);
+            *count = COUNT_CEILING.min(*count);
+        }
+        Ok(participants(table, rule))
     }
 
     fn save(&mut self, name: u8) -> Result<(), Refusal> {
@@ -188,6 +233,7 @@ impl Plain {
             Some(None) => return refused(17),
             None => return refused(18),
         }
+        self.counts = [0; 4];
         Ok(())
     }
 
@@ -220,21 +266,37 @@ fn call(rng: &mut Rng, table: &Table, desk: &mut Desk, plain: &mut Plain) {
     }
 }
 
+/// What a desk has counted: nothing, or about as much as it can.
+fn any_counts(rng: &mut Rng) -> [usize; 4] {
+    match rng.below(3) {
+        0 => std::array::from_fn(|_| COUNT_CEILING - rng.below(4)),
+        _ => [0; 4],
+    }
+}
+
 #[test]
 fn desks_follow_the_definitions() {
+    let mut stops = 0;
     for seed in (430_000..432_000).map(Seed) {
         let mut rng = seed.rng();
         let shape = *rng.pick(&[Shape::TINY, Shape::DENSE, Shape::MIDDLE]);
         let table = random::table(&mut rng, &shape);
-        let mut desk = opened(&table);
+        let counts = any_counts(&mut rng);
+        let mut desk = Desk::resume(&table.bytes(), counts).expect("an accepted table");
         let mut plain = Plain {
             at: Configuration::start(&table),
             named: Default::default(),
+            counts,
+            stops: 0,
         };
         for _ in 0..rng.below(60) {
             call(&mut rng, &table, &mut desk, &mut plain);
             assert_eq!(desk.states(), plain.at.states);
             assert_eq!(desk.pile(), plain.at.word);
+            assert_eq!(desk.counts(), plain.counts);
         }
+        stops += plain.stops;
     }
+    println!("counts that stopped {stops}");
+    assert!(stops > 500);
 }

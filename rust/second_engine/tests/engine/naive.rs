@@ -185,6 +185,19 @@ pub fn unfold(records: &[Record], path: &[u16]) -> Vec<u16> {
     rules
 }
 
+/// The bits of the processes that take part where the rule of a number fires.
+pub fn participants(table: &Table, number: u16) -> u8 {
+    let rule = &table.rules[usize::from(number)];
+    table.letters[usize::from(rule.letter)]
+}
+
+/// Counts a step for each process that takes part.
+pub fn count_step(table: &Table, number: u16, counts: &mut [usize; 4]) {
+    for (process, count) in counts.iter_mut().enumerate() {
+        *count += usize::from(participants(table, number) >> process & 1);
+    }
+}
+
 /// A configuration (document 01: situation); the word is top first.
 #[derive(Clone)]
 pub struct Configuration {
@@ -240,6 +253,14 @@ impl Configuration {
             states: overlay(self.states, rule.after, bits),
             word,
         })
+    }
+
+    /// The configuration after the rule of a number, or the number of the refusal, with room for so
+    /// many letters.
+    pub fn step(&self, table: &Table, number: u16, room: usize) -> Result<Configuration, u8> {
+        let rule = table.rules.get(usize::from(number)).ok_or(13)?;
+        let next = self.fire(table, rule).ok_or(12)?;
+        (next.word.len() <= room).then_some(next).ok_or(14)
     }
 
     /// Whether some path of watch transitions reads the whole word and ends accepting.

@@ -23,7 +23,12 @@ fn refusal_of(table: &[u8], scratch_length: usize) -> Option<Refusal> {
     let given = run(table, &mut log, &mut scratch, &mut page);
     assert_eq!(given, Run::Refused(refusal));
     let given = walk(table, &[0, 1], &mut pile, &mut scratch);
-    assert_eq!(given, Walk::Refused { refusal, rest: 2 });
+    let refused = Walk::Refused {
+        refusal,
+        counts: [0; 4],
+        rest: 2,
+    };
+    assert_eq!(given, refused);
     assert_eq!((log, page, pile), ([0xA5; 30], [0xA5A5; 3], [0xA5; 3]));
     assert!(scratch.iter().all(|&byte| byte == 0xA5));
     Some(refusal)

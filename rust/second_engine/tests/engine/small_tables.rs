@@ -1,4 +1,4 @@
-//! The small tables of document 01, and those of requests 2.2 and 2.4.
+//! The small tables of document 01 and those of requests 2.2 and 2.4, with the counts of 2.5.
 
 use crate::calls::{answered, ran, walked};
 use second_engine::{Answer, RECORD_BYTES, Refusal, Run, Walk, answer};
@@ -127,6 +127,7 @@ fn t_walks() {
         states: [1, 1, 0xFF, 0xFF],
         length: 0,
         watched: true,
+        counts: [2, 2, 0, 0],
         rest: 3,
     };
     assert_eq!(walk_of(&[0, 2, 1]), (end, vec![0, 0, 0]));
@@ -134,16 +135,25 @@ fn t_walks() {
         states: [0, 1, 0xFF, 0xFF],
         length: 1,
         watched: false,
+        counts: [1, 2, 0, 0],
         rest: 2,
     };
     assert_eq!(walk_of(&[0, 2]), (middle, vec![1, 0, 0]));
     let idle = Walk::Refused {
         refusal: refused(12, 0),
+        counts: [0; 4],
         rest: 0,
     };
     assert_eq!(walk_of(&[1]), (idle, vec![0, 0, 0]));
+    let later = Walk::Refused {
+        refusal: refused(12, 2),
+        counts: [2, 1, 0, 0],
+        rest: 2,
+    };
+    assert_eq!(walk_of(&[0, 1, 1, 2]), (later, vec![2, 0, 0]));
     let unknown = Walk::Refused {
         refusal: refused(13, 1),
+        counts: [1, 1, 0, 0],
         rest: 1,
     };
     assert_eq!(walk_of(&[0, 3, 1]), (unknown, vec![1, 2, 0]));
@@ -152,13 +162,30 @@ fn t_walks() {
 #[test]
 fn full_piles() {
     let bytes = named::t().bytes();
-    let refusal = refused(14, 0);
-    let start = Walk::Refused { refusal, rest: 3 };
-    assert_eq!(walked(&bytes, &[0, 1, 2], 0), (start, vec![]));
-    let step = Walk::Refused { refusal, rest: 0 };
-    assert_eq!(walked(&bytes, &[0, 1, 2], 1), (step, vec![0]));
+    let refused_at = |rest| Walk::Refused {
+        refusal: refused(14, 0),
+        counts: [0; 4],
+        rest,
+    };
+    assert_eq!(walked(&bytes, &[0, 1, 2], 0), (refused_at(3), vec![]));
+    assert_eq!(walked(&bytes, &[0, 1, 2], 1), (refused_at(0), vec![0]));
     let given = walked(&bytes, &[0, 1, 2], 2).0;
     assert!(matches!(given, Walk::Walked { watched: true, .. }));
+}
+
+/// Each process has part in the letter of rule 0, in one of its own and in one of two.
+#[test]
+fn processes_count_their_letters() {
+    let bytes = named::six_written().bytes();
+    let counts_of = |rules: &[u16]| match walked(&bytes, rules, 6).0 {
+        Walk::Walked { counts, .. } | Walk::Refused { counts, .. } => counts,
+    };
+    assert_eq!(counts_of(&[]), [0; 4]);
+    assert_eq!(counts_of(&[0]), [1; 4]);
+    assert_eq!(counts_of(&[0, 4, 3]), [1, 1, 2, 2]);
+    assert_eq!(counts_of(&[0, 4, 3, 6, 1]), [2, 1, 3, 3]);
+    assert_eq!(counts_of(&[0, 4, 3, 6, 1, 5, 2]), [2, 1, 3, 3]);
+    assert_eq!(counts_of(&[0, 1, 2, 3, 4, 5, 6]), [3; 4]);
 }
 
 #[test]
