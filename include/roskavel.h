@@ -65,7 +65,7 @@ enum roskavel_figure {
 
     /* roskavel_answer and roskavel_run */
     ROSKAVEL_REACHABLE = 2,   /* 1 reachable, 0 unreachable */
-    ROSKAVEL_TRANSITIONS = 3, /* records of the limit automaton */
+    ROSKAVEL_TRANSITIONS = 3, /* records of the limit automaton; see roskavel_answer for copies */
     ROSKAVEL_ROUNDS = 4,      /* the highest round of a record */
     ROSKAVEL_STEPS = 5,       /* rules of the run; 0 if unreachable */
     ROSKAVEL_PEAK = 6,        /* roskavel_run: the greatest length of any one process's own pile
@@ -95,7 +95,8 @@ enum roskavel_refusal {
     ROSKAVEL_CROWD = 4,          /* more items of the kind than its ceiling */
     ROSKAVEL_VALUE = 5,          /* a byte outside its bounds */
     ROSKAVEL_STRAY = 6,          /* a rule that does not cooperate */
-    ROSKAVEL_RE_ENTRY = 7,       /* a watch transition into a state of the system */
+    ROSKAVEL_RE_ENTRY = 7,       /* a watch transition into a state of the system, in a table of
+                                    which some process has more than 4 states */
     ROSKAVEL_TWIN = 8,           /* a rule, watch transition or accepting group seen before */
     ROSKAVEL_LEFTOVER = 9,       /* bytes after the end item; the first of them */
     ROSKAVEL_SHORT_LOG = 10,     /* the limit automaton has more records than the log has room
@@ -131,6 +132,11 @@ static inline size_t roskavel_scratch_bytes(size_t log_bytes)
  *          A record has ROSKAVEL_RECORD_BYTES bytes, little-endian: letter 1, states before 4,
  *          states after 4, round 2, rule 2, path 6 times 2, steps 3. FF is a process that has no
  *          part in the letter, FFFF no rule or no place of a path.
+ *          If some watch transition leads into a state of the system, the automaton is a copy:
+ *          state x of a process of s states is also held as s + x, a watch transition leads from
+ *          each mixture of plain and copied states to copied ones, and so gives 2, 4, 8 or 16
+ *          records of round 0, for 1 to 4 processes of its letter; at most 3,200 in all. It
+ *          accepts what the table's automaton accepts.
  * scratch  work memory, at least roskavel_scratch_bytes(log_length) bytes.
  */
 void roskavel_answer(const uint8_t *table, size_t table_length,

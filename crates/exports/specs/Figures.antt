@@ -7,7 +7,7 @@ use lib.ListN.{length, getD, take, replicate}
 use Rattle.model.specs.declared.Answered.{Answered}
 use Rattle.model.specs.declared.Ran.{Ran}
 use Rattle.model.specs.Systems.{System, Joins, PeakIs, peak}
-use Rattle.model.specs.Tables.{Item, accepted, read, systemOf}
+use Rattle.model.specs.Tables.{Item, accepted, read, saturatedOf, systemOf}
 use Rattle.model.specs.Log.{limit, rounds}
 use Rattle.model.specs.Calls.{AnswerOutcome, RunOutcome, WalkOutcome, answerCall, runCall, answerFigures, runFigures, walkFigures}
 use Rattle.model.specs.Demands.{Describes, NoRun, SomeRun, Counts, TooLong, ScratchServes, LogServes, ShortLog, Demand3}
@@ -51,7 +51,7 @@ pub record RunWord (table f page : List ℕ) : Type 0 where
 pub record Premises (table log scratch : List ℕ) (items : List Item) : Type 0 where
   pub reads : read table ≡ accepted items
   pub serves : ScratchServes log scratch
-  pub holds : LogServes (systemOf items) log
+  pub holds : LogServes (saturatedOf items) log
 
 -- The answer behind the figures meets demand 3; so, in figures, under both premises: 0 and 0 exactly if no run joins the start and the watched set,
 -- 0 and 1 exactly if one does; and 10 exactly where the second premise fails.
@@ -69,8 +69,8 @@ pub record RunDemand (table log scratch page f left : List ℕ) : Type 0 where
   pub behind : f ≡ sixteen (runFigures answer)
   pub demand : Demand3 table log scratch page (answerCall table log scratch .answer) answer left
   pub no-run : (items : List Item) → Premises table log scratch items → NoRun (systemOf items) ↔ (getD f 0 0 ≡ 16)
-  pub long : (items : List Item) → Premises table log scratch items → (n : ℕ) → Counts (systemOf items) n → TooLong n page ↔ (getD f 0 0 ≡ 11)
-  pub given : (items : List Item) → Premises table log scratch items → (n : ℕ) (c : Counts (systemOf items) n) → (TooLong n page → ⊥)
-      → (f ≡ sixteen (0 ∷ 0 ∷ 1 ∷ length (limit (systemOf items)) ∷ rounds (limit (systemOf items)) ∷ n ∷ peak (systemOf items) (c .run) (systemOf items .start) ∷ []))
+  pub long : (items : List Item) → Premises table log scratch items → (n : ℕ) → Counts (saturatedOf items) n → TooLong n page ↔ (getD f 0 0 ≡ 11)
+  pub given : (items : List Item) → Premises table log scratch items → (n : ℕ) (c : Counts (saturatedOf items) n) → (TooLong n page → ⊥)
+      → (f ≡ sixteen (0 ∷ 0 ∷ 1 ∷ length (limit (saturatedOf items)) ∷ rounds (limit (saturatedOf items)) ∷ n ∷ peak (systemOf items) (c .run) (systemOf items .start) ∷ []))
       × Joins (systemOf items) (systemOf items .start) (take n left)
   pub short : ShortLog table log scratch ↔ (getD f 0 0 ≡ 10)

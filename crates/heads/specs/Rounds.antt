@@ -16,14 +16,14 @@ use Rattle.scratch.specs.Regions.{activeAt, keysAt, linksEnd, passedAt, ringsAt
 use Rattle.rings.specs.Rings.{Freshened, RingRoom, Ringed}
 use Rattle.keys.specs.Keys.{Indexed}
 use Rattle.table.specs.declared.Table.{Table}
-use Rattle.table.specs.Reading.{Holds, ruleIn, systemIn}
+use Rattle.table.specs.Reading.{Holds, ruleIn, saturatedIn, systemIn}
 use Rattle.rules.specs.Regions.{inSet, positionCeiling}
 use Rattle.rules.specs.Rules.{Ordered, Writers, hasLetter, orderedRule}
 use Rattle.heads.specs.declared.Round.{Round}
 
 -- the log that a round starts from
 abbrev pub earlierLog : List ℕ → ℕ → List Record
-earlierLog table number = logAt (systemIn table) (number - 1)
+earlierLog table number = logAt (saturatedIn table) (number - 1)
 
 -- A round looks at a rule if one of its written letters is among those of the last round's records; the first round looks at all.
 unfoldable pub isActive : Round → Rule → Bool
@@ -49,7 +49,7 @@ pub record InRound (table : List ℕ) (t : Table) (round : Round) (log s : List 
   pub records : round .n * recordLength ≤ length log
   -- the records of the last round are those from lo on, and their letters are the fresh ones
   pub low : round .lo ≤ round .base
-  pub last : 2 ≤ round .number → round .lo ≡ length (logAt (systemIn table) (round .number - 2))
+  pub last : 2 ≤ round .number → round .lo ≡ length (logAt (saturatedIn table) (round .number - 2))
   pub fresh : (i : ℕ) → round .lo ≤ i → i < round .base → hasLetter (round .fresh) (letterAt log i) ≡ true
   pub room : RingRoom log (round .base) (round .n) ringsAt s
   pub ringed : Ringed log (round .base) (round .n) ringsAt s

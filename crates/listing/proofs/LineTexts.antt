@@ -12,9 +12,10 @@ use Rattle.model.specs.declared.Answered.{Answered}
 use Rattle.model.specs.declared.Ran.{Ran}
 use Rattle.model.specs.Calls.{answerCall, answerGiven, capacity, isLong, pageAfter, runCall, runGiven, runOf, runRefusal, runVerdict, scratchFor, scratchNeeded, startPath}
 use Rattle.model.specs.Records.{recordLength}
+use Rattle.model.specs.Copies.{withCopy}
 use Rattle.model.specs.Log.{Path, limit}
 use Rattle.model.specs.Systems.{System}
-use Rattle.model.specs.Tables.{Reading, accepted, refused, read, systemOf}
+use Rattle.model.specs.Tables.{Reading, accepted, refused, read, saturatedOf, systemOf}
 use Rattle.model.specs.Unfolding.{pathSteps}
 use Rattle.model.proofs.Prefixes.{answer-prefix, run-prefix, telling}
 use Rattle.model.proofs.Tests.{by-test}
@@ -88,7 +89,7 @@ or-left false b e = refl
 verdict-fits : (sys : System) (room : ℕ) (path : Option Path) → listed (runVerdict sys room path) ≤ room
 verdict-fits sys room none = omega arith
 verdict-fits sys room (some p) =
-    let steps = pathSteps (limit sys) (p .numbers) in
+    let steps = pathSteps (limit (withCopy sys)) (p .numbers) in
     by-test (isLong steps room) (λ y. rw y (omega arith)) (λ n. rw n (ltb-false room steps (or-left (ltb room steps) (ltb 1000000 steps) n)))
 
 given-fits : (r : Reading) (log scratch room : ℕ) → listed (runGiven r log scratch room) ≤ room
@@ -96,7 +97,7 @@ unfolding runGiven
 given-fits (refused number place) log scratch room = omega arith
 given-fits (accepted items) log scratch room =
     by-test (ltb scratch (scratchNeeded log)) (λ y. rw y (omega arith)) (λ n. rw n
-    (by-test (ltb (capacity log) (length (limit (systemOf items)))) (λ y. rw y (omega arith)) (λ m. rw m (verdict-fits (systemOf items) room (startPath (systemOf items))))))
+    (by-test (ltb (capacity log) (length (limit (saturatedOf items)))) (λ y. rw y (omega arith)) (λ m. rw m (verdict-fits (systemOf items) room (startPath (saturatedOf items))))))
 
 pub run-fits : (input log scratch page : List ℕ) → listed (runCall input log scratch page .answer) ≤ length page
 unfolding runCall

@@ -27,9 +27,9 @@ use Rattle.model.proofs.Tests.{by-test}
 use Rattle.automaton.specs.StateNumbers.{Over}
 use Rattle.records.specs.Entries.{Fits}
 use Rattle.table.specs.declared.Table.{Table}
-use Rattle.table.specs.Reading.{Holds, ruleIn, systemIn}
-use Rattle.table.proofs.Layouts.{rule-letter-in, table-modest, transition-letter-in, written-few}
-use Rattle.logs.proofs.Rules.{each-by-elem, over-restrict, rule-elem, rule-number, rule-over, rule-written, transition-number, transition-over}
+use Rattle.table.specs.Reading.{Holds, ruleIn, saturatedIn, systemIn}
+use Rattle.table.proofs.Layouts.{rule-letter-in, table-modest, written-few}
+use Rattle.logs.proofs.Rules.{each-by-elem, over-restrict, rule-elem, rule-number, rule-over, rule-written, saturated-over}
 
 -- ---- groups
 pub merge-over : (L M : Processes) (x g : Group) → Within M L → Over M x → Over L g → Over L (merge M x g)
@@ -83,11 +83,6 @@ abbrev pub Keyed : List ℕ → Table → Transition → Type 0
 Keyed bytes t x = (x .letter < t .letters) × Over (systemIn bytes .loc (x .letter)) (x .before) × Over (systemIn bytes .loc (x .letter)) (x .after)
 
 module _ (bytes : List ℕ) (t : Table) (h : Holds bytes t) where
-  transitions-keyed : Each (Keyed bytes t) (systemIn bytes .transitions)
-  transitions-keyed = each-by-elem (Keyed bytes t) (systemIn bytes .transitions) (λ k x e.
-      let p = transition-number bytes t h k x e in
-      subst (Keyed bytes t) (p .1) (transition-letter-in bytes t h k (p .0), transition-over bytes t h k (p .0) .0, transition-over bytes t h k (p .0) .1))
-
   -- what a rule adds for a path over such keys is such a key
   rule-keyed : (k : ℕ) → k < t .rules → (ts : List Transition) (f : Group) → Each (Keyed bytes t) ts → label ts ≡ ruleIn bytes k .written → Along (systemIn bytes .loc) (ruleIn bytes k .after) ts f
       → Keyed bytes t (added (systemIn bytes .loc) (ruleIn bytes k) f)
@@ -100,7 +95,7 @@ module _ (bytes : List ℕ) (t : Table) (h : Holds bytes t) where
       (subst (Inside (systemIn bytes .loc) L) (sym reads) inside) (rule-over bytes t h k l .1) p in
       (rule-letter-in bytes t h k l, rule-over bytes t h k l .0, subst (Over L) (sym (over-restrict L f o)) o)
 
-  reasoned-keyed : (log : List Record) → Each (λ (x : Record). Keyed bytes t (x .key)) log → (c : Candidate) → Reasoned (systemIn bytes) log c → Keyed bytes t (c .key)
+  reasoned-keyed : (log : List Record) → Each (λ (x : Record). Keyed bytes t (x .key)) log → (c : Candidate) → Reasoned (saturatedIn bytes) log c → Keyed bytes t (c .key)
   reasoned-keyed log e c ρ =
       let p = rule-number bytes t h (c .rule) (ρ .rule) (ρ .is) in
       subst (Keyed bytes t) (sym (ρ .key-is)) (subst (λ (r : Rule). Keyed bytes t (added (systemIn bytes .loc) r (ρ .end))) (p .1)
@@ -109,24 +104,24 @@ module _ (bytes : List ℕ) (t : Table) (h : Holds bytes t) where
 
   -- ---- every record's letter is the table's, and its states are of the letter's processes
   pub log-over : (k : ℕ)
-      → Each (λ (x : Record). (x .key .letter < t .letters) × Over (systemIn bytes .loc (x .key .letter)) (x .key .before) × Over (systemIn bytes .loc (x .key .letter)) (x .key .after)) (logAt (systemIn bytes) k)
-  log-over = each-round (systemIn bytes) (λ k x. Keyed bytes t (x .key))
-      (λ x m. each-get (Keyed bytes t) x (systemIn bytes .transitions) transitions-keyed m) (λ k x p. p)
-      (λ k e c ρ. reasoned-keyed (logAt (systemIn bytes) k) e c ρ)
+      → Each (λ (x : Record). (x .key .letter < t .letters) × Over (systemIn bytes .loc (x .key .letter)) (x .key .before) × Over (systemIn bytes .loc (x .key .letter)) (x .key .after)) (logAt (saturatedIn bytes) k)
+  log-over = each-round (saturatedIn bytes) (λ k x. Keyed bytes t (x .key))
+      (saturated-over bytes t h) (λ k x p. p)
+      (λ k e c ρ. reasoned-keyed (logAt (saturatedIn bytes) k) e c ρ)
 
   -- ---- and so for what a rule adds to the log of a round
   pub candidates-over : (m k : ℕ) → k < t .rules
-      → Each (λ (c : Candidate). Keyed bytes t (c .key)) (map (candidate (systemIn bytes .loc) (ruleIn bytes k) k) (paths (systemIn bytes .loc) (logAt (systemIn bytes) m) (ruleIn bytes k .written) (ruleIn bytes k .after)))
+      → Each (λ (c : Candidate). Keyed bytes t (c .key)) (map (candidate (systemIn bytes .loc) (ruleIn bytes k) k) (paths (systemIn bytes .loc) (logAt (saturatedIn bytes) m) (ruleIn bytes k .written) (ruleIn bytes k .after)))
   candidates-over m k l = each-of-map (λ (c : Candidate). Keyed bytes t (c .key)) (candidate (systemIn bytes .loc) (ruleIn bytes k) k) found
-      (each-map (IsPath (systemIn bytes .loc) (logAt (systemIn bytes) m) (ruleIn bytes k .written) (ruleIn bytes k .after)) (λ (p : Path). Keyed bytes t (candidate (systemIn bytes .loc) (ruleIn bytes k) k p .key))
-      (λ p q. reasoned-keyed (logAt (systemIn bytes) m) (log-over m) (candidate (systemIn bytes .loc) (ruleIn bytes k) k p) (record { rule = ruleIn bytes k; is = rule-elem bytes t h k l; end = p .end; is-path = q; key-is = refl }))
-      found (paths-sound (systemIn bytes .loc) (logAt (systemIn bytes) m) (ruleIn bytes k .written) (ruleIn bytes k .after)))
+      (each-map (IsPath (systemIn bytes .loc) (logAt (saturatedIn bytes) m) (ruleIn bytes k .written) (ruleIn bytes k .after)) (λ (p : Path). Keyed bytes t (candidate (systemIn bytes .loc) (ruleIn bytes k) k p .key))
+      (λ p q. reasoned-keyed (logAt (saturatedIn bytes) m) (log-over m) (candidate (systemIn bytes .loc) (ruleIn bytes k) k p) (record { rule = ruleIn bytes k; is = rule-elem bytes t h k l; end = p .end; is-path = q; key-is = refl }))
+      found (paths-sound (systemIn bytes .loc) (logAt (saturatedIn bytes) m) (ruleIn bytes k .written) (ruleIn bytes k .after)))
     where
       found : List Path
-      found = paths (systemIn bytes .loc) (logAt (systemIn bytes) m) (ruleIn bytes k .written) (ruleIn bytes k .after)
+      found = paths (systemIn bytes .loc) (logAt (saturatedIn bytes) m) (ruleIn bytes k .written) (ruleIn bytes k .after)
 
   -- ---- numbers
-  numbers-added : (k : ℕ) (c : Candidate) → Reasoned (systemIn bytes) (logAt (systemIn bytes) k) c → NumbersFit (systemIn bytes) (suc k) (addedRecord (suc k) (logAt (systemIn bytes) k) c)
+  numbers-added : (k : ℕ) (c : Candidate) → Reasoned (saturatedIn bytes) (logAt (saturatedIn bytes) k) c → NumbersFit (saturatedIn bytes) (suc k) (addedRecord (suc k) (logAt (saturatedIn bytes) k) c)
   numbers-added k c ρ =
       let p = rule-number bytes t h (c .rule) (ρ .rule) (ρ .is) in
       let few : length (ρ .rule .written) ≤ writtenPlaces = subst (λ (r : Rule). length (r .written) ≤ writtenPlaces) (p .1) (written-few bytes t h (c .rule) (p .0)) in
@@ -134,29 +129,29 @@ module _ (bytes : List ℕ) (t : Table) (h : Holds bytes t) where
         round = le-refl (suc k);
         rule = omega (arith, p .0, table-modest bytes t h .rules);
         short = subst (λ (n : ℕ). n ≤ writtenPlaces) (sym (path-length (ρ .is-path))) few;
-        path = each-less (length (logAt (systemIn bytes) k)) (length (logAt (systemIn bytes) (suc k))) (c .path) (omega (arith, length-suc (systemIn bytes) k)) (ρ .is-path .inside);
-        steps = capped (1 + sumOver (λ m. recordAt (logAt (systemIn bytes) k) m .steps) (c .path));
+        path = each-less (length (logAt (saturatedIn bytes) k)) (length (logAt (saturatedIn bytes) (suc k))) (c .path) (omega (arith, length-suc (saturatedIn bytes) k)) (ρ .is-path .inside);
+        steps = capped (1 + sumOver (λ m. recordAt (logAt (saturatedIn bytes) k) m .steps) (c .path));
       }
     where
       capped : (n : ℕ) → min n stepsCap ≤ stepsCap
       capped n = omega arith
 
-  pub log-numbers : (k : ℕ) → Each (NumbersFit (systemIn bytes) k) (logAt (systemIn bytes) k)
-  log-numbers = each-round (systemIn bytes) (NumbersFit (systemIn bytes))
+  pub log-numbers : (k : ℕ) → Each (NumbersFit (saturatedIn bytes) k) (logAt (saturatedIn bytes) k)
+  log-numbers = each-round (saturatedIn bytes) (NumbersFit (saturatedIn bytes))
       (λ x m. record { round = zero-le; rule = omega arith; short = zero-le; path = tt; steps = zero-le })
       (λ k x n. record {
         round = omega (arith, n .round);
         rule = n .rule;
         short = n .short;
-        path = each-less (length (logAt (systemIn bytes) k)) (length (logAt (systemIn bytes) (suc k))) (x .path) (omega (arith, length-suc (systemIn bytes) k)) (n .path);
+        path = each-less (length (logAt (saturatedIn bytes) k)) (length (logAt (saturatedIn bytes) (suc k))) (x .path) (omega (arith, length-suc (saturatedIn bytes) k)) (n .path);
         steps = n .steps;
       })
       (λ k e c ρ. numbers-added k c ρ)
 
-  pub log-fits : (k : ℕ) → k ≤ 65535 → length (logAt (systemIn bytes) k) ≤ 65535 → Each Fits (logAt (systemIn bytes) k)
-  log-fits k l s = each-both (λ (x : Record). Keyed bytes t (x .key)) (NumbersFit (systemIn bytes) k) Fits one (logAt (systemIn bytes) k) (log-over k) (log-numbers k)
+  pub log-fits : (k : ℕ) → k ≤ 65535 → length (logAt (saturatedIn bytes) k) ≤ 65535 → Each Fits (logAt (saturatedIn bytes) k)
+  log-fits k l s = each-both (λ (x : Record). Keyed bytes t (x .key)) (NumbersFit (saturatedIn bytes) k) Fits one (logAt (saturatedIn bytes) k) (log-over k) (log-numbers k)
     where
-      one : (x : Record) → Keyed bytes t (x .key) → NumbersFit (systemIn bytes) k x → Fits x
+      one : (x : Record) → Keyed bytes t (x .key) → NumbersFit (saturatedIn bytes) k x → Fits x
       one x q n = record {
         letter = omega (arith, q .0, table-modest bytes t h .letters);
         before = over-byte (systemIn bytes .loc (x .key .letter)) (x .key .before) (q .1);
@@ -164,25 +159,25 @@ module _ (bytes : List ℕ) (t : Table) (h : Holds bytes t) where
         round = omega (arith, n .round);
         rule = n .rule;
         short = n .short;
-        path = each-less (length (logAt (systemIn bytes) k)) 65536 (x .path) (omega arith) (n .path);
+        path = each-less (length (logAt (saturatedIn bytes) k)) 65536 (x .path) (omega arith) (n .path);
         steps = omega (arith, n .steps);
       }
 
   -- ---- a step of a search: by a record on a written letter, states of the rule's processes become such states
-  pub step-over : (k : ℕ) → k < t .rules → (a : ℕ) → List·Memᴰ a (ruleIn bytes k .written) → (m : ℕ) (x : Record) → List·Memᴰ x (logAt (systemIn bytes) m) → x .key .letter ≡ a
+  pub step-over : (k : ℕ) → k < t .rules → (a : ℕ) → List·Memᴰ a (ruleIn bytes k .written) → (m : ℕ) (x : Record) → List·Memᴰ x (logAt (saturatedIn bytes) m) → x .key .letter ≡ a
       → (g : Group) → Over (systemIn bytes .loc (ruleIn bytes k .letter)) g → Over (systemIn bytes .loc (ruleIn bytes k .letter)) (merge (systemIn bytes .loc a) (x .key .after) g)
   step-over k l a i m x j e g o =
       let L = systemIn bytes .loc (ruleIn bytes k .letter) in
       let w = each-get (λ (b : ℕ). (b < t .letters) × Within (systemIn bytes .loc b) L) a (ruleIn bytes k .written) (rule-written bytes t h k l) i in
-      let q = each-get (λ (y : Record). Keyed bytes t (y .key)) x (logAt (systemIn bytes) m) (log-over m) j in
+      let q = each-get (λ (y : Record). Keyed bytes t (y .key)) x (logAt (saturatedIn bytes) m) (log-over m) j in
       merge-over L (systemIn bytes .loc a) (x .key .after) g (w .1) (subst (λ (b : ℕ). Over (systemIn bytes .loc b) (x .key .after)) e (q .2)) o
 
   -- the same by the place of the letter and the number of the record
-  pub step-over-at : (k : ℕ) → k < t .rules → (j : ℕ) → j < length (ruleIn bytes k .written) → (m n : ℕ) → n < length (logAt (systemIn bytes) m)
-      → recordAt (logAt (systemIn bytes) m) n .key .letter ≡ getD (ruleIn bytes k .written) j 0 → (g : Group) → Over (systemIn bytes .loc (ruleIn bytes k .letter)) g
-      → Over (systemIn bytes .loc (ruleIn bytes k .letter)) (merge (systemIn bytes .loc (getD (ruleIn bytes k .written) j 0)) (recordAt (logAt (systemIn bytes) m) n .key .after) g)
+  pub step-over-at : (k : ℕ) → k < t .rules → (j : ℕ) → j < length (ruleIn bytes k .written) → (m n : ℕ) → n < length (logAt (saturatedIn bytes) m)
+      → recordAt (logAt (saturatedIn bytes) m) n .key .letter ≡ getD (ruleIn bytes k .written) j 0 → (g : Group) → Over (systemIn bytes .loc (ruleIn bytes k .letter)) g
+      → Over (systemIn bytes .loc (ruleIn bytes k .letter)) (merge (systemIn bytes .loc (getD (ruleIn bytes k .written) j 0)) (recordAt (logAt (saturatedIn bytes) m) n .key .after) g)
   step-over-at k l j s m n b e g o =
-      step-over k l (getD (ruleIn bytes k .written) j 0) (getD-mem (ruleIn bytes k .written) j 0 s) m (recordAt (logAt (systemIn bytes) m) n) (getD-mem (logAt (systemIn bytes) m) n noRecord b) e g o
+      step-over k l (getD (ruleIn bytes k .written) j 0) (getD-mem (ruleIn bytes k .written) j 0 s) m (recordAt (logAt (saturatedIn bytes) m) n) (getD-mem (logAt (saturatedIn bytes) m) n noRecord b) e g o
 
 -- ---- rules that a round may skip
 -- from round 2 on: none of the written letters got a record in the round before

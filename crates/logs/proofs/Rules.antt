@@ -16,19 +16,21 @@ use Rattle.model.specs.Groups.{Process, Processes, Within, has, restrict}
 use Rattle.model.specs.Automata.{Transition}
 use Rattle.model.specs.Lists.{Each}
 use Rattle.model.specs.Log.{keyDigits}
-use Rattle.model.specs.Systems.{Rule}
+use Rattle.model.specs.Systems.{InAutomaton, Rule}
 use Rattle.model.specs.Tables.{Item, bodies, controlsOf, isTwin, ruleOf, sameBytes, statesOf, systemOf, transitionOf}
 use Rattle.model.proofs.Groups.{at-restrict, ext}
 use Rattle.model.proofs.Lists.{Distinct, any-of, distinct-append, each-both, each-get}
 use Rattle.model.proofs.CheckedItems.{Checked, none-yet, one-more, Complete, Passes, bodies-more}
-use Rattle.model.proofs.FittingItems.{Fitting, RuleFits, TransitionFits, rules-fit, transitions-fit}
-use Rattle.model.proofs.AcceptedTables.{accepted-well-formed}
+use Rattle.model.proofs.FittingItems.{Fitting, RuleFits, rules-fit}
+use Rattle.model.proofs.AcceptedTables.{accepted-cooperating, accepted-copyable}
+use Rattle.model.proofs.CopiedTables.{saturated-copyable, saturated-eight, saturated-letter}
+use Rattle.model.proofs.Copies.{with-copy-distinct}
 use Rattle.model.proofs.Tests.{by-test, and-both}
 use Rattle.automaton.specs.StateNumbers.{Over}
 use Rattle.table.specs.declared.Table.{Table}
-use Rattle.table.specs.Reading.{Holds, itemsIn, systemIn, ruleIn, transitionIn}
+use Rattle.table.specs.Reading.{Holds, itemsIn, saturatedIn, systemIn, ruleIn}
 use Rattle.table.proofs.Readings.{holds-complete}
-use Rattle.table.proofs.Layouts.{body-in, body-size, count-in, rule-letter-in, rules-count, transition-letter-in, transitions-count, written-letter-in}
+use Rattle.table.proofs.Layouts.{body-in, body-size, count-in, rule-letter-in, rules-count, written-letter-in}
 use Rattle.shapes.proofs.Ranges.{each-place, each-by-place}
 use Rattle.shapes.proofs.Shapes.{loc-within, over-fits, bound-at}
 
@@ -133,24 +135,20 @@ module _ (bytes : List ℕ) (t : Table) (h : Holds bytes t) where
   rule-written k l = each-both (λ (a : ℕ). a < t .letters) (λ (a : ℕ). Within (systemIn bytes .loc a) (systemIn bytes .loc (ruleIn bytes k .letter)))
       (λ (a : ℕ). (a < t .letters) × Within (systemIn bytes .loc a) (systemIn bytes .loc (ruleIn bytes k .letter))) (λ a p q. (p, q)) (ruleIn bytes k .written)
       (each-by-place (λ (a : ℕ). a < t .letters) (ruleIn bytes k .written) (λ j m. written-letter-in bytes t h k j l m))
-      (accepted-well-formed (itemsIn bytes) complete .cooperating .cooperates k (ruleIn bytes k) (rule-elem k l))
+      (accepted-cooperating (itemsIn bytes) complete .cooperates k (ruleIn bytes k) (rule-elem k l))
 
-  -- ---- transitions
-  pub transition-number : (k : ℕ) (x : Transition) → getElem? (systemIn bytes .transitions) k ≡ some x → (k < t .transitions) × (transitionIn bytes k ≡ x)
-  transition-number k x e = let p = elem-place (systemIn bytes .transitions) k (transitionOf []) x e in (omega (arith, p .0, transitions-count bytes t h), p .1)
-
-  transition-fits : (k : ℕ) → k < t .transitions → (P : Transition → Type 0) → ((body : List ℕ) → TransitionFits (bodies 1 (itemsIn bytes)) (bodies 2 (itemsIn bytes)) body → P (transitionOf body)) → P (transitionIn bytes k)
+  -- ---- the transitions of the automaton that is saturated
+  pub saturated-over : (x : Transition) → InAutomaton (saturatedIn bytes) x → (x .letter < t .letters) × Over (systemIn bytes .loc (x .letter)) (x .before) × Over (systemIn bytes .loc (x .letter)) (x .after)
   unfolding systemIn systemOf
-  transition-fits k l P f =
-      let e : transitionIn bytes k ≡ transitionOf (getD (bodies 4 (itemsIn bytes)) k []) = List·getD-map transitionOf (bodies 4 (itemsIn bytes)) k [] in
-      subst P (sym e) (f (getD (bodies 4 (itemsIn bytes)) k [])
-      (each-place (TransitionFits (bodies 1 (itemsIn bytes)) (bodies 2 (itemsIn bytes))) (bodies 4 (itemsIn bytes)) [] k (transitions-fit (complete .checked)) (omega (arith, count-in bytes t h 4 (omega arith)))))
+  saturated-over x m =
+      let f = saturated-copyable (itemsIn bytes) complete .automaton x m in
+      let eight : ((i : Process) → has (systemIn bytes .loc (x .letter)) i ≡ true → saturatedIn bytes .states i ≤ 8) = λ i y. saturated-eight (itemsIn bytes) complete i (f .letter i y) in (
+        omega (arith, saturated-letter (itemsIn bytes) complete x m, count-in bytes t h 2 (omega arith)),
+        record { inside = λ i y. omega (arith, f .before i y, eight i y); outside = f .before-outside },
+        record { inside = λ i y. omega (arith, f .after i y, eight i y); outside = f .after-outside },
+      )
 
-  pub transition-over : (k : ℕ) → k < t .transitions → Over (systemIn bytes .loc (transitionIn bytes k .letter)) (transitionIn bytes k .before) × Over (systemIn bytes .loc (transitionIn bytes k .letter)) (transitionIn bytes k .after)
-  transition-over k l = transition-fits k l (λ (x : Transition). x .letter < t .letters → Over (systemIn bytes .loc (x .letter)) (x .before) × Over (systemIn bytes .loc (x .letter)) (x .after))
-      (λ body f m. over-letter (statesOf (bodies 1 (itemsIn bytes))) (transitionOf body) (λ i n. letter-bound (transitionOf body .letter) m i n .1) (f .fits)) (transition-letter-in bytes t h k l)
-
-  pub transitions-distinct : Distinct (systemIn bytes .transitions)
+  transitions-distinct : Distinct (systemIn bytes .transitions)
   unfolding systemIn systemOf
   transitions-distinct = distinct-transitions (bodies 4 (itemsIn bytes))
       (each-by-elem (λ (body : List ℕ). length body ≡ 9) (bodies 4 (itemsIn bytes)) (λ k body e.
@@ -158,3 +156,7 @@ module _ (bytes : List ℕ) (t : Table) (h : Holds bytes t) where
       let l : k < t .transitions = omega (arith, p .0, count-in bytes t h 4 (omega arith)) in
       subst (λ (b : List ℕ). length b ≡ 9) (sym (body-in bytes t h 4 k [] (omega arith) l) ∙ p .1) (body-size bytes t h 4 k (omega arith) l)))
       (bodies-distinct (complete .checked))
+
+  pub saturated-distinct : Distinct (saturatedIn bytes .transitions)
+  unfolding systemIn
+  saturated-distinct = with-copy-distinct (systemIn bytes) (accepted-copyable (itemsIn bytes) complete) transitions-distinct

@@ -1,59 +1,44 @@
--- The system of an accepted table meets what the theorems ask of it.
+-- The system of an accepted table is cooperating, starts in control states, and meets what the copy asks of it.
 use mathlib.Core.Path.{_≡_, refl}
-use mathlib.Core.Bool.{_&&_, _||_, false, not, true}
+use mathlib.Core.Bool.{_&&_, _||_, true}
 use mathlib.Core.Logic.{_≢_}
 use mathlib.Core.Option.{some}
 use mathlib.Core.List.{List, [], _∷_}
-use Prim.Native.Nat.{_<_, _^_, _≤_, suc, zero, ℕ}
+use Prim.Native.Nat.{_<_, _^_, _≤_, ℕ}
 use native.Mathlib.Omega.{arith}
 use native.Mathlib.Nat.{not-suc-le-zero}
-use lib.Dec.{eqb, leb, ltb}
+use lib.Dec.{eqb, ltb}
 use lib.ListN.{getD, getElem?, length}
-use borrow.Author.Tests.{eqb-false, leb-true, ltb-false}
+use borrow.Author.Tests.{eqb-false}
 use Rattle.model.specs.declared.Group.{Group}
 use Rattle.model.specs.Automata.{Transition}
-use Rattle.model.specs.Groups.{Process, Processes, Within, at, every, has, p0, p1, p2, p3}
+use Rattle.model.specs.Groups.{Process, Processes, Within, has, withinTest}
 use Rattle.model.specs.Lists.{Each}
-use Rattle.model.specs.Systems.{InAutomaton, Rule, System}
-use Rattle.model.specs.Tables.{Item, absent, bodies, byteOf, controlsOf, cooperates, count, groupFits, groupOf, isOutOfTurn, lastKind, leavesControl, locOf, present, ruleOf, statesOf, systemOf, transitionOf}
+use Rattle.model.specs.Systems.{Accepting, InAutomaton, Rule}
+use Rattle.model.specs.Tables.{Item, absent, bodies, byteOf, controlsOf, cooperates, count, groupFits, groupOf, isOutOfTurn, lastKind, locOf, numberOf, present, ruleOf, statesOf, systemOf, transitionOf}
 use Rattle.model.specs.Words.{Located}
-use Rattle.model.proofs.Limit.{ByteSystem, ByteTransition}
-use Rattle.model.proofs.Lists.{all-each, each-elem, each-get, each-map, each-of-map}
-use Rattle.model.proofs.Paths.{Inside}
-use Rattle.model.proofs.Reachability.{WellFormed}
-use Rattle.model.proofs.Soundness.{Control, ControlOn, Leaves}
-use Rattle.model.proofs.Tests.{by-test, every-at, implies, or-right}
 use Rattle.model.proofs.CheckedItems.{Complete, count-ceiling}
-use Rattle.model.proofs.FittingItems.{Fitting, RuleFits, TransitionFits, controls-small, fits-at, fits-byte, fits-outside, letter-fits, located-by, power-small, rules-fit, start-fits, states-small, transitions-fit}
+use Rattle.model.proofs.Copies.{Copyable, StatesFit}
+use Rattle.model.proofs.FittingItems.{RuleFits, TransitionFits, accepting-fit, fits-at, fits-outside, letter-fits, located-by, power-small, rules-fit, start-fits, transitions-fit}
+use Rattle.model.proofs.Lists.{all-each, each-elem, each-get, each-map, each-of-map}
+use Rattle.model.proofs.Mixtures.{test-within}
+use Rattle.model.proofs.Paths.{Inside}
+use Rattle.model.proofs.Soundness.{Control, ControlOn, Cooperating}
+use Rattle.model.proofs.TableProcesses.{controls-states, lacking, letter-present}
+use Rattle.model.proofs.Tests.{by-test, or-right}
 
--- the items, once opened, as they stand in the system
+-- the written letters of a rule, once opened
 cooperates-inside : (loc : ℕ → Processes) (r : Rule) → cooperates loc r ≡ true → Inside loc (loc (r .letter)) (r .written)
 unfolding cooperates
-cooperates-inside loc r e =
-    each-map (λ (a : ℕ). every (λ i. not (has (loc a) i) || has (loc (r .letter)) i) ≡ true) (λ (a : ℕ). Within (loc a) (loc (r .letter)))
-    (λ a t i m. implies (has (loc a) i) (has (loc (r .letter)) i) (every-at (λ j. not (has (loc a) j) || has (loc (r .letter)) j) t i) m)
-    (r .written) (all-each (λ a. every (λ i. not (has (loc a) i) || has (loc (r .letter)) i)) (r .written) e)
-
-leaves-control : (sys : System) (t : Transition) → leavesControl (sys .loc) (sys .controls) t ≡ true → Leaves sys t
-unfolding leavesControl
-leaves-control sys t e i m =
-    leb-true (sys .controls i) (at (t .after) i) (implies (has (sys .loc (t .letter)) i) (leb (sys .controls i) (at (t .after) i)) (every-at (λ j. not (has (sys .loc (t .letter)) j) || leb (sys .controls j) (at (t .after) j)) e i) m)
-
-lacking : (ps : List (List ℕ)) (n : ℕ) → length ps ≤ n → byteOf (getD ps n absent) 0 ≡ 256
-lacking [] n h = refl
-lacking (body ∷ ps) zero h = absurd (not-suc-le-zero h)
-lacking (body ∷ ps) (suc n) h = lacking ps n (omega arith)
+cooperates-inside loc r e = each-map (λ (a : ℕ). withinTest (loc a) (loc (r .letter)) ≡ true) (λ (a : ℕ). Within (loc a) (loc (r .letter))) (λ a t. test-within (loc a) (loc (r .letter)) t)
+    (r .written) (all-each (λ a. withinTest (loc a) (loc (r .letter))) (r .written) e)
 
 -- a process that the table lacks has its one state, 255, below 256
-present-or-absent : (ps : List (List ℕ)) (i : Process) → has (present ps) i ≡ false → controlsOf ps i ≡ 256
-present-or-absent ps p0 n = lacking ps 0 (ltb-false 0 (length ps) n)
-present-or-absent ps p1 n = lacking ps 1 (ltb-false 1 (length ps) n)
-present-or-absent ps p2 n = lacking ps 2 (ltb-false 2 (length ps) n)
-present-or-absent ps p3 n = lacking ps 3 (ltb-false 3 (length ps) n)
-
-control-start : (ps : List (List ℕ)) (g : Group) → groupFits (present ps) (controlsOf ps) g ≡ true → Control (controlsOf ps) g
-control-start ps g e i = by-test (has (present ps) i) (fits-at (present ps) (controlsOf ps) g e i)
-    (λ n. let state : at g i ≡ 255 = fits-outside (present ps) (controlsOf ps) g e i n in let bound : controlsOf ps i ≡ 256 = present-or-absent ps i n in omega arith)
+fits-everywhere : (field : ℕ) → byteOf absent field ≡ 256 → (ps : List (List ℕ)) (g : Group) → groupFits (present ps) (λ i. byteOf (getD ps (numberOf i) absent) field) g ≡ true
+    → Control (λ i. byteOf (getD ps (numberOf i) absent) field) g
+fits-everywhere field is ps g e i =
+    let bound : Process → ℕ = λ i. byteOf (getD ps (numberOf i) absent) field in
+    by-test (has (present ps) i) (fits-at (present ps) bound g e i) (λ n. omega (arith, fits-outside (present ps) bound g e i n, lacking field is ps i n))
 
 module _ (items : List Item) (c : Complete items) where
   checked-rules : Each (λ (body : List ℕ). RuleFits (bodies 1 items) (bodies 2 items) body) (bodies 3 items)
@@ -71,42 +56,49 @@ module _ (items : List Item) (c : Complete items) where
   rule-has P f n r is = each-elem P (systemOf items .rules)
       (each-of-map P ruleOf (bodies 3 items) (each-map (RuleFits (bodies 1 items) (bodies 2 items)) (λ (body : List ℕ). P (ruleOf body)) f (bodies 3 items) checked-rules)) n r is
 
-  transition-has : (P : Transition → Type 0) → ((body : List ℕ) → TransitionFits (bodies 1 items) (bodies 2 items) body → P (transitionOf body)) → (t : Transition) → InAutomaton (systemOf items) t → P t
+  pub transition-has : (P : Transition → Type 0) → ((body : List ℕ) → TransitionFits (bodies 1 items) (bodies 2 items) body → P (transitionOf body)) → (t : Transition) → InAutomaton (systemOf items) t → P t
   unfolding systemOf
   transition-has P f t m = each-get P t (systemOf items .transitions)
       (each-of-map P transitionOf (bodies 4 items) (each-map (TransitionFits (bodies 1 items) (bodies 2 items)) (λ (body : List ℕ). P (transitionOf body)) f (bodies 4 items) (transitions-fit (c .checked)))) m
 
-  pub accepted-well-formed : WellFormed (systemOf items)
+  pub accepted-cooperating : Cooperating (systemOf items)
   unfolding systemOf
-  accepted-well-formed = record {
-    cooperating = record {
-      located = letters-located;
-      cooperates = rule-has (λ (r : Rule). Inside (systemOf items .loc) (systemOf items .loc (r .letter)) (r .written)) (λ body f. cooperates-inside (systemOf items .loc) (ruleOf body) (f .cooperative));
-      rules-control = rule-has (λ (r : Rule). ControlOn (systemOf items .controls) (systemOf items .loc (r .letter)) (r .before) × ControlOn (systemOf items .controls) (systemOf items .loc (r .letter)) (r .after))
-          (λ body f. (
-            fits-at (locOf (bodies 2 items) (byteOf body 0)) (controlsOf (bodies 1 items)) (groupOf body 1) (f .fits .before),
-            fits-at (locOf (bodies 2 items) (byteOf body 0)) (controlsOf (bodies 1 items)) (groupOf body 5) (f .fits .after),
-          ));
+  accepted-cooperating = record {
+    located = letters-located;
+    cooperates = rule-has (λ (r : Rule). Inside (systemOf items .loc) (systemOf items .loc (r .letter)) (r .written)) (λ body f. cooperates-inside (systemOf items .loc) (ruleOf body) (f .cooperative));
+    rules-control = rule-has (λ (r : Rule). ControlOn (systemOf items .controls) (systemOf items .loc (r .letter)) (r .before) × ControlOn (systemOf items .controls) (systemOf items .loc (r .letter)) (r .after))
+        (λ body f. (
+          fits-at (locOf (bodies 2 items) (byteOf body 0)) (controlsOf (bodies 1 items)) (groupOf body 1) (f .fits .before),
+          fits-at (locOf (bodies 2 items) (byteOf body 0)) (controlsOf (bodies 1 items)) (groupOf body 5) (f .fits .after),
+        ));
+  }
+
+  accepting-fits : (g : Group) → Accepting (systemOf items) g → groupFits (present (bodies 1 items)) (statesOf (bodies 1 items)) g ≡ true
+  unfolding systemOf
+  accepting-fits g m = each-get (λ (g : Group). groupFits (present (bodies 1 items)) (statesOf (bodies 1 items)) g ≡ true) g (systemOf items .accepting)
+      (each-of-map (λ (g : Group). groupFits (present (bodies 1 items)) (statesOf (bodies 1 items)) g ≡ true) (λ body. groupOf body 0) (bodies 5 items) (accepting-fit (c .checked))) m
+
+  -- its states are as the copy asks
+  pub accepted-copyable : Copyable (systemOf items)
+  unfolding systemOf
+  accepted-copyable = record {
+    controls = controls-states (c .checked);
+    automaton = transition-has (StatesFit (systemOf items)) (λ body f. record {
+      letter = letter-present (c .checked) (byteOf body 0) (f .fits .letter);
+      before = fits-at (locOf (bodies 2 items) (byteOf body 0)) (statesOf (bodies 1 items)) (groupOf body 1) (f .fits .before);
+      before-outside = fits-outside (locOf (bodies 2 items) (byteOf body 0)) (statesOf (bodies 1 items)) (groupOf body 1) (f .fits .before);
+      after = fits-at (locOf (bodies 2 items) (byteOf body 0)) (statesOf (bodies 1 items)) (groupOf body 5) (f .fits .after);
+      after-outside = fits-outside (locOf (bodies 2 items) (byteOf body 0)) (statesOf (bodies 1 items)) (groupOf body 5) (f .fits .after);
+    });
+    accepting = λ g m. record {
+      states = fits-everywhere 1 refl (bodies 1 items) g (accepting-fits g m);
+      outside = fits-outside (present (bodies 1 items)) (statesOf (bodies 1 items)) g (accepting-fits g m);
     };
-    no-entry = transition-has (Leaves (systemOf items)) (λ body f. leaves-control (systemOf items) (transitionOf body) (f .leaving));
-  }
-
-  fits-bytes : (bound : Process → ℕ) → ((i : Process) → bound i ≤ 256) → (t : Transition) → Fitting (bodies 2 items) bound t → ByteTransition t
-  fits-bytes bound small t f = record {
-    letter = let low : t .letter < length (bodies 2 items) = f .letter in let top : length (bodies 2 items) ≤ 32 = count-ceiling 2 (c .checked) in omega arith;
-    before = fits-byte (locOf (bodies 2 items) (t .letter)) bound (t .before) small (f .before);
-    after = fits-byte (locOf (bodies 2 items) (t .letter)) bound (t .after) small (f .after);
-  }
-
-  pub accepted-bytes : ByteSystem (systemOf items)
-  accepted-bytes = record {
-    rules = rule-has (λ (r : Rule). ByteTransition (record { letter = r .letter; before = r .before; after = r .after })) (λ body f. fits-bytes (controlsOf (bodies 1 items)) (controls-small (c .checked)) (transitionOf body) (f .fits));
-    automaton = transition-has ByteTransition (λ body f. fits-bytes (statesOf (bodies 1 items)) (states-small (c .checked)) (transitionOf body) (f .fits));
   }
 
   pub accepted-control : Control (systemOf items .controls) (systemOf items .start .states)
   unfolding systemOf isOutOfTurn
-  accepted-control = control-start (bodies 1 items) (groupOf (getD (bodies 6 items) 0 []) 0) (first (bodies 6 items) (start-fits (c .checked)) started)
+  accepted-control = fits-everywhere 0 refl (bodies 1 items) (groupOf (getD (bodies 6 items) 0 []) 0) (first (bodies 6 items) (start-fits (c .checked)) started)
     where
       started : 0 < count 6 items
       started =

@@ -11,7 +11,7 @@ use lib.ListN.{drop, length, length-append, take}
 use borrow.Author.Tests.{eq-eqb, eqb-true, leb-false, ltb-false, ne-eqb, not-false}
 use Rattle.model.specs.Groups.{at}
 use Rattle.model.specs.Lists.{Each}
-use Rattle.model.specs.Tables.{Item, Reading, accepted, bodies, bodyLength, ceiling, controlsOf, cooperates, count, ending, isOutOfTurn, isStranger, isTwin, lastKind, leavesControl, locOf, read, readFrom, refusal, ruleOf, transitionOf, unlessRefused, valueFits}
+use Rattle.model.specs.Tables.{Item, Reading, accepted, bodies, bodyLength, ceiling, cooperates, count, ending, isOutOfTurn, isReentry, isStranger, isTwin, lastKind, locOf, read, readFrom, refusal, ruleOf, unlessRefused, valueFits}
 use Rattle.model.proofs.Lists.{each-append, each-map}
 use Rattle.model.proofs.Tests.{by-test}
 
@@ -23,7 +23,7 @@ pub record Passes (items : List Item) (k : ℕ) (body : List ℕ) : Type 0 where
   pub whole : bodyLength k ≤ length body
   pub fits : valueFits (bodies 1 items) (bodies 2 items) k body ≡ true
   pub cooperative : (eqb k 3 && not (cooperates (locOf (bodies 2 items)) (ruleOf body))) ≡ false
-  pub leaving : (eqb k 4 && not (leavesControl (locOf (bodies 2 items)) (controlsOf (bodies 1 items)) (transitionOf body))) ≡ false
+  pub leaving : isReentry (bodies 1 items) (bodies 2 items) k body ≡ false
   pub single : isTwin items k body ≡ false
 
 record AllFalse (a b c d e f g h : Bool) : Type 0 where
@@ -51,7 +51,7 @@ pub passes : (items : List Item) (k : ℕ) (body : List ℕ) → refusal items k
 unfolding refusal
 passes items k body z =
     let p = all-false (isStranger k) (isOutOfTurn items k) (leb (ceiling k) (count k items)) (ltb (length body) (bodyLength k)) (not (valueFits (bodies 1 items) (bodies 2 items) k body))
-    (eqb k 3 && not (cooperates (locOf (bodies 2 items)) (ruleOf body))) (eqb k 4 && not (leavesControl (locOf (bodies 2 items)) (controlsOf (bodies 1 items)) (transitionOf body))) (isTwin items k body) z in
+    (eqb k 3 && not (cooperates (locOf (bodies 2 items)) (ruleOf body))) (isReentry (bodies 1 items) (bodies 2 items) k body) (isTwin items k body) z in
     record {
       kind = p .t2;
       turn = p .t3;

@@ -1,33 +1,23 @@
 -- What check 5 shows of the items of each kind: their letters and groups fit the processes and letters of the table.
-use mathlib.Core.Path.{_≡_}
-use mathlib.Core.Bool.{_&&_, cond, false, true}
+use mathlib.Core.Path.{_∙_, _≡_, refl, sym}
+use mathlib.Core.Bool.{Bool, _&&_, cond, false, not, true}
 use mathlib.Core.Logic.{_≢_}
 use mathlib.Core.List.{List, [], _∷_}
 use Prim.Native.Nat.{_%_, _/_, _<_, _^_, _≤_, suc, zero, ℕ}
 use native.Mathlib.Omega.{arith}
 use lib.Dec.{eqb, leb, ltb}
-use lib.ListN.{drop, getD, length}
+use lib.ListN.{drop, length}
 use borrow.Author.Tests.{eq-eqb, eqb-false, eqb-true, leb-true, ltb-true, not-false}
 use Rattle.model.specs.declared.Group.{Group}
 use Rattle.model.specs.Automata.{Transition}
+use Rattle.model.specs.Copies.{leavesControl}
 use Rattle.model.specs.Groups.{Process, Processes, at, has, p0, p1, p2, p3, processesOf}
 use Rattle.model.specs.Lists.{Each}
-use Rattle.model.specs.Tables.{Item, absent, bodies, byteOf, controlsOf, cooperates, groupFits, groupOf, leavesControl, locOf, numberOf, present, ruleOf, statesOf, transitionFits, transitionOf, valueFits, writtenFit}
+use Rattle.model.specs.Tables.{Item, bodies, byteOf, controlsOf, cooperates, groupFits, groupOf, isNarrow, isReentry, locOf, present, ruleOf, statesOf, transitionFits, transitionOf, valueFits, writtenFit}
 use Rattle.model.specs.Words.{Located}
 use Rattle.model.proofs.Limit.{ByteGroup}
-use Rattle.model.proofs.Lists.{each-map}
 use Rattle.model.proofs.Tests.{and-left, and-right, by-test, every-at}
 use Rattle.model.proofs.CheckedItems.{Checked, Passes, bodies-later, each-of-kind, shown-of-kind}
-
-process-fits : {items : List Item} → Checked items → Each (λ (body : List ℕ). byteOf body 0 ≤ 8 × byteOf body 1 ≤ 8) (bodies 1 items)
-unfolding valueFits
-process-fits c = each-of-kind 1 (λ items body. byteOf body 0 ≤ 8 × byteOf body 1 ≤ 8) (λ items x body l q. q) bound c
-  where
-    bound : (items : List Item) (body : List ℕ) → Passes items 1 body → byteOf body 0 ≤ 8 × byteOf body 1 ≤ 8
-    bound items body p =
-        let small : byteOf body 1 ≤ 8 = leb-true (byteOf body 1) 8 (and-right (leb 1 (byteOf body 0) && leb (byteOf body 0) (byteOf body 1)) (leb (byteOf body 1) 8) (p .fits)) in
-        let less : byteOf body 0 ≤ byteOf body 1 = leb-true (byteOf body 0) (byteOf body 1) (and-right (leb 1 (byteOf body 0)) (leb (byteOf body 0) (byteOf body 1)) (and-left (leb 1 (byteOf body 0) && leb (byteOf body 0) (byteOf body 1)) (leb (byteOf body 1) 8) (p .fits))) in
-        (omega arith, small)
 
 pub letter-fits : {items : List Item} → Checked items → Each (λ (body : List ℕ). 1 ≤ byteOf body 0 × byteOf body 0 < 2 ^ length (bodies 1 items)) (bodies 2 items)
 unfolding valueFits
@@ -95,19 +85,6 @@ located-by [] e a = some-process 15 (omega arith) (omega arith)
 located-by (body ∷ ls) e zero = some-process (byteOf body 0) (e .0 .0) (e .0 .1)
 located-by (body ∷ ls) e (suc a) = located-by ls (e .1) a
 
-bounds-small : (j : ℕ) → byteOf absent j ≤ 256 → (ps : List (List ℕ)) → Each (λ (body : List ℕ). byteOf body j ≤ 8) ps → (n : ℕ) → byteOf (getD ps n absent) j ≤ 256
-bounds-small j a [] e n = a
-bounds-small j a (body ∷ ps) e zero = let low : byteOf body j ≤ 8 = e .0 in omega arith
-bounds-small j a (body ∷ ps) e (suc n) = bounds-small j a ps (e .1) n
-
-pub controls-small : {items : List Item} → Checked items → (i : Process) → controlsOf (bodies 1 items) i ≤ 256
-controls-small {items} c i = bounds-small 0 (omega arith) (bodies 1 items)
-    (each-map (λ (body : List ℕ). byteOf body 0 ≤ 8 × byteOf body 1 ≤ 8) (λ (body : List ℕ). byteOf body 0 ≤ 8) (λ body b. b .0) (bodies 1 items) (process-fits c)) (numberOf i)
-
-pub states-small : {items : List Item} → Checked items → (i : Process) → statesOf (bodies 1 items) i ≤ 256
-states-small {items} c i = bounds-small 1 (omega arith) (bodies 1 items)
-    (each-map (λ (body : List ℕ). byteOf body 0 ≤ 8 × byteOf body 1 ≤ 8) (λ (body : List ℕ). byteOf body 1 ≤ 8) (λ body b. b .1) (bodies 1 items) (process-fits c)) (numberOf i)
-
 -- rules: letters, groups, written letters, cooperation
 pub record RuleFits (ps ls : List (List ℕ)) (body : List ℕ) : Type 0 where
   pub fits : Fitting ls (controlsOf ps) (transitionOf body)
@@ -122,17 +99,21 @@ rules-fit c = shown-of-kind 3 (omega arith) RuleFits (λ items body p. record {
   cooperative = not-false (cooperates (locOf (bodies 2 items)) (ruleOf body)) (p .cooperative);
 }) c
 
--- transitions: letters, groups, no control state entered
+-- transitions: letters, groups, no control state entered where a process has more than 4 states
 pub record TransitionFits (ps ls : List (List ℕ)) (body : List ℕ) : Type 0 where
   pub fits : Fitting ls (statesOf ps) (transitionOf body)
-  pub leaving : leavesControl (locOf ls) (controlsOf ps) (transitionOf body) ≡ true
+  pub leaving : isNarrow ps ≡ false → leavesControl (locOf ls) (controlsOf ps) (transitionOf body) ≡ true
 
 pub transitions-fit : {items : List Item} → Checked items → Each (TransitionFits (bodies 1 items) (bodies 2 items)) (bodies 4 items)
-unfolding valueFits
+unfolding valueFits isReentry
 transitions-fit c = shown-of-kind 4 (omega arith) TransitionFits (λ items body p. record {
   fits = fitting (bodies 2 items) (statesOf (bodies 1 items)) (transitionOf body) (p .fits);
-  leaving = not-false (leavesControl (locOf (bodies 2 items)) (controlsOf (bodies 1 items)) (transitionOf body)) (p .leaving);
+  leaving = λ wide. not-false (leavesControl (locOf (bodies 2 items)) (controlsOf (bodies 1 items)) (transitionOf body)) (or-narrow (not (leavesControl (locOf (bodies 2 items)) (controlsOf (bodies 1 items)) (transitionOf body))) (isNarrow (bodies 1 items)) (p .leaving) wide);
 }) c
+  where
+    or-narrow : (a b : Bool) → (a && not b) ≡ false → b ≡ false → a ≡ false
+    or-narrow true b e w = sym (rw w) ∙ e
+    or-narrow false b e w = refl
 
 pub accepting-fit : {items : List Item} → Checked items → Each (λ (body : List ℕ). groupFits (present (bodies 1 items)) (statesOf (bodies 1 items)) (groupOf body 0) ≡ true) (bodies 5 items)
 unfolding valueFits

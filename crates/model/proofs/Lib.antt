@@ -23,7 +23,12 @@ pub mod Reasons
 pub mod RecordBytes
 pub mod CheckedItems
 pub mod FittingItems
+pub mod TableProcesses
+pub mod ConcatLists
+pub mod Mixtures
+pub mod Copies
 pub mod AcceptedTables
+pub mod CopiedTables
 pub mod AbsentProcesses
 pub mod RefusalNumbers
 pub mod Closing

@@ -3,7 +3,7 @@ use mathlib.Core.Path.{_∙_, _≡_, ap, refl, subst, sym}
 use mathlib.Core.Bool.{Bool, cond, false, false≢true, true, true≢false}
 use mathlib.Core.Logic.{_≢_, ⊎-elim}
 use mathlib.Core.Option.{Option, none, some}
-use mathlib.Core.List.{List, List·Memᴰ, List·Memᴰ·append-cases, List·Memᴰ·cases-cons, List·Memᴰ·head, List·Memᴰ·not-nil, List·Memᴰ·tail, [], _++_, _∷_, map}
+use mathlib.Core.List.{List, List·Memᴰ, List·Memᴰ·append-cases, List·Memᴰ·cases-cons, List·Memᴰ·head, List·Memᴰ·not-nil, List·Memᴰ·tail, Memᴰ·cast, Memᴰ·of-map, [], _++_, _∷_, map}
 use Prim.Native.Nat.{_+_, _<_, _≤_, suc, zero, ℕ}
 use native.Mathlib.Omega.{arith}
 use native.Mathlib.Nat.{not-suc-le-zero}
@@ -98,6 +98,13 @@ distinct-append (x ∷ xs) ys p q f = (
   distinct-append xs ys (p .1) q (λ z m n. f z (List·Memᴰ·tail m) n),
 )
 
+pub distinct-map : {A B : Type 0} (f : A → B) (xs : List A) → ((x y : A) → List·Memᴰ x xs → List·Memᴰ y xs → f x ≡ f y → x ≡ y) → Distinct xs → Distinct (map f xs)
+distinct-map f [] inj d = tt
+distinct-map {A} f (x ∷ xs) inj d = (
+  (λ m. let r = Memᴰ·of-map f xs m in d .0 (Memᴰ·cast (inj x (r .0) (List·Memᴰ·head refl) (List·Memᴰ·tail (r .1)) (sym (r .2))) (r .1))),
+  distinct-map f xs (λ y z m n e. inj y z (List·Memᴰ·tail m) (List·Memᴰ·tail n) e) (d .1),
+)
+
 -- ---- the pigeonhole
 abbrev without : ℕ → List ℕ → List ℕ
 without n [] = []
@@ -145,6 +152,14 @@ each-elem P (y ∷ xs) e (suc n) x is = each-elem P xs (e .1) n x is
 pub all-each : {A : Type 0} (f : A → Bool) (xs : List A) → allOf f xs ≡ true → Each (λ (x : A). f x ≡ true) xs
 all-each f [] e = tt
 all-each f (x ∷ xs) e = (and-left (f x) (allOf f xs) e, all-each f xs (and-right (f x) (allOf f xs) e))
+
+pub each-all : {A : Type 0} (f : A → Bool) (xs : List A) → Each (λ (x : A). f x ≡ true) xs → allOf f xs ≡ true
+each-all f [] e = refl
+each-all f (x ∷ xs) e = rw (e .0) (each-all f xs (e .1))
+
+pub any-false : {A : Type 0} (f : A → Bool) (xs : List A) → anyOf f xs ≡ false → Each (λ (x : A). f x ≡ false) xs
+any-false f [] e = tt
+any-false f (x ∷ xs) e = by-test (f x) (λ y. absurd (true≢false (let bad : true ≡ false = rw y at e in bad))) (λ n. (n, any-false f xs (rw n at e)))
 
 pub any-true : {A : Type 0} (f : A → Bool) (xs : List A) → anyOf f xs ≡ true → (x : A) × List·Memᴰ x xs × (f x ≡ true)
 any-true f [] e = absurd (false≢true e)

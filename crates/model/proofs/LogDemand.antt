@@ -14,7 +14,7 @@ use Rattle.model.specs.Log.{Record, limit, recordAt, saturatedAt}
 use Rattle.model.specs.Records.{keyAt, logBytes, recordLength, roundAt}
 use Rattle.model.specs.Saturation.{Delta}
 use Rattle.model.specs.Systems.{System}
-use Rattle.model.specs.Tables.{Item, Reading, accepted, read, refused, systemOf}
+use Rattle.model.specs.Tables.{Item, Reading, accepted, read, refused, saturatedOf, systemOf}
 use Rattle.model.proofs.Collecting.{number-of}
 use Rattle.model.proofs.Closing.{refusal-changes-nothing}
 use Rattle.model.proofs.Reachability.{held-limit}
@@ -25,10 +25,10 @@ use Rattle.model.proofs.Theorems.{distinct-keys, first-round, limit-add
 use Rattle.model.proofs.Validity.{each-at}
 
 -- ---- a log that begins with the limit's records, and then has zeros
-module _ (table : List ℕ) (items : List Item) (e : read table ≡ accepted items) (buffer log : List ℕ) (is : log ≡ filled (logBytes (limit (systemOf items))) buffer)
-    (few : length (limit (systemOf items)) ≤ capacity (length buffer)) where
+module _ (table : List ℕ) (items : List Item) (e : read table ≡ accepted items) (buffer log : List ℕ) (is : log ≡ filled (logBytes (limit (saturatedOf items))) buffer)
+    (few : length (limit (saturatedOf items)) ≤ capacity (length buffer)) where
   abbrev sys : System
-  sys = systemOf items
+  sys = saturatedOf items
 
   abbrev rest : List ℕ
   rest = replicate (length buffer - length (logBytes (limit sys))) 0
@@ -70,7 +70,7 @@ module _ (table : List ℕ) (items : List Item) (e : read table ≡ accepted ite
 -- ---- what the calls leave
 -- the log of an accepted table, by the number of the refusal, which is none of those that change nothing
 module _ (table log : List ℕ) where
-  finished : (items : List Item) → read table ≡ accepted items → (number : ℕ) → length (limit (systemOf items)) ≤ capacity (length log) → LogHolds table number (logAfter number (recordsOf (read table)) log)
+  finished : (items : List Item) → read table ≡ accepted items → (number : ℕ) → length (limit (saturatedOf items)) ≤ capacity (length log) → LogHolds table number (logAfter number (recordsOf (read table)) log)
   unfolding logAfter recordsOf
   finished items e number few f =
       let quiet : changesNothing number ≡ false = or-left (changesNothing number) (eqb number 10) f in
@@ -91,8 +91,8 @@ answer-log table log scratch = go (read table) refl
     go (refused number place) e = untouched table log number place (logAfter number (recordsOf (read table)) log) e
     go (accepted items) e =
         by-test (ltb (length scratch) (scratchNeeded (length log))) (λ y. rw y (unfinished table log 15 _ refl))
-        (λ n. rw n (by-test (ltb (capacity (length log)) (length (limit (systemOf items)))) (λ y. rw y (unfinished table log 10 _ refl))
-        (λ m. rw m (finished table log items e (answerRefusal (verdict (limit (systemOf items)) (startPath (systemOf items)))) (ltb-false (capacity (length log)) (length (limit (systemOf items))) m)))))
+        (λ n. rw n (by-test (ltb (capacity (length log)) (length (limit (saturatedOf items)))) (λ y. rw y (unfinished table log 10 _ refl))
+        (λ m. rw m (finished table log items e (answerRefusal (verdict (limit (saturatedOf items)) (startPath (saturatedOf items)))) (ltb-false (capacity (length log)) (length (limit (saturatedOf items))) m)))))
 
 pub run-log : (table log scratch page : List ℕ) → LogHolds table (runRefusal (runCall table log scratch page .answer)) (runCall table log scratch page .log)
 unfolding runCall runGiven
@@ -103,5 +103,5 @@ run-log table log scratch page = go (read table) refl
     go (refused number place) e = untouched table log number place (logAfter number (recordsOf (read table)) log) e
     go (accepted items) e =
         by-test (ltb (length scratch) (scratchNeeded (length log))) (λ y. rw y (unfinished table log 15 _ refl))
-        (λ n. rw n (by-test (ltb (capacity (length log)) (length (limit (systemOf items)))) (λ y. rw y (unfinished table log 10 _ refl))
-        (λ m. rw m (finished table log items e (runRefusal (runVerdict (systemOf items) (length page) (startPath (systemOf items)))) (ltb-false (capacity (length log)) (length (limit (systemOf items))) m)))))
+        (λ n. rw n (by-test (ltb (capacity (length log)) (length (limit (saturatedOf items)))) (λ y. rw y (unfinished table log 10 _ refl))
+        (λ m. rw m (finished table log items e (runRefusal (runVerdict (systemOf items) (length page) (startPath (saturatedOf items)))) (ltb-false (capacity (length log)) (length (limit (saturatedOf items))) m)))))

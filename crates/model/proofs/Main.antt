@@ -1,19 +1,27 @@
 -- The mission's demands, of the definitions that the contracts of the calls are equations with: the top statements alone, in their order.
 use mathlib.Core.Path.{_≡_}
 use mathlib.Core.Bool.{false, true}
+use mathlib.Core.Logic.{_↔_}
 use mathlib.Core.Option.{some}
 use mathlib.Core.List.{List, []}
-use Prim.Native.Nat.{ℕ}
+use Prim.Native.Nat.{_<_, _≤_, ℕ}
 use lib.ListN.{getD}
+use Rattle.model.specs.declared.Group.{Group}
+use Rattle.model.specs.Automata.{Transition}
 use Rattle.model.specs.Calls.{answerCall, answerRefusal, changesNothing, runCall, runRefusal, walkCall, walkFigures, walkRefusal, zeros}
+use Rattle.model.specs.Copies.{mixed, reenters}
 use Rattle.model.specs.Demands.{Demand2Walk, Demand3, LogHolds, Tells, TookPart, Writes}
 use Rattle.model.specs.Desks.{Call, Leads, HistoriesLead, deskCalls, noteCalls, opened, unwritten}
-use Rattle.model.specs.Groups.{Process, has}
-use Rattle.model.specs.Systems.{Configuration, PeakIs, System, peak, walk}
-use Rattle.model.specs.Tables.{Item, accepted, bodies, present, read, systemOf}
+use Rattle.model.specs.Groups.{Process, Processes, Within, at, has}
+use Rattle.model.specs.Systems.{Accepted, Accepting, Configuration, InAutomaton, PeakIs, System, peak, walk}
+use Rattle.model.specs.Tables.{Item, accepted, bodies, present, read, saturatedOf, systemOf}
 use Rattle.model.specs.Words.{project}
 use Rattle.model.proofs.AbsentProcesses.{absent-empty}
+use Rattle.model.proofs.AcceptedTables.{accepted-copyable}
+use Rattle.model.proofs.CheckedItems.{read-complete}
 use Rattle.model.proofs.Closing.{answer-closes, run-closes, walk-closes}
+use Rattle.model.proofs.CopiedTables.{accepted-well-formed}
+use Rattle.model.proofs.Copies.{mixed-accepts, own-automaton, same-accepted}
 use Rattle.model.proofs.Demands.{calls-decide}
 use Rattle.model.proofs.Desks.{desk-walks}
 use Rattle.model.proofs.LogDemand.{answer-log, run-log}
@@ -80,3 +88,23 @@ absent-projection = absent-empty
 -- ---- request 2.5: a walk gives for each process the number of steps that it took part in; refused at a step, of those before it
 pub took-part : (table list pile scratch : List ℕ) → let o = walkCall table list pile scratch in TookPart table list (getD (walkFigures (o .answer)) 0 0) (getD (walkFigures (o .answer)) 1 0) (o .counts)
 took-part = walk-counts
+
+-- ---- request 2.6, the copy of Lemma 10: the automaton that is saturated accepts a configuration of control states exactly if the table's own does
+pub lemma-10 : (table : List ℕ) (items : List Item) → read table ≡ accepted items → (c : Configuration) → ((i : Process) → at (c .states) i < systemOf items .controls i)
+    → Accepted (systemOf items) c ↔ Accepted (saturatedOf items) c
+lemma-10 table items e = same-accepted (systemOf items) (accepted-copyable items (read-complete table items e))
+
+-- and none of its transitions enters a control state
+pub enters-no-control : (table : List ℕ) (items : List Item) → read table ≡ accepted items → (t : Transition) → InAutomaton (saturatedOf items) t
+    → (i : Process) → has (systemOf items .loc (t .letter)) i ≡ true → systemOf items .controls i ≤ at (t .after) i
+enters-no-control table items e = accepted-well-formed items (read-complete table items e) .no-entry
+
+-- "A group, plain, copied or mixed, accepts exactly if its plain version does."
+pub accepts-as-plain : (table : List ℕ) (items : List Item) → read table ≡ accepted items → reenters (systemOf items) ≡ true
+    → (M : Processes) (g : Group) → Within M (systemOf items .processes) → ((i : Process) → at g i < systemOf items .states i)
+    → Accepting (saturatedOf items) (mixed (systemOf items .states) M g) ↔ Accepting (systemOf items) g
+accepts-as-plain table items e y M g w low = rw y (mixed-accepts (systemOf items) (accepted-copyable items (read-complete table items e)) M g w low)
+
+-- where no transition of the table enters a control state, the automaton that is saturated is its own
+pub no-copy : (items : List Item) → reenters (systemOf items) ≡ false → saturatedOf items ≡ systemOf items
+no-copy items = own-automaton (systemOf items)

@@ -13,7 +13,7 @@ use Rattle.model.specs.Calls.{answerCall, answerGiven, capacity, isLong,
 use Rattle.model.specs.Demands.{Decided, LogServes, ScratchServes, Tells, Writes}
 use Rattle.model.specs.Log.{Path, limit, rounds}
 use Rattle.model.specs.Systems.{peak}
-use Rattle.model.specs.Tables.{Item, Reading, accepted, read, refused, systemOf}
+use Rattle.model.specs.Tables.{Item, Reading, accepted, read, refused, saturatedOf, systemOf}
 use Rattle.model.specs.Unfolding.{emitted, pathSteps}
 use Rattle.model.proofs.Closing.{refusal-number}
 use Rattle.model.proofs.Demands.{calls-decide, counts-emitted, found-counts, found-joins, none-joins, page-after, take-run}
@@ -23,9 +23,9 @@ use Rattle.model.proofs.Tests.{by-test}
 
 -- ---- the answer call
 module _ (table : List ℕ) (items : List Item) (e : read table ≡ accepted items) where
-  verdict-tells : (o : Option Path) → startPath (systemOf items) ≡ o → Tells table (verdict (limit (systemOf items)) o)
+  verdict-tells : (o : Option Path) → startPath (saturatedOf items) ≡ o → Tells table (verdict (limit (saturatedOf items)) o)
   verdict-tells none q = (items, e, none-joins items (read-complete table items e) q)
-  verdict-tells (some p) q = (items, e, (emitted (limit (systemOf items)) (p .numbers), found-joins items (read-complete table items e) p q))
+  verdict-tells (some p) q = (items, e, (emitted (limit (saturatedOf items)) (p .numbers), found-joins items (read-complete table items e) p q))
 
 pub answer-tells : (table log scratch : List ℕ) → Tells table (answerCall table log scratch .answer)
 unfolding answerCall answerGiven
@@ -35,8 +35,8 @@ answer-tells table log scratch = go (read table) refl
     go (refused number place) e = refusal-number table number place e .0
     go (accepted items) e =
         by-test (ltb (length scratch) (scratchNeeded (length log))) (λ y. rw y (omega arith))
-        (λ n. rw n (by-test (ltb (capacity (length log)) (length (limit (systemOf items)))) (λ y. rw y (omega arith))
-        (λ m. rw m (verdict-tells table items e (startPath (systemOf items)) refl))))
+        (λ n. rw n (by-test (ltb (capacity (length log)) (length (limit (saturatedOf items)))) (λ y. rw y (omega arith))
+        (λ m. rw m (verdict-tells table items e (startPath (saturatedOf items)) refl))))
 
 -- ---- the run call
 module _ (table log scratch page : List ℕ) where
@@ -47,33 +47,33 @@ module _ (table log scratch page : List ℕ) where
   unfolding runCall
   given-is r e = ap (λ (x : Reading). runGiven x (length log) (length scratch) (length page)) e
 
-  module _ (items : List Item) (e : read table ≡ accepted items) (s : ScratchServes log scratch) (l : LogServes (systemOf items) log) where
+  module _ (items : List Item) (e : read table ≡ accepted items) (s : ScratchServes log scratch) (l : LogServes (saturatedOf items) log) where
     decided : Decided (systemOf items) page (answerCall table log scratch .answer) (runCall table log scratch page .answer) (runCall table log scratch page .page)
     decided = calls-decide table log scratch page .decided items e s l
 
     -- a run that was not refused
-    written : (p : Path) → startPath (systemOf items) ≡ some p → (t r n k : ℕ) → runCall table log scratch page .answer ≡ Ran.Reached t r n k → Right (Ran.Reached t r n k)
+    written : (p : Path) → startPath (saturatedOf items) ≡ some p → (t r n k : ℕ) → runCall table log scratch page .answer ≡ Ran.Reached t r n k → Right (Ran.Reached t r n k)
     written p q t r n k is =
-        let count : ℕ = length (emitted (limit (systemOf items)) (p .numbers)) in
-        let counts = found-counts (systemOf items) p q in
+        let count : ℕ = length (emitted (limit (saturatedOf items)) (p .numbers)) in
+        let counts = found-counts (saturatedOf items) p q in
         let given = decided .given count counts (λ long. let bad : Ran.Reached t r n k ≡ Ran.Refused 11 0 = sym is ∙ decided .long count counts .0 long in let z : _≡_ {A = ℕ} 0 1 = cc in omega arith) in
         let same = reached-same (sym is ∙ given .0) in
-        let run : List ℕ = emitted (limit (systemOf items)) (p .numbers) in
+        let run : List ℕ = emitted (limit (saturatedOf items)) (p .numbers) in
         let on-page : take n (runCall table log scratch page .page) ≡ run =
         ap (λ (m : ℕ). take m (runCall table log scratch page .page)) (same .0) ∙ ap (take count) (page-after table log scratch items e s page p q (ap runRefusal is)) ∙ take-run run page in
         let high : k ≡ peak (systemOf items) run (systemOf items .start) =
-        same .1 ∙ ap (λ (ns : List ℕ). peak (systemOf items) ns (systemOf items .start)) (counts-emitted (systemOf items) count p q counts) in
+        same .1 ∙ ap (λ (ns : List ℕ). peak (systemOf items) ns (systemOf items .start)) (counts-emitted (saturatedOf items) count p q counts) in
         let joins = found-joins items (read-complete table items e) p q in
         (items, e, (rw on-page joins, rw (on-page, high) (peak-is (systemOf items) run (systemOf items .start) (joins .end) (joins .walks))))
       where
         reached-same : {t t′ r r′ n n′ k k′ : ℕ} → Ran.Reached t r n k ≡ Ran.Reached t′ r′ n′ k′ → (n ≡ n′) × (k ≡ k′)
         reached-same e = (cc, cc)
 
-    verdict-writes : (o : Option Path) → startPath (systemOf items) ≡ o → runCall table log scratch page .answer ≡ runVerdict (systemOf items) (length page) o → Right (runVerdict (systemOf items) (length page) o)
+    verdict-writes : (o : Option Path) → startPath (saturatedOf items) ≡ o → runCall table log scratch page .answer ≡ runVerdict (systemOf items) (length page) o → Right (runVerdict (systemOf items) (length page) o)
     verdict-writes none q is = omega arith
-    verdict-writes (some p) q is = by-test (isLong (pathSteps (limit (systemOf items)) (p .numbers)) (length page))
+    verdict-writes (some p) q is = by-test (isLong (pathSteps (limit (saturatedOf items)) (p .numbers)) (length page))
         (λ y. rw y (omega arith))
-        (λ n. rw n (written p q (length (limit (systemOf items))) (rounds (limit (systemOf items))) (pathSteps (limit (systemOf items)) (p .numbers)) (peak (systemOf items) (emitted (limit (systemOf items)) (p .numbers)) (systemOf items .start)) (is ∙ rw n)))
+        (λ n. rw n (written p q (length (limit (saturatedOf items))) (rounds (limit (saturatedOf items))) (pathSteps (limit (saturatedOf items)) (p .numbers)) (peak (systemOf items) (emitted (limit (saturatedOf items)) (p .numbers)) (systemOf items .start)) (is ∙ rw n)))
 
 pub run-writes : (table log scratch page : List ℕ) → Writes table (runCall table log scratch page .page) (runCall table log scratch page .answer)
 unfolding runGiven
@@ -85,9 +85,9 @@ run-writes table log scratch page = subst (Right table log scratch page) (sym (g
         let is = given-is table log scratch page (accepted items) e in
         by-test (ltb (length scratch) (scratchNeeded (length log)))
         (λ y. rw y (omega arith))
-        (λ n. rw n (by-test (ltb (capacity (length log)) (length (limit (systemOf items))))
+        (λ n. rw n (by-test (ltb (capacity (length log)) (length (limit (saturatedOf items))))
         (λ y. rw y (omega arith))
-        (λ m. rw m (verdict-writes table log scratch page items e (ltb-false (length scratch) (scratchNeeded (length log)) n) (ltb-false (capacity (length log)) (length (limit (systemOf items))) m) (startPath (systemOf items)) refl (is ∙ rw (n, m))))))
+        (λ m. rw m (verdict-writes table log scratch page items e (ltb-false (length scratch) (scratchNeeded (length log)) n) (ltb-false (capacity (length log)) (length (limit (saturatedOf items))) m) (startPath (saturatedOf items)) refl (is ∙ rw (n, m))))))
 
 -- ---- from refusal 10 on the place is 0
 abbrev pub AnswerPlaced : Answered → Type 0
@@ -103,7 +103,7 @@ pub answer-placed : (table log scratch : List ℕ) → AnswerPlaced (answerCall 
 unfolding answerCall answerGiven
 answer-placed table log scratch = go (read table) refl
   where
-    found : (items : List Item) (o : Option Path) → AnswerPlaced (verdict (limit (systemOf items)) o)
+    found : (items : List Item) (o : Option Path) → AnswerPlaced (verdict (limit (saturatedOf items)) o)
     found items none = tt
     found items (some p) = tt
 
@@ -111,7 +111,7 @@ answer-placed table log scratch = go (read table) refl
     go (refused number place) e = λ h. absurd (omega (arith, refusal-number table number place e .1))
     go (accepted items) e =
         by-test (ltb (length scratch) (scratchNeeded (length log))) (λ y. rw y (λ h. refl))
-        (λ n. rw n (by-test (ltb (capacity (length log)) (length (limit (systemOf items)))) (λ y. rw y (λ h. refl)) (λ m. rw m (found items (startPath (systemOf items))))))
+        (λ n. rw n (by-test (ltb (capacity (length log)) (length (limit (saturatedOf items)))) (λ y. rw y (λ h. refl)) (λ m. rw m (found items (startPath (saturatedOf items))))))
 
 pub run-placed : (table log scratch page : List ℕ) → RunPlaced (runCall table log scratch page .answer)
 unfolding runCall runGiven
@@ -119,10 +119,10 @@ run-placed table log scratch page = go (read table) refl
   where
     found : (items : List Item) (o : Option Path) → RunPlaced (runVerdict (systemOf items) (length page) o)
     found items none = λ h. refl
-    found items (some p) = by-test (isLong (pathSteps (limit (systemOf items)) (p .numbers)) (length page)) (λ y. rw y (λ h. refl)) (λ n. rw n tt)
+    found items (some p) = by-test (isLong (pathSteps (limit (saturatedOf items)) (p .numbers)) (length page)) (λ y. rw y (λ h. refl)) (λ n. rw n tt)
 
     go : (r : Reading) → read table ≡ r → RunPlaced (runGiven r (length log) (length scratch) (length page))
     go (refused number place) e = λ h. absurd (omega (arith, refusal-number table number place e .1))
     go (accepted items) e =
         by-test (ltb (length scratch) (scratchNeeded (length log))) (λ y. rw y (λ h. refl))
-        (λ n. rw n (by-test (ltb (capacity (length log)) (length (limit (systemOf items)))) (λ y. rw y (λ h. refl)) (λ m. rw m (found items (startPath (systemOf items))))))
+        (λ n. rw n (by-test (ltb (capacity (length log)) (length (limit (saturatedOf items)))) (λ y. rw y (λ h. refl)) (λ m. rw m (found items (startPath (saturatedOf items))))))

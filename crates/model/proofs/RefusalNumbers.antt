@@ -5,7 +5,7 @@ use Prim.Native.Nat.{_+_, _≤_, suc, zero, ℕ}
 use native.Mathlib.Omega.{arith}
 use lib.Dec.{eqb, leb, ltb}
 use lib.ListN.{drop, length, take}
-use Rattle.model.specs.Tables.{Item, Reading, accepted, bodies, bodyLength, ceiling, controlsOf, cooperates, count, ending, isOutOfTurn, isStranger, isTwin, leavesControl, locOf, read, readFrom, refusal, refused, ruleOf, transitionOf, unlessRefused, valueFits}
+use Rattle.model.specs.Tables.{Item, Reading, accepted, bodies, bodyLength, ceiling, cooperates, count, ending, isOutOfTurn, isReentry, isStranger, isTwin, locOf, read, readFrom, refusal, refused, ruleOf, unlessRefused, valueFits}
 use Rattle.model.proofs.Tests.{by-test}
 
 refusal-small : (a b c d e f g h : Bool) → cond a 2 (cond b 3 (cond c 4 (cond d 1 (cond e 5 (cond f 6 (cond g 7 (cond h 8 0))))))) ≤ 9
@@ -23,7 +23,7 @@ refusal-number : (items : List Item) (k : ℕ) (body : List ℕ) → refusal ite
 unfolding refusal
 refusal-number items k body =
     refusal-small (isStranger k) (isOutOfTurn items k) (leb (ceiling k) (count k items)) (ltb (length body) (bodyLength k)) (not (valueFits (bodies 1 items) (bodies 2 items) k body))
-    (eqb k 3 && not (cooperates (locOf (bodies 2 items)) (ruleOf body))) (eqb k 4 && not (leavesControl (locOf (bodies 2 items)) (controlsOf (bodies 1 items)) (transitionOf body))) (isTwin items k body)
+    (eqb k 3 && not (cooperates (locOf (bodies 2 items)) (ruleOf body))) (isReentry (bodies 1 items) (bodies 2 items) k body) (isTwin items k body)
 
 -- a reading is accepted, or refused with a number from 1 to 9
 abbrev pub Numbered9 : Reading → Type 0

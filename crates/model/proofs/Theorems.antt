@@ -11,16 +11,17 @@ use lib.ListN.{getD, getElem?, length, length-map}
 use Rattle.model.specs.declared.Group.{Group}
 use Rattle.model.specs.Automata.{Along, Transition, label}
 use Rattle.model.specs.Calls.{startPath}
-use Rattle.model.specs.Groups.{Process, at}
+use Rattle.model.specs.Groups.{Process, at, has}
 use Rattle.model.specs.Lists.{Each}
 use Rattle.model.specs.Log.{Path, Record, additions, keyLess, keys, lexLess, limit, logAt, noRecord, paths, recordAt, saturatedAt, stepsCap}
 use Rattle.model.specs.Saturation.{Delta, added}
-use Rattle.model.specs.Systems.{Accepting, Accepts, Configuration, Equal, Joins, Rule, Step, Steps, System, fire, fired, walk}
-use Rattle.model.specs.Tables.{Item, accepted, read, systemOf}
+use Rattle.model.specs.Systems.{Accepting, Accepts, Configuration, Equal, InAutomaton, Joins, Rule, Step, Steps, System, fire, fired, walk}
+use Rattle.model.specs.Tables.{Item, accepted, read, saturatedOf, systemOf}
 use Rattle.model.specs.Unfolding.{Unfolds, emitted, pathSteps}
 use Rattle.model.specs.Words.{Equivalent, Located}
 use Rattle.model.proofs.Collecting.{Held}
 use Rattle.model.proofs.Completeness.{accepts-same}
+use Rattle.model.proofs.Copies.{joins-with-copy, with-copy-joins}
 use Rattle.model.proofs.Emission.{emitted-unfolds, steps-emitted, unfolds-unique}
 use Rattle.model.proofs.Limit.{limit-saturated}
 use Rattle.model.proofs.Lists.{Distinct, each-get, getD-mem}
@@ -31,8 +32,9 @@ use Rattle.model.proofs.Reachability.{WellFormed, answer-steps, held-mo
 use Rattle.model.proofs.Reasons.{HasReason, LeastReason, log-least, log-reasons}
 use Rattle.model.proofs.Rounds.{Before, FirstHeld, Ordered, delta-held, each-first, held-delta, log-ordered}
 use Rattle.model.proofs.Steps.{fire-step, step-fire, steps-walk, walk-steps}
-use Rattle.model.proofs.CheckedItems.{read-complete}
-use Rattle.model.proofs.AcceptedTables.{accepted-bytes, accepted-well-formed}
+use Rattle.model.proofs.CheckedItems.{Complete, read-complete}
+use Rattle.model.proofs.AcceptedTables.{accepted-cooperating, accepted-copyable}
+use Rattle.model.proofs.CopiedTables.{accepted-bytes, accepted-well-formed, saturated-copyable, saturated-eight}
 use Rattle.model.proofs.Tests.{by-zero}
 use Rattle.model.proofs.Validity.{each-at, log-counted, log-earlier}
 
@@ -66,8 +68,11 @@ pub record ReasonAt (sys : System) (log : List Record) (x : Record) : Type 0 whe
       → (m ∷ p .numbers ≡ x .rule ∷ x .path) ⊎ (lexLess (x .rule ∷ x .path) (m ∷ p .numbers) ≡ true)
 
 module _ (table : List ℕ) (items : List Item) (e : read table ≡ accepted items) where
-  good : WellFormed (systemOf items)
-  good = accepted-well-formed items (read-complete table items e)
+  complete-table : Complete items
+  complete-table = read-complete table items e
+
+  good : WellFormed (saturatedOf items)
+  good = accepted-well-formed items complete-table
 
   located : Located (systemOf items .loc)
   located = good .cooperating .located
@@ -95,89 +100,98 @@ module _ (table : List ℕ) (items : List Item) (e : read table ≡ accepted ite
   pub equal-accepted : (F : Group → Type 0) (D : Transition → Type 0) (c d : Configuration) → Equal (systemOf items .loc) c d → Accepts (systemOf items .loc) F D c → Accepts (systemOf items .loc) F D d
   equal-accepted F D c d q = accepts-same (systemOf items .loc) located F D c d (q .states) (q .words)
 
+  -- ---- the states of the automaton that is saturated are numbers below 8, copies included
+  pub below-eight : (t : Transition) → InAutomaton (saturatedOf items) t → (i : Process) → has (systemOf items .loc (t .letter)) i ≡ true → (at (t .before) i < 8) × (at (t .after) i < 8)
+  unfolding systemOf
+  below-eight t m i y =
+      let f = saturated-copyable items complete-table .automaton t m in
+      let eight = saturated-eight items complete-table i (f .letter i y) in
+      (omega (arith, f .before i y), omega (arith, f .after i y))
+
   -- ---- log-is-delta: the log of rounds up to k holds δ(k), no more and no less
-  pub log-is-delta : (k : ℕ) (t : Transition) → List·Memᴰ t (keys (logAt (systemOf items) k)) ↔ Delta (systemOf items) k t
-  log-is-delta k t = (held-delta (systemOf items) k t, delta-held (systemOf items) k t)
+  pub log-is-delta : (k : ℕ) (t : Transition) → List·Memᴰ t (keys (logAt (saturatedOf items) k)) ↔ Delta (saturatedOf items) k t
+  log-is-delta k t = (held-delta (saturatedOf items) k t, delta-held (saturatedOf items) k t)
 
   -- each record's round is the first in which the paper adds it
-  pub first-round : (k n : ℕ) → n < length (logAt (systemOf items) k)
-      → Delta (systemOf items) (recordAt (logAt (systemOf items) k) n .round) (recordAt (logAt (systemOf items) k) n .key)
-      × ((j : ℕ) → j < recordAt (logAt (systemOf items) k) n .round → Delta (systemOf items) j (recordAt (logAt (systemOf items) k) n .key) → ⊥)
+  pub first-round : (k n : ℕ) → n < length (logAt (saturatedOf items) k)
+      → Delta (saturatedOf items) (recordAt (logAt (saturatedOf items) k) n .round) (recordAt (logAt (saturatedOf items) k) n .key)
+      × ((j : ℕ) → j < recordAt (logAt (saturatedOf items) k) n .round → Delta (saturatedOf items) j (recordAt (logAt (saturatedOf items) k) n .key) → ⊥)
   first-round k n h =
-      let f = each-at (FirstHeld (systemOf items) k) (logAt (systemOf items) k) (each-first (systemOf items) k) n h in (
-        held-delta (systemOf items) (recordAt (logAt (systemOf items) k) n .round) (recordAt (logAt (systemOf items) k) n .key) (f .held),
-        λ j l d. not-earlier (recordAt (logAt (systemOf items) k) n) k f j l (delta-held (systemOf items) j (recordAt (logAt (systemOf items) k) n .key) d),
+      let f = each-at (FirstHeld (saturatedOf items) k) (logAt (saturatedOf items) k) (each-first (saturatedOf items) k) n h in (
+        held-delta (saturatedOf items) (recordAt (logAt (saturatedOf items) k) n .round) (recordAt (logAt (saturatedOf items) k) n .key) (f .held),
+        λ j l d. not-earlier (recordAt (logAt (saturatedOf items) k) n) k f j l (delta-held (saturatedOf items) j (recordAt (logAt (saturatedOf items) k) n .key) d),
       )
     where
       -- held in round j, so held in every later one, the last before the record's round among them
-      not-earlier : (x : Record) (k : ℕ) → FirstHeld (systemOf items) k x → (j : ℕ) → j < x .round → Held (systemOf items) j (x .key) → ⊥
-      not-earlier x k f j l m = f .not-before (x .round - 1) (omega arith) (subst (λ (i : ℕ). Held (systemOf items) i (x .key)) (omega arith) (held-more (systemOf items) (x .round - 1 - j) j (x .key) m))
+      not-earlier : (x : Record) (k : ℕ) → FirstHeld (saturatedOf items) k x → (j : ℕ) → j < x .round → Held (saturatedOf items) j (x .key) → ⊥
+      not-earlier x k f j l m = f .not-before (x .round - 1) (omega arith) (subst (λ (i : ℕ). Held (saturatedOf items) i (x .key)) (omega arith) (held-more (saturatedOf items) (x .round - 1 - j) j (x .key) m))
 
   -- records stand in the order of round, letter, before, after
-  pub in-order : (k i j : ℕ) → i < j → j < length (logAt (systemOf items) k)
-      → (recordAt (logAt (systemOf items) k) i .round < recordAt (logAt (systemOf items) k) j .round)
-      ⊎ ((recordAt (logAt (systemOf items) k) i .round ≡ recordAt (logAt (systemOf items) k) j .round) × (keyLess (recordAt (logAt (systemOf items) k) i .key) (recordAt (logAt (systemOf items) k) j .key) ≡ true))
-  in-order k i j h l = later (logAt (systemOf items) k) (log-ordered (systemOf items) k) i j h l
+  pub in-order : (k i j : ℕ) → i < j → j < length (logAt (saturatedOf items) k)
+      → (recordAt (logAt (saturatedOf items) k) i .round < recordAt (logAt (saturatedOf items) k) j .round)
+      ⊎ ((recordAt (logAt (saturatedOf items) k) i .round ≡ recordAt (logAt (saturatedOf items) k) j .round) × (keyLess (recordAt (logAt (saturatedOf items) k) i .key) (recordAt (logAt (saturatedOf items) k) j .key) ≡ true))
+  in-order k i j h l = later (logAt (saturatedOf items) k) (log-ordered (saturatedOf items) k) i j h l
 
   -- no two records have the same key
-  pub distinct-keys : (k i j : ℕ) → i < j → j < length (logAt (systemOf items) k) → recordAt (logAt (systemOf items) k) i .key ≡ recordAt (logAt (systemOf items) k) j .key → ⊥
+  pub distinct-keys : (k i j : ℕ) → i < j → j < length (logAt (saturatedOf items) k) → recordAt (logAt (saturatedOf items) k) i .key ≡ recordAt (logAt (saturatedOf items) k) j .key → ⊥
   distinct-keys k i j h l q =
-      different (keys (logAt (systemOf items) k)) (log-distinct (systemOf items) k) (noRecord .key) i j h (omega (arith, length-map (logAt (systemOf items) k) (λ (r : Record). r .key)))
-      (key-at (logAt (systemOf items) k) i ∙ q ∙ sym (key-at (logAt (systemOf items) k) j))
+      different (keys (logAt (saturatedOf items) k)) (log-distinct (saturatedOf items) k) (noRecord .key) i j h (omega (arith, length-map (logAt (saturatedOf items) k) (λ (r : Record). r .key)))
+      (key-at (logAt (saturatedOf items) k) i ∙ q ∙ sym (key-at (logAt (saturatedOf items) k) j))
 
   -- each record of round j + 1 has its reason over the log of rounds up to j: the lowest rule's first path
-  pub reasons : (k n j : ℕ) → n < length (logAt (systemOf items) k) → suc j ≡ recordAt (logAt (systemOf items) k) n .round → ReasonAt (systemOf items) (logAt (systemOf items) j) (recordAt (logAt (systemOf items) k) n)
+  pub reasons : (k n j : ℕ) → n < length (logAt (saturatedOf items) k) → suc j ≡ recordAt (logAt (saturatedOf items) k) n .round → ReasonAt (saturatedOf items) (logAt (saturatedOf items) j) (recordAt (logAt (saturatedOf items) k) n)
   reasons k n j h q =
-      let ρ = each-at (HasReason (systemOf items)) (logAt (systemOf items) k) (log-reasons (systemOf items) k) n h j q in
+      let ρ = each-at (HasReason (saturatedOf items)) (logAt (saturatedOf items) k) (log-reasons (saturatedOf items) k) n h j q in
       record {
         rule = ρ .rule;
         is = ρ .is;
         end = ρ .end;
-        path = paths-complete (systemOf items .loc) (logAt (systemOf items) j) (ρ .rule .written) (ρ .rule .after) (recordAt (logAt (systemOf items) k) n .path) (ρ .end) (ρ .is-path .inside) (ρ .is-path .reads) (ρ .is-path .along);
+        path = paths-complete (saturatedOf items .loc) (logAt (saturatedOf items) j) (ρ .rule .written) (ρ .rule .after) (recordAt (logAt (saturatedOf items) k) n .path) (ρ .end) (ρ .is-path .inside) (ρ .is-path .reads) (ρ .is-path .along);
         adds = ρ .key-is;
-        least = λ m r is p i a. each-at (LeastReason (systemOf items)) (logAt (systemOf items) k) (log-least (systemOf items) k) n h j q m r is p
-            (each-get (IsPath (systemOf items .loc) (logAt (systemOf items) j) (r .written) (r .after)) p (paths (systemOf items .loc) (logAt (systemOf items) j) (r .written) (r .after))
-            (paths-sound (systemOf items .loc) (logAt (systemOf items) j) (r .written) (r .after)) i) a;
+        least = λ m r is p i a. each-at (LeastReason (saturatedOf items)) (logAt (saturatedOf items) k) (log-least (saturatedOf items) k) n h j q m r is p
+            (each-get (IsPath (saturatedOf items .loc) (logAt (saturatedOf items) j) (r .written) (r .after)) p (paths (saturatedOf items .loc) (logAt (saturatedOf items) j) (r .written) (r .after))
+            (paths-sound (saturatedOf items .loc) (logAt (saturatedOf items) j) (r .written) (r .after)) i) a;
       }
 
   -- ---- limit-exists: some round adds nothing, and no later one does
-  pub limit-adds-nothing : additions (systemOf items) (limit (systemOf items)) ≡ []
-  limit-adds-nothing = limit-saturated (systemOf items) (accepted-bytes items (read-complete table items e))
+  pub limit-adds-nothing : additions (saturatedOf items) (limit (saturatedOf items)) ≡ []
+  limit-adds-nothing = limit-saturated (saturatedOf items) (accepted-bytes items complete-table)
 
-  pub limit-is-last : (d : ℕ) → logAt (systemOf items) (d + saturatedAt (systemOf items)) ≡ limit (systemOf items)
-  limit-is-last d = limit-log (systemOf items) (saturatedAt (systemOf items)) d limit-adds-nothing
+  pub limit-is-last : (d : ℕ) → logAt (saturatedOf items) (d + saturatedAt (saturatedOf items)) ≡ limit (saturatedOf items)
+  limit-is-last d = limit-log (saturatedOf items) (saturatedAt (saturatedOf items)) d limit-adds-nothing
 
   -- ---- Lemma 15: the records of rounds up to the length of a run that joins c and the accepted set accept c
   pub lemma-15 : (c : Configuration) (ns : List ℕ) → Joins (systemOf items) c ns
-      → Accepts (systemOf items .loc) (Accepting (systemOf items)) (λ (t : Transition). List·Memᴰ t (keys (logAt (systemOf items) (length ns)))) c
-  lemma-15 = reach-accepts (systemOf items) good
+      → Accepts (saturatedOf items .loc) (Accepting (saturatedOf items)) (λ (t : Transition). List·Memᴰ t (keys (logAt (saturatedOf items) (length ns)))) c
+  lemma-15 c ns j = reach-accepts (saturatedOf items) good c ns (joins-with-copy (systemOf items) (accepted-copyable items complete-table) c ns j)
 
   -- ---- unfolding-is-a-run: an accepting path of the log over a configuration's word unfolds into a run that joins it and the accepted set
-  pub unfolding-is-a-run : (k : ℕ) (c : Configuration) → ((i : Process) → at (c .states) i < systemOf items .controls i) → (p : Path)
-      → List·Memᴰ p (paths (systemOf items .loc) (logAt (systemOf items) k) (c .word) (c .states)) → Accepting (systemOf items) (p .end)
-      → (rs : List ℕ) → Unfolds (logAt (systemOf items) k) (p .numbers) rs → Joins (systemOf items) c rs
+  pub unfolding-is-a-run : (k : ℕ) (c : Configuration) → ((i : Process) → at (c .states) i < saturatedOf items .controls i) → (p : Path)
+      → List·Memᴰ p (paths (saturatedOf items .loc) (logAt (saturatedOf items) k) (c .word) (c .states)) → Accepting (saturatedOf items) (p .end)
+      → (rs : List ℕ) → Unfolds (logAt (saturatedOf items) k) (p .numbers) rs → Joins (systemOf items) c rs
   unfolding-is-a-run k c control p m f rs u =
-      let t = each-get (IsPath (systemOf items .loc) (logAt (systemOf items) k) (c .word) (c .states)) p (paths (systemOf items .loc) (logAt (systemOf items) k) (c .word) (c .states))
-      (paths-sound (systemOf items .loc) (logAt (systemOf items) k) (c .word) (c .states)) m in
-      subst (Joins (systemOf items) c) (unfolds-unique u (emitted (logAt (systemOf items) k) (p .numbers)) (emitted-unfolds (logAt (systemOf items) k) (log-earlier (systemOf items) k) (p .numbers) (t .inside)))
-      (path-joins (systemOf items) good k c control p t f)
+      let t = each-get (IsPath (saturatedOf items .loc) (logAt (saturatedOf items) k) (c .word) (c .states)) p (paths (saturatedOf items .loc) (logAt (saturatedOf items) k) (c .word) (c .states))
+      (paths-sound (saturatedOf items .loc) (logAt (saturatedOf items) k) (c .word) (c .states)) m in
+      with-copy-joins (systemOf items) (accepted-copyable items complete-table) (accepted-cooperating items complete-table) c rs control
+      (subst (Joins (saturatedOf items) c) (unfolds-unique u (emitted (logAt (saturatedOf items) k) (p .numbers)) (emitted-unfolds (logAt (saturatedOf items) k) (log-earlier (saturatedOf items) k) (p .numbers) (t .inside)))
+      (path-joins (saturatedOf items) good k c control p t f))
 
   -- ---- steps-count: a record's steps are the length of its unfolding, and the start's those of its path, up to the cap
-  pub record-steps : (k n : ℕ) → n < length (logAt (systemOf items) k) → (rs : List ℕ) → Unfolds (logAt (systemOf items) k) (n ∷ []) rs
-      → recordAt (logAt (systemOf items) k) n .steps ≡ min (length rs) stepsCap
+  pub record-steps : (k n : ℕ) → n < length (logAt (saturatedOf items) k) → (rs : List ℕ) → Unfolds (logAt (saturatedOf items) k) (n ∷ []) rs
+      → recordAt (logAt (saturatedOf items) k) n .steps ≡ min (length rs) stepsCap
   record-steps k n h rs u =
-      let figure : min (recordAt (logAt (systemOf items) k) n .steps + 0) stepsCap ≡ min (length (emitted (logAt (systemOf items) k) (n ∷ []))) stepsCap =
-      steps-emitted (logAt (systemOf items) k) (log-earlier (systemOf items) k) (log-counted (systemOf items) k) (n ∷ []) (h, tt) in
-      let same : emitted (logAt (systemOf items) k) (n ∷ []) ≡ rs = unfolds-unique u (emitted (logAt (systemOf items) k) (n ∷ [])) (emitted-unfolds (logAt (systemOf items) k) (log-earlier (systemOf items) k) (n ∷ []) (h, tt)) in
-      let capped : recordAt (logAt (systemOf items) k) n .steps ≤ stepsCap = steps-capped k n h in
+      let figure : min (recordAt (logAt (saturatedOf items) k) n .steps + 0) stepsCap ≡ min (length (emitted (logAt (saturatedOf items) k) (n ∷ []))) stepsCap =
+      steps-emitted (logAt (saturatedOf items) k) (log-earlier (saturatedOf items) k) (log-counted (saturatedOf items) k) (n ∷ []) (h, tt) in
+      let same : emitted (logAt (saturatedOf items) k) (n ∷ []) ≡ rs = unfolds-unique u (emitted (logAt (saturatedOf items) k) (n ∷ [])) (emitted-unfolds (logAt (saturatedOf items) k) (log-earlier (saturatedOf items) k) (n ∷ []) (h, tt)) in
+      let capped : recordAt (logAt (saturatedOf items) k) n .steps ≤ stepsCap = steps-capped k n h in
       omega (arith, ap length same)
     where
-      steps-capped : (k n : ℕ) → n < length (logAt (systemOf items) k) → recordAt (logAt (systemOf items) k) n .steps ≤ stepsCap
-      steps-capped k n h = by-zero (recordAt (logAt (systemOf items) k) n .round)
-          (λ z. omega (arith, log-counted (systemOf items) k n h .0 z))
-          (λ z. omega (arith, log-counted (systemOf items) k n h .1 z))
+      steps-capped : (k n : ℕ) → n < length (logAt (saturatedOf items) k) → recordAt (logAt (saturatedOf items) k) n .steps ≤ stepsCap
+      steps-capped k n h = by-zero (recordAt (logAt (saturatedOf items) k) n .round)
+          (λ z. omega (arith, log-counted (saturatedOf items) k n h .0 z))
+          (λ z. omega (arith, log-counted (saturatedOf items) k n h .1 z))
 
-  pub start-steps : (p : Path) → startPath (systemOf items) ≡ some p → (rs : List ℕ) → Unfolds (limit (systemOf items)) (p .numbers) rs → pathSteps (limit (systemOf items)) (p .numbers) ≡ min (length rs) stepsCap
+  pub start-steps : (p : Path) → startPath (saturatedOf items) ≡ some p → (rs : List ℕ) → Unfolds (limit (saturatedOf items)) (p .numbers) rs → pathSteps (limit (saturatedOf items)) (p .numbers) ≡ min (length rs) stepsCap
   start-steps p q rs u =
-      answer-steps (systemOf items) (saturatedAt (systemOf items)) (systemOf items .start) p q
-      ∙ ap (λ (l : List ℕ). min (length l) stepsCap) (unfolds-unique u (emitted (limit (systemOf items)) (p .numbers)) (path-unfolds (systemOf items) (saturatedAt (systemOf items)) (systemOf items .start) p q))
+      answer-steps (saturatedOf items) (saturatedAt (saturatedOf items)) (saturatedOf items .start) p q
+      ∙ ap (λ (l : List ℕ). min (length l) stepsCap) (unfolds-unique u (emitted (limit (saturatedOf items)) (p .numbers)) (path-unfolds (saturatedOf items) (saturatedAt (saturatedOf items)) (saturatedOf items .start) p q))

@@ -13,7 +13,8 @@ use Rattle.model.specs.declared.Walked.{Walked}
 use Rattle.model.specs.Lists.{valueOr}
 use Rattle.model.specs.Groups.{Processes, atEach, bit}
 use Rattle.model.specs.Systems.{System, Rule, Configuration, fire, peak, accepts}
-use Rattle.model.specs.Tables.{Reading, accepted, refused, read, systemOf}
+use Rattle.model.specs.Copies.{withCopy}
+use Rattle.model.specs.Tables.{Reading, accepted, refused, read, systemOf, saturatedOf}
 use Rattle.model.specs.Log.{Record, Path, limit, rounds}
 use Rattle.model.specs.Unfolding.{acceptingPath, emitted, pathSteps}
 use Rattle.model.specs.Records.{recordLength, logBytes}
@@ -67,11 +68,11 @@ pageAfter number run page = cond (eqb number 0) (filled run page) page
 -- the limit's records, and the run that the start's path unfolds into, of an accepted table
 unfoldable pub recordsOf : Reading → List Record
 recordsOf (refused number place) = []
-recordsOf (accepted items) = limit (systemOf items)
+recordsOf (accepted items) = limit (saturatedOf items)
 
 unfoldable pub runOf : Reading → List ℕ
 runOf (refused number place) = []
-runOf (accepted items) = valueOr [] (λ (p : Path). emitted (limit (systemOf items)) (p .numbers)) (startPath (systemOf items))
+runOf (accepted items) = valueOr [] (λ (p : Path). emitted (limit (saturatedOf items)) (p .numbers)) (startPath (saturatedOf items))
 
 -- ---- the answer call: table, log, scratch
 abbrev pub answerRefusal : Answered → ℕ
@@ -88,8 +89,8 @@ unfoldable pub answerGiven : Reading → ℕ → ℕ → Answered
 answerGiven (refused number place) logLength scratchLength = Answered.Refused number place
 answerGiven (accepted items) logLength scratchLength =
     cond (ltb scratchLength (scratchNeeded logLength)) (Answered.Refused 15 0)
-    (cond (ltb (capacity logLength) (length (limit (systemOf items)))) (Answered.Refused 10 0)
-    (verdict (limit (systemOf items)) (startPath (systemOf items))))
+    (cond (ltb (capacity logLength) (length (limit (saturatedOf items)))) (Answered.Refused 10 0)
+    (verdict (limit (saturatedOf items)) (startPath (saturatedOf items))))
 
 pub record AnswerOutcome : Type 0 where
   pub answer : Answered
@@ -113,15 +114,16 @@ isLong steps pageLength = ltb pageLength steps || ltb 1000000 steps
 abbrev pub runVerdict : System → ℕ → Option Path → Ran
 runVerdict sys pageLength none = Ran.Refused 16 0
 runVerdict sys pageLength (some p) =
-    cond (isLong (pathSteps (limit sys) (p .numbers)) pageLength) (Ran.Refused 11 0)
-    (Ran.Reached (length (limit sys)) (rounds (limit sys)) (pathSteps (limit sys) (p .numbers)) (peak sys (emitted (limit sys) (p .numbers)) (sys .start)))
+    cond (isLong (pathSteps (limit (withCopy sys)) (p .numbers)) pageLength) (Ran.Refused 11 0)
+    (Ran.Reached (length (limit (withCopy sys))) (rounds (limit (withCopy sys))) (pathSteps (limit (withCopy sys)) (p .numbers))
+    (peak sys (emitted (limit (withCopy sys)) (p .numbers)) (sys .start)))
 
 unfoldable pub runGiven : Reading → ℕ → ℕ → ℕ → Ran
 runGiven (refused number place) logLength scratchLength pageLength = Ran.Refused number place
 runGiven (accepted items) logLength scratchLength pageLength =
     cond (ltb scratchLength (scratchNeeded logLength)) (Ran.Refused 15 0)
-    (cond (ltb (capacity logLength) (length (limit (systemOf items)))) (Ran.Refused 10 0)
-    (runVerdict (systemOf items) pageLength (startPath (systemOf items))))
+    (cond (ltb (capacity logLength) (length (limit (saturatedOf items)))) (Ran.Refused 10 0)
+    (runVerdict (systemOf items) pageLength (startPath (saturatedOf items))))
 
 pub record RunOutcome : Type 0 where
   pub answer : Ran

@@ -13,7 +13,8 @@ use Rattle.model.specs.Groups.{atEach}
 use Rattle.model.specs.Automata.{Transition}
 use Rattle.model.specs.Saturation.{Delta}
 use Rattle.model.specs.Systems.{System, Rule, Configuration, Step, Steps, Accepted, Joins, PeakIs, fire, peak}
-use Rattle.model.specs.Tables.{Item, accepted, read, systemOf, groupOf}
+use Rattle.model.specs.Copies.{withCopy}
+use Rattle.model.specs.Tables.{Item, accepted, read, systemOf, saturatedOf, groupOf}
 use Rattle.model.specs.Log.{Path, limit, rounds, stepsCap}
 use Rattle.model.specs.Unfolding.{Unfolds}
 use Rattle.model.specs.Records.{recordLength, keyAt, roundAt}
@@ -38,7 +39,7 @@ pub record Demand2 (log : List ℕ) (sys : System) : Type 0 where
 
 -- wherever the refusal's number, 0 if there is none, tells neither of a log that is untouched (1 to 9, 15) nor of one that is too short (10)
 abbrev pub LogHolds : List ℕ → ℕ → List ℕ → Type 0
-LogHolds table number log = (changesNothing number || eqb number 10) ≡ false → Describes table (Demand2 log)
+LogHolds table number log = (changesNothing number || eqb number 10) ≡ false → Describes table (λ (sys : System). Demand2 log (withCopy sys))
 
 -- ---- demand 2, of a walk: it moves exactly as the paper's systems step
 -- Not refused: the paper's steps lead from the start by the rules of the list to a configuration whose states and word are those given, in the
@@ -119,25 +120,27 @@ LogShort sys log = capacity (length log) < length (limit sys)
 
 -- the first premise holds and the second fails
 abbrev pub ShortLog : List ℕ → List ℕ → List ℕ → Type 0
-ShortLog table log scratch = (items : List Item) × (read table ≡ accepted items) × ScratchServes log scratch × LogShort (systemOf items) log
+ShortLog table log scratch = (items : List Item) × (read table ≡ accepted items) × ScratchServes log scratch × LogShort (saturatedOf items) log
 
--- What the calls give under both premises. `left` is what the page holds after the run call.
+-- What the calls give under both premises. `sys` is the table's own system, so a run ends in the set that the table itself accepts; request 2.6: "Transitions,
+-- rounds and log are those of the copied automaton". `left` is what the page holds after the run call.
 pub record Decided (sys : System) (page : List ℕ) (answer : Answered) (ran : Ran) (left : List ℕ) : Type 0 where
   -- the answer call says "unreachable" exactly when no finite run joins them, and else "reachable"
-  pub unreachable : NoRun sys ↔ (answer ≡ Answered.Unreachable (length (limit sys)) (rounds (limit sys)))
-  pub reachable : SomeRun sys ↔ ((n : ℕ) × Counts sys n × (answer ≡ Answered.Reachable (length (limit sys)) (rounds (limit sys)) (min n stepsCap)))
+  pub unreachable : NoRun sys ↔ (answer ≡ Answered.Unreachable (length (limit (withCopy sys))) (rounds (limit (withCopy sys))))
+  pub reachable : SomeRun sys ↔ ((n : ℕ) × Counts (withCopy sys) n × (answer ≡ Answered.Reachable (length (limit (withCopy sys))) (rounds (limit (withCopy sys))) (min n stepsCap)))
   -- where one does, the run call is refused as long exactly when the steps exceed the page's length or 1,000,000
-  pub long : (n : ℕ) → Counts sys n → TooLong n page ↔ (ran ≡ Ran.Refused 11 0)
+  pub long : (n : ℕ) → Counts (withCopy sys) n → TooLong n page ↔ (ran ≡ Ran.Refused 11 0)
   -- else it gives the answer call's figures, and the page's first places, as many as the steps, hold a run that joins them
-  pub given : (n : ℕ) (c : Counts sys n) → (TooLong n page → ⊥)
-      → (ran ≡ Ran.Reached (length (limit sys)) (rounds (limit sys)) n (peak sys (c .run) (sys .start))) × (answer ≡ Answered.Reachable (length (limit sys)) (rounds (limit sys)) n)
+  pub given : (n : ℕ) (c : Counts (withCopy sys) n) → (TooLong n page → ⊥)
+      → (ran ≡ Ran.Reached (length (limit (withCopy sys))) (rounds (limit (withCopy sys))) n (peak sys (c .run) (sys .start)))
+      × (answer ≡ Answered.Reachable (length (limit (withCopy sys))) (rounds (limit (withCopy sys))) n)
       × Joins sys (sys .start) (take n left)
   -- where none does, the run call is refused for having no run
   pub no-run : NoRun sys ↔ (ran ≡ Ran.Refused 16 0)
 
 -- whatever log, scratch and page held before
 pub record Demand3 (table log scratch page : List ℕ) (answer : Answered) (ran : Ran) (left : List ℕ) : Type 0 where
-  pub decided : (items : List Item) → read table ≡ accepted items → ScratchServes log scratch → LogServes (systemOf items) log → Decided (systemOf items) page answer ran left
+  pub decided : (items : List Item) → read table ≡ accepted items → ScratchServes log scratch → LogServes (saturatedOf items) log → Decided (systemOf items) page answer ran left
   -- where the first premise holds and the second fails, both calls are refused for a short log, and nowhere else
   pub answer-short : ShortLog table log scratch ↔ (answer ≡ Answered.Refused 10 0)
   pub run-short : ShortLog table log scratch ↔ (ran ≡ Ran.Refused 10 0)

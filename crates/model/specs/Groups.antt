@@ -64,12 +64,15 @@ processBits L = bit (L .b0) + 2 * bit (L .b1) + 4 * bit (L .b2) + 8 * bit (L .b3
 abbrev pub Apart : Processes → Processes → Type 0
 Apart L M = (i : Process) → has L i ≡ true → has M i ≡ false
 
--- the same as a test
+abbrev pub Within : Processes → Processes → Type 0
+Within M L = (i : Process) → has M i ≡ true → has L i ≡ true
+
+-- the same as tests
 abbrev pub apartTest : Processes → Processes → Bool
 apartTest L M = every (λ i. not (has L i) || not (has M i))
 
-abbrev pub Within : Processes → Processes → Type 0
-Within M L = (i : Process) → has M i ≡ true → has L i ≡ true
+abbrev pub withinTest : Processes → Processes → Bool
+withinTest M L = every (λ i. not (has M i) || has L i)
 
 -- the restriction of g to L, with 255 at every other process
 unfoldable pub restrict : Processes → Group → Group

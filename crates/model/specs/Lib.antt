@@ -1,5 +1,5 @@
 -- The definitions that the contracts cite: what a reader has to believe.
--- The paper: Groups, Words, Automata, Systems, Saturation. Document 01: Tables, Log, Unfolding, Records, Calls, and SmallTables with its examples.
+-- The paper: Groups, Words, Automata, Systems, Saturation, Copies. Document 01: Tables, Log, Unfolding, Records, Calls, and SmallTables with its examples.
 -- The claim: Demands. The desk of request 2.1: Desks; who took part, of request 2.5: Participation. How rounds are searched, for the crates that saturate: Searches.
 pub mod Lists
 pub mod Groups
@@ -7,6 +7,7 @@ pub mod Words
 pub mod Automata
 pub mod Systems
 pub mod Saturation
+pub mod Copies
 pub mod Tables
 pub mod Log
 pub mod Unfolding

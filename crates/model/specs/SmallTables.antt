@@ -1,4 +1,4 @@
--- Document 01, "Small tables": the starred ones, as one table of calls and what they give, with one theorem; rows of requests 2.1, 2.2, 2.4 and 2.5.
+-- Document 01, "Small tables": the starred ones, as one table of calls and what they give, with one theorem; rows of requests 2.1, 2.2 and 2.4 to 2.6.
 use mathlib.Core.Path.{_≡_, refl}
 use mathlib.Core.List.{List, [], _∷_, _++_, map}
 use Prim.Native.Nat.{ℕ}
@@ -6,7 +6,8 @@ use lib.ListN.{replicate}
 use Rattle.model.specs.Groups.{greatest, sameGroup, processBits, restrict, merge}
 use Rattle.model.specs.Words.{tops}
 use Rattle.model.specs.Systems.{System, Configuration, enabled, fire}
-use Rattle.model.specs.Tables.{Reading, accepted, refused, isOutOfTurn, groupFits, transitionFits, writtenFit, valueFits, cooperates, leavesControl, isTwin, refusal, readFrom, read, systemOf}
+use Rattle.model.specs.Copies.{leavesControl, reenters, copies, subsets, mixed, mixtures, copied}
+use Rattle.model.specs.Tables.{Reading, accepted, refused, isOutOfTurn, groupFits, transitionFits, writtenFit, valueFits, cooperates, isNarrow, isReentry, isTwin, refusal, readFrom, read, systemOf}
 use Rattle.model.specs.Log.{readsAt, keyLess, sameKey, additions, logAt, firstSaturated, saturatedAt}
 use Rattle.model.specs.Unfolding.{acceptingPath, emittedBy}
 use Rattle.model.specs.Records.{recordBytes}
@@ -79,13 +80,21 @@ start-T = 6 ∷ 0 ∷ 0 ∷ 255 ∷ 255 ∷ 7 ∷ 0 ∷ 8 ∷ []
 abbrev pub table-T : List ℕ
 table-T = head-T ++ rules01-T ++ rule2-T ++ accepting-T ++ start-T
 
--- one station, q = s = 2, tasks 0 and 1, rule: task 1, 1 to 1, writes none; watch: task 0, 0 to 1; accepting 1; start 0, pile 0 1
-abbrev pub re-entry : List ℕ
-re-entry =
-    1 ∷ 2 ∷ 2 ∷ 2 ∷ 1 ∷ 2 ∷ 1
+-- one station, q = 2 and s = `states`, tasks 0 and 1, rule: task 1, 1 to 1, writes none; watch: task 0, 0 to 1; accepting 1; start 0, pile 0 1
+abbrev pub re-entry : (states : ℕ) → List ℕ
+re-entry states =
+    1 ∷ 2 ∷ states ∷ 2 ∷ 1 ∷ 2 ∷ 1
     ∷ 3 ∷ 1 ∷ 1 ∷ 255 ∷ 255 ∷ 255 ∷ 1 ∷ 255 ∷ 255 ∷ 255 ∷ 0 ∷ 255 ∷ 255 ∷ 255 ∷ 255 ∷ 255 ∷ 255
     ∷ 4 ∷ 0 ∷ 0 ∷ 255 ∷ 255 ∷ 255 ∷ 1 ∷ 255 ∷ 255 ∷ 255
     ∷ 5 ∷ 1 ∷ 255 ∷ 255 ∷ 255 ∷ 6 ∷ 0 ∷ 255 ∷ 255 ∷ 255 ∷ 7 ∷ 0 ∷ 7 ∷ 1 ∷ 8 ∷ []
+
+-- two stations, q = 1, s = 1 and `states`; tasks 0 {0}, 1 {0,1}; watch: task 0, 0 to 0, and task 1, (0,0) to (0,0); accepting (0,0); start (0,0), then the pile's
+-- items
+abbrev pub staying : (states : ℕ) → List ℕ → List ℕ
+staying states pile =
+    1 ∷ 1 ∷ 1 ∷ 1 ∷ 1 ∷ states ∷ 2 ∷ 1 ∷ 2 ∷ 3
+    ∷ 4 ∷ 0 ∷ 0 ∷ 255 ∷ 255 ∷ 255 ∷ 0 ∷ 255 ∷ 255 ∷ 255 ∷ 4 ∷ 1 ∷ 0 ∷ 0 ∷ 255 ∷ 255 ∷ 0 ∷ 0 ∷ 255 ∷ 255
+    ∷ 5 ∷ 0 ∷ 0 ∷ 255 ∷ 255 ∷ 6 ∷ 0 ∷ 0 ∷ 255 ∷ 255 ∷ (pile ++ 8 ∷ [])
 
 -- one station, one state, tasks 0 to 2, rule i writes i+1 twice, rule 2 none, state 0 accepting, pile 0
 abbrev pub doubling : List ℕ
@@ -169,8 +178,8 @@ starred =
     ∷ record { call = walks table-T (0 ∷ 2 ∷ 1 ∷ []) 3 2048; result = (0 ∷ 0 ∷ 1 ∷ 0 ∷ 1 ∷ 1 ∷ 255 ∷ 255 ∷ []) ∷ (2 ∷ 2 ∷ 0 ∷ 0 ∷ []) ∷ [] ∷ (0 ∷ 0 ∷ 0 ∷ []) ∷ [] }
     -- T, walk 1: 12 at 0
     ∷ record { call = walks table-T (1 ∷ []) 3 2048; result = (12 ∷ 0 ∷ 0 ∷ 0 ∷ 0 ∷ 0 ∷ 0 ∷ 0 ∷ []) ∷ (0 ∷ 0 ∷ 0 ∷ 0 ∷ []) ∷ (1 ∷ []) ∷ (0 ∷ 0 ∷ 0 ∷ []) ∷ [] }
-    -- re-entry: 7 at the watch transition
-    ∷ record { call = asks re-entry 84 34030; result = (7 ∷ 24 ∷ 0 ∷ 0 ∷ 0 ∷ 0 ∷ []) ∷ [] }
+    -- request 2.6, re-entry: unreachable with 3 transitions and 1 round
+    ∷ record { call = asks (re-entry 2) 84 34030; result = (0 ∷ 0 ∷ 0 ∷ 3 ∷ 1 ∷ 0 ∷ []) ∷ [] }
     -- doubling: run 0 1 2 2 1 2 2, peak 3
     ∷ record { call = runs doubling 84 34030 7; result = (0 ∷ 0 ∷ 1 ∷ 3 ∷ 3 ∷ 7 ∷ 3 ∷ []) ∷ (0 ∷ 1 ∷ 2 ∷ 2 ∷ 1 ∷ 2 ∷ 2 ∷ []) ∷ [] }
     -- beside the starred ones: the order 2, 3, 4, 1 of the checks of an item; 16 and 11 of a run; the lowest of two rules as the reason
@@ -197,7 +206,25 @@ starred =
     -- request 2.5: refused at step 2, a walk gives the counts of the steps before it; refused before its first step, none
     ∷ record { call = walks table-T (0 ∷ 1 ∷ 1 ∷ 2 ∷ []) 3 2048; result = (12 ∷ 2 ∷ 0 ∷ 0 ∷ 0 ∷ 0 ∷ 0 ∷ 0 ∷ []) ∷ (2 ∷ 1 ∷ 0 ∷ 0 ∷ []) ∷ (1 ∷ 2 ∷ []) ∷ (2 ∷ 0 ∷ 0 ∷ []) ∷ [] }
     ∷ record { call = walks table-T (0 ∷ []) 0 2048; result = (14 ∷ 0 ∷ 0 ∷ 0 ∷ 0 ∷ 0 ∷ 0 ∷ 0 ∷ []) ∷ (0 ∷ 0 ∷ 0 ∷ 0 ∷ []) ∷ [] ∷ [] ∷ [] }
-    ∷ record { call = walks re-entry (0 ∷ []) 3 2048; result = (7 ∷ 24 ∷ 0 ∷ 0 ∷ 0 ∷ 0 ∷ 0 ∷ 0 ∷ []) ∷ (0 ∷ 0 ∷ 0 ∷ 0 ∷ []) ∷ [] ∷ (7 ∷ 7 ∷ 7 ∷ []) ∷ [] }
+    ∷ record { call = walks (re-entry 5) (0 ∷ []) 3 2048; result = (7 ∷ 24 ∷ 0 ∷ 0 ∷ 0 ∷ 0 ∷ 0 ∷ 0 ∷ []) ∷ (0 ∷ 0 ∷ 0 ∷ 0 ∷ []) ∷ [] ∷ (7 ∷ 7 ∷ 7 ∷ []) ∷ [] }
+    -- request 2.6: the log of the re-entry table, task 0 from 0 and from its copy 2 to the copy 3 in round 0; s = 4 is copied, s = 5 is not: 7 at the watch
+    -- transition, also where the wide station is none of its task's
+    ∷ record {
+      call = logs (re-entry 2) 84 34030;
+      result = (0 ∷ 0 ∷ 0 ∷ 3 ∷ 1 ∷ 0 ∷ [])
+          ∷ (0 ∷ 0 ∷ 255 ∷ 255 ∷ 255 ∷ 3 ∷ 255 ∷ 255 ∷ 255 ∷ 0 ∷ 0 ∷ 255 ∷ 255 ∷ 255 ∷ 255 ∷ 255 ∷ 255 ∷ 255 ∷ 255 ∷ 255 ∷ 255 ∷ 255 ∷ 255 ∷ 255 ∷ 255 ∷ 0 ∷ 0 ∷ 0
+          ∷ 0 ∷ 2 ∷ 255 ∷ 255 ∷ 255 ∷ 3 ∷ 255 ∷ 255 ∷ 255 ∷ 0 ∷ 0 ∷ 255 ∷ 255 ∷ 255 ∷ 255 ∷ 255 ∷ 255 ∷ 255 ∷ 255 ∷ 255 ∷ 255 ∷ 255 ∷ 255 ∷ 255 ∷ 255 ∷ 0 ∷ 0 ∷ 0
+          ∷ 1 ∷ 1 ∷ 255 ∷ 255 ∷ 255 ∷ 1 ∷ 255 ∷ 255 ∷ 255 ∷ 1 ∷ 0 ∷ 0 ∷ 0 ∷ 255 ∷ 255 ∷ 255 ∷ 255 ∷ 255 ∷ 255 ∷ 255 ∷ 255 ∷ 255 ∷ 255 ∷ 255 ∷ 255 ∷ 1 ∷ 0 ∷ 0 ∷ [])
+          ∷ [];
+    }
+    ∷ record { call = asks (re-entry 4) 84 34030; result = (0 ∷ 0 ∷ 0 ∷ 3 ∷ 1 ∷ 0 ∷ []) ∷ [] }
+    ∷ record { call = asks (re-entry 5) 84 34030; result = (7 ∷ 24 ∷ 0 ∷ 0 ∷ 0 ∷ 0 ∷ []) ∷ [] }
+    ∷ record { call = asks (staying 5 []) 168 34060; result = (7 ∷ 10 ∷ 0 ∷ 0 ∷ 0 ∷ 0 ∷ []) ∷ [] }
+    -- task 0 leads to a mixed group, which accepts, and from which task 1 leads on; round 0 alone needs six records; watched is said of the table's own automaton
+    ∷ record { call = asks (staying 1 (7 ∷ 0 ∷ [])) 168 34060; result = (0 ∷ 0 ∷ 1 ∷ 6 ∷ 0 ∷ 0 ∷ []) ∷ [] }
+    ∷ record { call = asks (staying 1 (7 ∷ 0 ∷ 7 ∷ 1 ∷ [])) 168 34060; result = (0 ∷ 0 ∷ 1 ∷ 6 ∷ 0 ∷ 0 ∷ []) ∷ [] }
+    ∷ record { call = asks (staying 1 (7 ∷ 0 ∷ [])) 167 34060; result = (10 ∷ 0 ∷ 0 ∷ 0 ∷ 0 ∷ 0 ∷ []) ∷ [] }
+    ∷ record { call = walks (staying 1 (7 ∷ 0 ∷ 7 ∷ 1 ∷ [])) [] 2 2048; result = (0 ∷ 0 ∷ 1 ∷ 2 ∷ 0 ∷ 0 ∷ 255 ∷ 255 ∷ []) ∷ (0 ∷ 0 ∷ 0 ∷ 0 ∷ []) ∷ [] ∷ (0 ∷ 1 ∷ []) ∷ [] }
     -- a desk on T: refused by 12, 13, 18 and 17; then 0 and 2 fired, each after a save, and a return to where 2 had not fired
     ∷ record {
       call = opens table-T (fires 1 ∷ fires 3 ∷ returns 8 ∷ returns 0 ∷ saves 0 ∷ fires 0 ∷ saves 1 ∷ fires 2 ∷ returns 1 ∷ fires 1 ∷ forgets 0 ∷ returns 0 ∷ returns 1 ∷ []);
@@ -214,11 +241,11 @@ starred =
       call = resumes table-T (4294967294 ∷ 4294967295 ∷ 0 ∷ 0 ∷ []) (fires 0 ∷ fires 1 ∷ []);
       result = (0 ∷ 0 ∷ []) ∷ (0 ∷ 3 ∷ 4294967295 ∷ 4294967295 ∷ 0 ∷ 0 ∷ 0 ∷ 0 ∷ 255 ∷ 255 ∷ 1 ∷ 2 ∷ []) ∷ (0 ∷ 1 ∷ 4294967295 ∷ 4294967295 ∷ 0 ∷ 0 ∷ 1 ∷ 0 ∷ 255 ∷ 255 ∷ 2 ∷ []) ∷ [];
     }
-    -- and none on the re-entry table
-    ∷ record { call = opens re-entry (fires 0 ∷ []); result = (7 ∷ 24 ∷ []) ∷ [] }
+    -- no desk where the table is refused
+    ∷ record { call = opens (re-entry 5) (fires 0 ∷ []); result = (7 ∷ 24 ∷ []) ∷ [] }
     ∷ []
 
 -- the definitions give each result
 pub starred-hold : map (λ (e : Example). gives (e .call)) starred ≡ map (λ (e : Example). e .result) starred
-unfolding greatest sameGroup processBits restrict merge tops enabled fire isOutOfTurn groupFits transitionFits writtenFit valueFits cooperates leavesControl isTwin refusal readFrom read systemOf readsAt keyLess sameKey additions logAt firstSaturated saturatedAt acceptingPath emittedBy recordsOf runOf logAfter pageAfter recordBytes answerGiven answerCall runGiven runCall walkCounts walkGiven withStep walkCall checks deskCall
+unfolding greatest sameGroup processBits restrict merge tops enabled fire leavesControl reenters copies subsets mixed mixtures copied isOutOfTurn groupFits transitionFits writtenFit valueFits cooperates isNarrow isReentry isTwin refusal readFrom read systemOf readsAt keyLess sameKey additions logAt firstSaturated saturatedAt acceptingPath emittedBy recordsOf runOf logAfter pageAfter recordBytes answerGiven answerCall runGiven runCall walkCounts walkGiven withStep walkCall checks deskCall
 starred-hold = refl

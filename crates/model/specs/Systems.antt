@@ -25,11 +25,13 @@ pub record Configuration : Type 0 where
   pub states : Group
   pub word : List ℕ
 
--- A cooperating system with an automaton over its states, and a start. At process i the control states (document 01: line states) are
--- the numbers below `controls i`.
+-- A cooperating system with an automaton over its states, and a start. `processes` are those that it has (document 01: the stations 0 to k-1). At
+-- process i the states are the numbers below `states i`, the control states (document 01: line states) those below `controls i`.
 pub record System : Type 0 where
   pub loc : ℕ → Processes
+  pub processes : Processes
   pub controls : Process → ℕ
+  pub states : Process → ℕ
   pub rules : List Rule
   pub transitions : List Transition
   pub accepting : List Group

@@ -6,9 +6,10 @@ use lib.Dec.{eqb, ltb, leb}
 use lib.ListN.{length, getD, take, drop}
 use Rattle.model.specs.declared.Group.{Group}
 use Rattle.model.specs.Lists.{allOf, anyOf, sumOver}
-use Rattle.model.specs.Groups.{Process, p0, p1, p2, p3, every, at, Processes, has, processesOf}
+use Rattle.model.specs.Groups.{Process, p0, p1, p2, p3, every, at, Processes, has, processesOf, withinTest}
 use Rattle.model.specs.Automata.{Transition}
 use Rattle.model.specs.Systems.{Rule, System}
+use Rattle.model.specs.Copies.{leavesControl, withCopy}
 
 -- ---- items
 -- one byte of kind, then a body whose length the kind fixes
@@ -124,11 +125,15 @@ valueFits ps ls k body =
 
 -- Cooperation: every station of a written task is a station of the rule's task.
 unfoldable pub cooperates : (ℕ → Processes) → Rule → Bool
-cooperates loc r = allOf (λ a. every (λ i. not (has (loc a) i) || has (loc (r .letter)) i)) (r .written)
+cooperates loc r = allOf (λ a. withinTest (loc a) (loc (r .letter))) (r .written)
 
--- the form that Lemma 10 yields: at every process of the letter the state after is no control state
-unfoldable pub leavesControl : (ℕ → Processes) → (Process → ℕ) → Transition → Bool
-leavesControl loc controls t = every (λ i. not (has (loc (t .letter)) i) || leb (controls i) (at (t .after) i))
+-- every process has at most 4 states, so that with their copies they are numbers below 8
+unfoldable pub isNarrow : List (List ℕ) → Bool
+isNarrow ps = allOf (λ body. leb (byteOf body 1) 4) ps
+
+-- refusal 7, re-entry; request 2.6: "re-entry with s above 4 at some station"
+unfoldable pub isReentry : List (List ℕ) → List (List ℕ) → ℕ → List ℕ → Bool
+isReentry ps ls k body = eqb k 4 && not (leavesControl (locOf ls) (controlsOf ps) (transitionOf body)) && not (isNarrow ps)
 
 abbrev pub sameBytes : List ℕ → List ℕ → Bool
 sameBytes [] [] = true
@@ -149,7 +154,7 @@ refusal items k body =
     (cond (ltb (length body) (bodyLength k)) 1
     (cond (not (valueFits (bodies 1 items) (bodies 2 items) k body)) 5
     (cond (eqb k 3 && not (cooperates (locOf (bodies 2 items)) (ruleOf body))) 6
-    (cond (eqb k 4 && not (leavesControl (locOf (bodies 2 items)) (controlsOf (bodies 1 items)) (transitionOf body))) 7
+    (cond (isReentry (bodies 1 items) (bodies 2 items) k body) 7
     (cond (isTwin items k body) 8 0)))))))
 
 -- ---- the whole file
@@ -181,13 +186,18 @@ readFrom (suc fuel) items (k ∷ rest) place =
 unfoldable pub read : List ℕ → Reading
 read bytes = readFrom (length bytes + 1) [] bytes 0
 
--- ---- the system of an accepted table
+-- ---- the system of an accepted table, and the one whose automaton is saturated
 unfoldable pub systemOf : List Item → System
 systemOf items = record {
   loc = locOf (bodies 2 items);
+  processes = present (bodies 1 items);
   controls = controlsOf (bodies 1 items);
+  states = statesOf (bodies 1 items);
   rules = map ruleOf (bodies 3 items);
   transitions = map transitionOf (bodies 4 items);
   accepting = map (λ body. groupOf body 0) (bodies 5 items);
   start = record { states = groupOf (getD (bodies 6 items) 0 []) 0; word = map (λ body. byteOf body 0) (bodies 7 items) };
 }
+
+abbrev pub saturatedOf : List Item → System
+saturatedOf items = withCopy (systemOf items)

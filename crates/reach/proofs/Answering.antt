@@ -12,6 +12,7 @@ use Rattle.model.specs.declared.Answered.{Answered}
 use Rattle.model.specs.declared.Ran.{Ran}
 use Rattle.model.specs.Calls.{answerCall, answerGiven, answerRefusal, capacity, changesNothing, isLong, logAfter, pageAfter, recordsOf, runCall, runGiven, runOf, runRefusal, runVerdict, scratchAfter, scratchFor, scratchNeeded, startPath, verdict, zeros}
 use Rattle.model.specs.Demands.{Demand3, LogHolds}
+use Rattle.model.specs.Copies.{withCopy}
 use Rattle.model.specs.Log.{Path, Record, limit}
 use Rattle.model.specs.Systems.{System}
 use Rattle.model.specs.Tables.{Reading, read, refused}
@@ -21,7 +22,7 @@ use Rattle.model.proofs.Main.{demand-2-answer, demand-2-run, demand-3}
 use Rattle.model.proofs.Tests.{by-test}
 use Rattle.table.specs.declared.Parsed.{Parsed}
 use Rattle.table.specs.declared.Table.{Table}
-use Rattle.table.specs.Reading.{Holds, parsed, systemIn}
+use Rattle.table.specs.Reading.{Holds, parsed, saturatedIn, systemIn}
 use Rattle.table.proofs.Readings.{holds-read, refused-reading}
 use Rattle.verdict.specs.Verdicts.{RunLeft, startRun}
 use Rattle.reach.specs.Outcomes.{Answers, LimitLeft, NoneLeft, Runs}
@@ -52,7 +53,7 @@ answer-late rs (some p) = (refl, refl)
 -- its numbers are 0, 11 and 16
 run-late : (sys : System) (size : ℕ) (p : Option Path) → Late (runRefusal (runVerdict sys size p))
 run-late sys size none = (refl, refl)
-run-late sys size (some p) = by-test (isLong (pathSteps (limit sys) (p .numbers)) size) (λ y. rw y (refl, refl)) (λ m. rw m (refl, refl))
+run-late sys size (some p) = by-test (isLong (pathSteps (limit (withCopy sys)) (p .numbers)) size) (λ y. rw y (refl, refl)) (λ m. rw m (refl, refl))
 
 -- ---- an accepted table
 module _ {table : List ℕ} {t : Table} (holds : Holds table t) {n : ℕ} {log scratch : List ℕ} (e : n ≡ capacity (length log)) where
@@ -68,32 +69,32 @@ module _ {table : List ℕ} {t : Table} (holds : Holds table t) {n : ℕ} {log s
     pub answers-full : {scratch′ : List ℕ} → NoneLeft table n log scratch log′ scratch′ → Answers (answerCall table log scratch) (Answered.Refused 10 0) log′ scratch′
     unfolding answerGiven logAfter scratchAfter systemIn
     answers-full l = answers table log scratch (holds-read table t holds)
-        (rw (le-ltb (length scratch) (scratchNeeded (length log)) (omega arith), lt-ltb (capacity (length log)) (length (limit (systemIn table))) (omega (arith, l .over)))) (l .log-left, l .scratch-left)
+        (rw (le-ltb (length scratch) (scratchNeeded (length log)) (omega arith), lt-ltb (capacity (length log)) (length (limit (saturatedIn table))) (omega (arith, l .over)))) (l .log-left, l .scratch-left)
 
     pub runs-full : {scratch′ page : List ℕ} → NoneLeft table n log scratch log′ scratch′ → Runs (runCall table log scratch page) (Ran.Refused 10 0) log′ scratch′ page
     unfolding runGiven logAfter scratchAfter pageAfter systemIn
     runs-full {page = page} l = runs table log scratch (holds-read table t holds) page
-        (rw (le-ltb (length scratch) (scratchNeeded (length log)) (omega arith), lt-ltb (capacity (length log)) (length (limit (systemIn table))) (omega (arith, l .over)))) (l .log-left, l .scratch-left) refl
+        (rw (le-ltb (length scratch) (scratchNeeded (length log)) (omega arith), lt-ltb (capacity (length log)) (length (limit (saturatedIn table))) (omega (arith, l .over)))) (l .log-left, l .scratch-left) refl
 
     module _ {count most : ℕ} {scratch₁ : List ℕ} (l : LimitLeft table t n log scratch count most log′ scratch₁) where
-      few : length (limit (systemIn table)) ≤ capacity (length log)
+      few : length (limit (saturatedIn table)) ≤ capacity (length log)
       few = omega (arith, l .settled .log-of .size, l .settled .linked .room .fits)
 
       limit-left : {scratch′ : List ℕ} (number : ℕ) → Late number → scratch′ ≡ zeros scratch₁ → Left table log scratch number log′ scratch′
       unfolding logAfter scratchAfter recordsOf systemIn
       limit-left number late z = (l .log-left ∙ rw (late .0, late .1, holds-read table t holds), z ∙ zeros-same scratch₁ scratch (l .scratch-length) ∙ rw (late .0))
 
-      pub answers-limit : {scratch′ : List ℕ} {r : Answered} → r ≡ verdict (limit (systemIn table)) (startPath (systemIn table)) → scratch′ ≡ zeros scratch₁ → Answers (answerCall table log scratch) r log′ scratch′
+      pub answers-limit : {scratch′ : List ℕ} {r : Answered} → r ≡ verdict (limit (saturatedIn table)) (startPath (saturatedIn table)) → scratch′ ≡ zeros scratch₁ → Answers (answerCall table log scratch) r log′ scratch′
       unfolding answerGiven systemIn
       answers-limit {r = r} g z = answers table log scratch (holds-read table t holds)
-          (rw (le-ltb (length scratch) (scratchNeeded (length log)) (omega arith), le-ltb (capacity (length log)) (length (limit (systemIn table))) few) (sym g))
-          (limit-left (answerRefusal r) (rw g (answer-late (limit (systemIn table)) (startPath (systemIn table)))) z)
+          (rw (le-ltb (length scratch) (scratchNeeded (length log)) (omega arith), le-ltb (capacity (length log)) (length (limit (saturatedIn table))) few) (sym g))
+          (limit-left (answerRefusal r) (rw g (answer-late (limit (saturatedIn table)) (startPath (saturatedIn table)))) z)
 
       pub runs-limit : {scratch′ page page′ : List ℕ} {r : Ran} → RunLeft table scratch₁ page r scratch′ page′ → Runs (runCall table log scratch page) r log′ scratch′ page′
       unfolding runGiven runOf startRun systemIn
       runs-limit {page = page} {r = r} d = runs table log scratch (holds-read table t holds) page
-          (rw (le-ltb (length scratch) (scratchNeeded (length log)) (omega arith), le-ltb (capacity (length log)) (length (limit (systemIn table))) few) (sym (d .given)))
-          (limit-left (runRefusal r) (rw (d .given) (run-late (systemIn table) (length page) (startPath (systemIn table)))) (d .cleared))
+          (rw (le-ltb (length scratch) (scratchNeeded (length log)) (omega arith), le-ltb (capacity (length log)) (length (limit (saturatedIn table))) few) (sym (d .given)))
+          (limit-left (runRefusal r) (rw (d .given) (run-late (systemIn table) (length page) (startPath (saturatedIn table)))) (d .cleared))
           (d .run ∙ ap (λ (y : Reading). pageAfter (runRefusal r) (runOf y) page) (sym (holds-read table t holds)))
 
 -- ---- a table that is refused

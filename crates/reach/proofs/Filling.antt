@@ -12,7 +12,7 @@ use Rattle.model.proofs.Closing.{zeros-same}
 use Rattle.model.proofs.Rounds.{rounds-limit, rounds-short}
 use Rattle.model.proofs.RecordBytes.{length-log}
 use Rattle.table.specs.declared.Table.{Table}
-use Rattle.table.specs.Reading.{Holds, systemIn}
+use Rattle.table.specs.Reading.{Holds, saturatedIn}
 use Rattle.logs.proofs.Logs.{log-fits}
 use Rattle.saturate.specs.Limits.{SaturatedFull, SaturatedLimit}
 use Rattle.verdict.proofs.Clearing.{linked-cleared}
@@ -26,7 +26,7 @@ none-left {log = log} {scratch = scratch} {log₁ = log₁} {scratch₁ = scratc
 module _ {table : List ℕ} {t : Table} {n : ℕ} {log scratch : List ℕ} (pre : Holds table t × Roomy n log scratch) {count most : ℕ} {log₁ scratch₁ : List ℕ}
     (whole : SaturatedLimit table n log scratch count most log₁ scratch₁) where
   abbrev sys : System
-  sys = systemIn table
+  sys = saturatedIn table
 
   pub behind-room : count * recordLength ≤ length log₁
   behind-room = omega (arith, whole .fits, whole .log-length, pre .1 .log-room)
@@ -66,4 +66,4 @@ module _ {table : List ℕ} {t : Table} {n : ℕ} {log scratch : List ℕ} (pre 
 -- the highest round is a number of a record
 pub rounds-few : {table : List ℕ} {t : Table} {n : ℕ} {log scratch : List ℕ} {count most : ℕ} {log′ scratch′ : List ℕ} → LimitLeft table t n log scratch count most log′ scratch′ → most ≤ 65535
 rounds-few {table} l =
-    omega (arith, l .settled .highest, rounds-limit (systemIn table), rounds-short (systemIn table), l .settled .log-of .size, l .settled .linked .room .fits, l .settled .linked .room .short)
+    omega (arith, l .settled .highest, rounds-limit (saturatedIn table), rounds-short (saturatedIn table), l .settled .log-of .size, l .settled .linked .room .fits, l .settled .linked .room .short)

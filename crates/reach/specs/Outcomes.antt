@@ -9,7 +9,7 @@ use Rattle.model.specs.Calls.{AnswerOutcome, RunOutcome, answerFigures, capacit
 use Rattle.model.specs.Log.{limit}
 use Rattle.model.specs.Records.{logBytes}
 use Rattle.table.specs.declared.Table.{Table}
-use Rattle.table.specs.Reading.{systemIn}
+use Rattle.table.specs.Reading.{saturatedIn}
 use Rattle.saturate.specs.declared.Saturated.{Saturated}
 use Rattle.saturate.specs.declared.Saturated.the-variants.{Limit, Full}
 use Rattle.verdict.specs.Verdicts.{Settled}
@@ -37,13 +37,13 @@ pub record Roomy (n : ℕ) (log scratch : List ℕ) : Type 0 where
 -- the log holds the limit's records and then zeros
 pub record LimitLeft (table : List ℕ) (t : Table) (n : ℕ) (log scratch : List ℕ) (count most : ℕ) (log′ scratch′ : List ℕ) : Type 0 where
   pub settled : Settled table t log′ n count most scratch′
-  pub log-left : log′ ≡ filled (logBytes (limit (systemIn table))) log
+  pub log-left : log′ ≡ filled (logBytes (limit (saturatedIn table))) log
   pub log-length : length log′ ≡ length log
   pub scratch-length : length scratch′ ≡ length scratch
 
 -- or has no room for them, and is left zero
 pub record NoneLeft (table : List ℕ) (n : ℕ) (log scratch log′ scratch′ : List ℕ) : Type 0 where
-  pub over : n < length (limit (systemIn table))
+  pub over : n < length (limit (saturatedIn table))
   pub log-left : log′ ≡ zeros log
   pub scratch-left : scratch′ ≡ zeros scratch
 

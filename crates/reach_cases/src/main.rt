@@ -604,6 +604,13 @@ fn show_stray() {
     show_pieces(&T[0..39], &[1u8, 0], &T[41..76]);
 }
 
+// 7: the re-entry table with 5 states.
+fn show_wide() {
+    let mut wide = REENTRY;
+    wide[2] = 5;
+    show_both(&wide);
+}
+
 // 8: rule 1 stands in the place of rule 2, too.
 fn show_twin() {
     show_pieces(&T[0..46], &T[29..46], &T[63..76]);
@@ -614,8 +621,15 @@ fn show_refused() {
     show_first_kind(0);
     show_first_kind(2);
     show_stray();
-    show_both(&REENTRY);
+    show_wide();
     show_twin();
+}
+
+// The re-entry table is copied: unreachable, with two records in round 0, for which a log of one has no room, and one in round 1.
+fn show_copied() {
+    show_both(&REENTRY);
+    show_answer(&REENTRY, 55, 34010);
+    show_run(&REENTRY, 83, 34020, 4);
 }
 
 // T without rule 2: unreachable, with the record of rule 1; 16 on any page, after 10 for a log of no record.
@@ -690,6 +704,7 @@ fn main() {
     show_pages(&T[0..76]);
     show_longer_log(&T[0..76]);
     show_refused();
+    show_copied();
     show_unreachable();
     show_written();
     show_piles();

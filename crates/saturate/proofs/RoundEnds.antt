@@ -16,7 +16,7 @@ use Rattle.model.proofs.Limit.{length-suc}
 use Rattle.model.proofs.Lists.{isEmpty-false, isEmpty-true}
 use Rattle.model.proofs.Tests.{by-test}
 use Rattle.table.specs.declared.Table.{Table}
-use Rattle.table.specs.Reading.{systemIn}
+use Rattle.table.specs.Reading.{saturatedIn}
 use Rattle.saturate.specs.declared.rounds.Added.{Added}
 use Rattle.saturate.specs.declared.rounds.Added.the-variants.{Records, Nothing, NoRoom}
 use Rattle.saturate.specs.Adding.{CanHold, RoundAdded, roundTold}
@@ -46,7 +46,7 @@ told-finding sys k size e =
 module _ {table : List ℕ} {t : Table} {lo base n k : ℕ} {log s : List ℕ} (b : RoundBegins table t lo base n k log s) {fresh count : ℕ} {s₁ log′ s′ : List ℕ}
     (d : HeadsDone table t (record { number = k + 1; lo = lo; base = base; fresh = fresh; n = n }) log s₁ count log′ s′) (size : length s₁ ≡ length s) where
   abbrev sys : System
-  sys = systemIn table
+  sys = saturatedIn table
 
   grown : length (logAt sys (k + 1)) ≡ base + length (additions sys (logAt sys k))
   grown = omega (arith, round-length sys k, b .size)

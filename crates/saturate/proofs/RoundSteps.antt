@@ -29,7 +29,7 @@ use Rattle.scratch.specs.Regions.{activeAt, keysAt, ringsAt}
 use Rattle.rings.specs.Rings.{Ringed}
 use Rattle.keys.specs.Keys.{Indexed}
 use Rattle.table.specs.declared.Table.{Table}
-use Rattle.table.specs.Reading.{Holds, ruleIn, systemIn}
+use Rattle.table.specs.Reading.{Holds, ruleIn, saturatedIn, systemIn}
 use Rattle.table.proofs.Layouts.{table-modest}
 use Rattle.logs.proofs.Logs.{skip-stale}
 use Rattle.logs.proofs.Rules.{each-by-elem, rule-number}
@@ -60,7 +60,7 @@ Passed sys k ok r = ok r ≡ false → (p : Path) → List·Memᴰ p (paths (sys
 
 module _ {table : List ℕ} {t : Table} {round : Round} {log s : List ℕ} (stands : InRound table t round log s) where
   abbrev sys : System
-  sys = systemIn table
+  sys = saturatedIn table
 
   first-all : round .number ≡ 1 → (r : Rule) → isActive round r ≡ true
   unfolding isActive
@@ -161,7 +161,7 @@ module _ (table : List ℕ) (number : ℕ) where
   R = earlierLog table number
 
   abbrev all : List Candidate
-  all = additions (systemIn table) R
+  all = additions (saturatedIn table) R
 
   abbrev toRecord : Candidate → Record
   toRecord = addedRecord number R
@@ -177,11 +177,11 @@ module _ (table : List ℕ) (number : ℕ) where
   with-length : (cs : List Candidate) → length (logWith cs) ≡ length R + length cs
   with-length cs = length-append R (map toRecord cs) ∙ ap (λ (n : ℕ). length R + n) (length-map cs toRecord)
 
-  log-of-round : 1 ≤ number → logAt (systemIn table) number ≡ logWith all
+  log-of-round : 1 ≤ number → logAt (saturatedIn table) number ≡ logWith all
   log-of-round l = let e : number ≡ suc (number - 1) = omega arith in
-      ap (logAt (systemIn table)) e ∙ logAt-suc (systemIn table) (number - 1) ∙ ap (λ (k : ℕ). R ++ map (addedRecord k R) all) (sym e)
+      ap (logAt (saturatedIn table)) e ∙ logAt-suc (saturatedIn table) (number - 1) ∙ ap (λ (k : ℕ). R ++ map (addedRecord k R) all) (sym e)
 
-  upTo-short : 1 ≤ number → (last : List ℕ) → length (logUpTo last) ≤ length (logAt (systemIn table) number)
+  upTo-short : 1 ≤ number → (last : List ℕ) → length (logUpTo last) ≤ length (logAt (saturatedIn table) number)
   upTo-short l last = omega (arith, with-length (filter (upTo last) all), filter-short (upTo last) all, with-length all, ap length (log-of-round l))
 
 -- the round has come to a position, or the log has no room for it
@@ -190,7 +190,7 @@ pub record HeadsAdded (table : List ℕ) (t : Table) (round : Round) (log₀ s�
   pub standing : InRound table t round log s
   pub passed : HeadsPassed table t last position s
   pub logged : count ≤ round .n → Logged (logUpTo table (round .number) last) count log
-  pub over : round .n < count → round .n < length (logAt (systemIn table) (round .number))
+  pub over : round .n < count → round .n < length (logAt (saturatedIn table) (round .number))
   pub large : round .base ≤ count
   pub small : count ≤ round .n + 1
   pub earlier : take (round .base * recordLength) log ≡ take (round .base * recordLength) log₀
@@ -200,8 +200,8 @@ pub record HeadsAdded (table : List ℕ) (t : Table) (round : Round) (log₀ s�
 
 -- no head is left: the log of the round stands, or there is no room for it, and count is then more than n
 pub record HeadsDone (table : List ℕ) (t : Table) (round : Round) (log₀ s₀ : List ℕ) (count : ℕ) (log s : List ℕ) : Type 0 where
-  pub within : count ≤ round .n → Logged (logAt (systemIn table) (round .number)) count log
-  pub over : round .n < count → round .n < length (logAt (systemIn table) (round .number))
+  pub within : count ≤ round .n → Logged (logAt (saturatedIn table) (round .number)) count log
+  pub over : round .n < count → round .n < length (logAt (saturatedIn table) (round .number))
   pub earlier : take (round .base * recordLength) log ≡ take (round .base * recordLength) log₀
   pub ringed : Ringed log (round .base) (round .n) ringsAt s
   pub prepared : Prepared table t s
@@ -223,7 +223,7 @@ module _ {table : List ℕ} {t : Table} {round : Round} {log s : List ℕ} (stan
   pub heads-start : {position : ℕ} (s₁ : List ℕ) → Keeps s₁ s → position ≡ firstFrom (inSet s₁ activeAt) 0 (positionCeiling - 0) → HeadsAdded table t round log s position (round .base) log s
   heads-start {position} s₁ keeps e =
       let log-is = R table (round .number) in
-      let none = ap (logWith table (round .number)) (no-head (systemIn table) log-is (isActive round) (passed-over stands)) ∙ append-nil log-is in
+      let none = ap (logWith table (round .number)) (no-head (saturatedIn table) log-is (isActive round) (passed-over stands)) ∙ append-nil log-is in
       record {
         last = [];
         standing = stands;
@@ -256,11 +256,11 @@ module _ {table : List ℕ} {t : Table} {round : Round} {log₀ s₀ : List ℕ}
     indexed = h .indexed;
   }
     where
-      whole : count ≤ round .n → logUpTo table (round .number) (h .last) ≡ logAt (systemIn table) (round .number)
+      whole : count ≤ round .n → logUpTo table (round .number) (h .last) ≡ logAt (saturatedIn table) (round .number)
       whole l =
           let e = sym is ∙ stops in
           let end : t .rules ≤ position = ltb-false position (t .rules) (rw (le-leb count (round .n) l) at e) in
-          ap (logWith table (round .number)) (last-head (systemIn table) (R table (round .number)) (isActive round) (passed-over S) (h .last)
+          ap (logWith table (round .number)) (last-head (saturatedIn table) (R table (round .number)) (isActive round) (passed-over S) (h .last)
           (rules-at S (λ (r : Rule). lexLess (h .last) (ruleHead r) ≡ false) (λ p b y. h .passed .before p (omega arith) b y)))
           ∙ sym (log-of-round table (round .number) (S .begun))
 
@@ -287,7 +287,7 @@ module _ {table : List ℕ} {t : Table} {round : Round} {log₀ s₀ : List ℕ}
 
     head-news : filter (upTo (headAt table s position)) (all table (round .number)) ≡ olds ++ news
     unfolding headAdditions
-    head-news = next-head (systemIn table) (R table (round .number)) (isActive round) (passed-over S) (h .last) (letterOf table s position) (beforeOf table s position)
+    head-news = next-head (saturatedIn table) (R table (round .number)) (isActive round) (passed-over S) (h .last) (letterOf table s position) (beforeOf table s position)
         (h .passed .behind position (omega arith) below head-active)
         (rules-at S (λ (r : Rule). lexLess (h .last) (ruleHead r) ≡ true → lexLess (ruleHead r) (headAt table s position) ≡ false) (λ p b y z. elim (decLt p position) [
           | yes e ↦ absurd (true≢false (sym z ∙ h .passed .before p e b y))
@@ -311,7 +311,7 @@ module _ {table : List ℕ} {t : Table} {round : Round} {log₀ s₀ : List ℕ}
           }
 
       -- or there is none, and none for the round
-      over-next : round .n < r .count → round .n < length (logAt (systemIn table) (round .number))
+      over-next : round .n < r .count → round .n < length (logAt (saturatedIn table) (round .number))
       over-next l = omega (arith, d .counted, grown, upTo-short table (round .number) (S .begun) (headAt table s position))
 
       standing-next : InRound table t round log′ s′

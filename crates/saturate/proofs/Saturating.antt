@@ -1,31 +1,27 @@
 -- Rounds until one adds nothing: the limit.
 use mathlib.Core.Path.{_∙_, _≡_, ap, ap₂, refl, subst, sym}
-use mathlib.Core.Bool.{Bool, false, not, true}
 use mathlib.Core.List.{List, _++_}
 use Prim.Native.Nat.{_*_, _+_, _-_, _<_, _≤_, ℕ}
 use native.Mathlib.Decide.{decLt}
 use native.Mathlib.Omega.{arith}
 use native.Mathlib.Nat.{not-suc-le-zero}
-use lib.Dec.{ltb}
 use lib.ListN.{drop, length, length-append, length-drop, take}
 use lib.Seq.{take-at}
-use borrow.Author.Tests.{ltb-false, ltb-true, not-false, not-true}
+use borrow.Author.Tests.{le-ltb, lt-ltb}
 use Rattle.model.specs.Calls.{capacity}
 use Rattle.model.specs.Log.{additions, logAt, saturatedAt}
 use Rattle.model.specs.Records.{logBytes, recordLength}
 use Rattle.model.specs.Systems.{System}
 use Rattle.model.proofs.Limit.{ByteSystem, limit-saturated}
 use Rattle.model.proofs.Rounds.{before-saturated, limit-longest, rounds-limit}
-use Rattle.model.proofs.AcceptedTables.{accepted-bytes}
+use Rattle.model.proofs.CopiedTables.{accepted-bytes}
 use Rattle.model.proofs.RecordBytes.{length-log}
-use Rattle.scratch.specs.Regions.{linksEnd, transitionCodesAt}
-use Rattle.sorting.specs.Sorting.{keyPlace}
+use Rattle.scratch.specs.Regions.{linksEnd}
 use Rattle.table.specs.declared.Table.{Table}
-use Rattle.table.specs.Reading.{Holds, itemsIn, systemIn}
+use Rattle.table.specs.Reading.{Holds, itemsIn, saturatedIn, systemIn}
 use Rattle.table.proofs.Readings.{holds-complete}
-use Rattle.table.proofs.Layouts.{table-modest, transitions-count}
-use Rattle.logs.proofs.Rules.{transitions-distinct}
-use Rattle.initial.specs.Initial.{initialLog}
+use Rattle.logs.proofs.Rules.{saturated-distinct}
+use Rattle.initial.specs.Initial.{initialCount, initialLog}
 use Rattle.initial.proofs.RoundZero.{initial-length}
 use Rattle.saturate.specs.declared.Saturated.{Saturated}
 use Rattle.saturate.specs.declared.Saturated.the-variants.{Limit, Full}
@@ -37,14 +33,14 @@ use Rattle.saturate.specs.Rounds.{Logged, RoundBegins, RoundScratch, Scr
 use Rattle.saturate.proofs.RoundEnds.{Finding, round-length, told-finding}
 use Rattle.saturate.proofs.ScratchParts.{rounds-logged}
 
-holds-bytes : (bytes : List ℕ) (t : Table) → Holds bytes t → ByteSystem (systemIn bytes)
+holds-bytes : (bytes : List ℕ) (t : Table) → Holds bytes t → ByteSystem (saturatedIn bytes)
 unfolding systemIn
 holds-bytes bytes t h = accepted-bytes (itemsIn bytes) (holds-complete bytes t h)
 
 -- the rounds up to k stand, and each added a record
 pub record Saturating (table : List ℕ) (t : Table) (n : ℕ) (log₀ s₀ log s : List ℕ) (lo base k : ℕ) : Type 0 where
   pub begins : RoundBegins table t lo base n k log s
-  pub growing : (j : ℕ) → j < k → 0 < length (additions (systemIn table) (logAt (systemIn table) j))
+  pub growing : (j : ℕ) → j < k → 0 < length (additions (saturatedIn table) (logAt (saturatedIn table) j))
   pub log-length : length log ≡ length log₀
   pub scratch-length : length s ≡ length s₀
 
@@ -53,9 +49,9 @@ saturating-start b = record { begins = b; growing = λ j h. absurd (not-suc-le-z
 
 -- a round more
 module _ {table : List ℕ} {t : Table} {n : ℕ} {log₀ s₀ log s : List ℕ} {lo base k : ℕ} (h : Saturating table t n log₀ s₀ log s lo base k)
-    {r : Added} {log′ s′ : List ℕ} (a : RoundAdded (systemIn table) k log r log′) (c : RoundScratch table t base n k log′ s s′) where
+    {r : Added} {log′ s′ : List ℕ} (a : RoundAdded (saturatedIn table) k log r log′) (c : RoundScratch table t base n k log′ s s′) where
   abbrev sys : System
-  sys = systemIn table
+  sys = saturatedIn table
 
   abbrev news : ℕ
   news = length (additions sys (logAt sys k))
@@ -139,53 +135,46 @@ module _ {table : List ℕ} {t : Table} {n : ℕ} {log₀ s₀ log s : List ℕ}
     }
 
 -- ---- round 0
-module _ (table : List ℕ) (t : Table) (holds : Holds table t) where
-  initial-size : length (logAt (systemIn table) 0) ≡ t .transitions
-  initial-size = initial-length (systemIn table) (transitions-distinct table t holds) ∙ transitions-count table t holds
-
-  -- the codes of the transitions have room
-  pub codes-room : (n : ℕ) (s : List ℕ) → linksEnd n ≤ length s → keyPlace transitionCodesAt (t .transitions + t .transitions) ≤ length s
-  codes-room n s scratch = omega (arith, table-modest table t holds .transitions)
+initial-size : (table : List ℕ) (t : Table) → Holds table t → length (logAt (saturatedIn table) 0) ≡ initialCount table
+initial-size table t holds = initial-length (saturatedIn table) (saturated-distinct table t holds)
 
 module _ {table : List ℕ} {t : Table} {n : ℕ} (log s log′ s′ : List ℕ) (p : Holds table t × (n ≡ capacity (length log)) × (linksEnd n ≤ length s))
-    {r : Bool} (w : (r ≡ not (ltb n (t .transitions))) × ((log′ ≡ initialLog (systemIn table) log (t .transitions) n) × (length s′ ≡ length s))) where
-  pub initial-full : not r ≡ true → SaturatedFull table n log s log′ s′
+    {count : ℕ} (w : (count ≡ initialCount table) × ((log′ ≡ initialLog (saturatedIn table) log count n) × (length s′ ≡ length s))) where
+  size-is : length (logAt (saturatedIn table) 0) ≡ count
+  size-is = initial-size table t (p .0) ∙ sym (w .0)
+
+  pub initial-full : n < count → SaturatedFull table n log s log′ s′
   initial-full y =
-      let over : ltb n (t .transitions) ≡ true = not-false _ (sym (w .0) ∙ not-true _ y) in
-      let same : log′ ≡ log = rw over at (w .1 .0) in
+      let same : log′ ≡ log = rw (lt-ltb n count y) at (w .1 .0) in
       record {
-        over = omega (arith, ltb-true n (t .transitions) over, initial-size table t (p .0), limit-longest (systemIn table) (holds-bytes table t (p .0)) 0);
+        over = omega (arith, y, size-is, limit-longest (saturatedIn table) (holds-bytes table t (p .0)) 0);
         log-length = ap length same;
         scratch-length = w .1 .1;
       }
 
-  module _ (y : not r ≡ false) where
-    few : ltb n (t .transitions) ≡ false
-    few = not-true _ (sym (w .0) ∙ not-false _ y)
+  module _ (few : count ≤ n) where
+    written-is : log′ ≡ logBytes (logAt (saturatedIn table) 0) ++ drop (count * recordLength) log
+    written-is = rw (le-ltb n count few) at (w .1 .0)
 
-    written-is : log′ ≡ logBytes (logAt (systemIn table) 0) ++ drop (t .transitions * recordLength) log
-    written-is = rw few at (w .1 .0)
-
-    bytes-long : length (logBytes (logAt (systemIn table) 0)) ≡ t .transitions * recordLength
-    bytes-long = length-log (logAt (systemIn table) 0) ∙ ap (λ (k : ℕ). k * recordLength) (initial-size table t (p .0))
+    bytes-long : length (logBytes (logAt (saturatedIn table) 0)) ≡ count * recordLength
+    bytes-long = length-log (logAt (saturatedIn table) 0) ∙ ap (λ (k : ℕ). k * recordLength) size-is
 
     log-kept : length log′ ≡ length log
-    log-kept = ap length written-is ∙ length-append (logBytes (logAt (systemIn table) 0)) (drop (t .transitions * recordLength) log)
-        ∙ omega (arith, p .1, ltb-false n (t .transitions) few, bytes-long, length-drop (t .transitions * recordLength) log)
+    log-kept = ap length written-is ∙ length-append (logBytes (logAt (saturatedIn table) 0)) (drop (count * recordLength) log)
+        ∙ omega (arith, p .1, few, bytes-long, length-drop (count * recordLength) log)
 
     -- the scratch has been made ready
     module _ {s″ : List ℕ} (ready : ScratchReady table t n log′ s′ s″) where
-      pub initial-begins : RoundBegins table t 0 (t .transitions) n 0 log′ s″
+      pub initial-begins : RoundBegins table t 0 count n 0 log′ s″
       initial-begins = record {
         holds = p .0;
-        handed = ap₂ (λ (m : ℕ) (l : List ℕ). take m l) bytes-long written-is
-            ∙ take-at (logBytes (logAt (systemIn table) 0)) (drop (t .transitions * recordLength) log) (t .transitions * recordLength) bytes-long;
-        size = sym (initial-size table t (p .0));
+        handed = ap₂ (λ (m : ℕ) (l : List ℕ). take m l) bytes-long written-is ∙ take-at (logBytes (logAt (saturatedIn table) 0)) (drop (count * recordLength) log) (count * recordLength) bytes-long;
+        size = sym size-is;
         late = omega arith;
         low = omega arith;
         last = λ l. absurd (omega arith);
         room = p .1 ∙ ap capacity (sym log-kept);
-        fits = ltb-false n (t .transitions) few;
+        fits = few;
         scratch = omega (arith, p .2, w .1 .1, ready .size);
         ringed = ready .ringed;
         indexed = ready .indexed;

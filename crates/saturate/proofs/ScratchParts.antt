@@ -27,7 +27,7 @@ use Rattle.rings.proofs.Links.{outside-none}
 use Rattle.keys.specs.Keys.{Indexed, KeyRoom}
 use Rattle.keys.proofs.Keeping.{indexed-scratch}
 use Rattle.table.specs.declared.Table.{Table}
-use Rattle.table.specs.Reading.{Holds, ruleIn, systemIn}
+use Rattle.table.specs.Reading.{Holds, ruleIn, saturatedIn}
 use Rattle.table.proofs.Layouts.{table-modest}
 use Rattle.logs.proofs.Logs.{Keyed, log-over}
 use Rattle.rules.specs.Regions.{inSet, positionCeiling}
@@ -199,7 +199,7 @@ module _ {table : List ℕ} {t : Table} {lo base n k : ℕ} {log s : List ℕ} {
     pub round-stands : Ringed log base n ringsAt s₁ → Freshened log lo base n ringsAt s₁ → InRound table t round log s₃
     round-stands r f =
         let earlier : k ≡ k + 1 - 1 = omega arith in
-        let logged : Logged (earlierLog table (k + 1)) base log = subst (λ (j : ℕ). Logged (logAt (systemIn table) j) base log) earlier (rounds-logged (systemIn table) k base log (b .size) (b .handed)) in
+        let logged : Logged (earlierLog table (k + 1)) base log = subst (λ (j : ℕ). Logged (logAt (saturatedIn table) j) base log) earlier (rounds-logged (saturatedIn table) k base log (b .size) (b .handed)) in
         record {
           holds = b .holds;
           begun = omega arith;
@@ -208,7 +208,7 @@ module _ {table : List ℕ} {t : Table} {lo base n k : ℕ} {log s : List ℕ} {
           bytes = logged .bytes;
           records = omega (arith, b .room);
           low = b .low;
-          last = λ l. b .last (omega arith) ∙ ap (λ (j : ℕ). length (logAt (systemIn table) j)) (let e : k - 1 ≡ k + 1 - 2 = omega arith in e);
+          last = λ l. b .last (omega arith) ∙ ap (λ (j : ℕ). length (logAt (saturatedIn table) j)) (let e : k - 1 ≡ k + 1 - 2 = omega arith in e);
           fresh = letters-fresh table t (b .holds) base (k + 1) log logged lo fresh letters;
           room = record { fits = b .fits; short = omega (arith, b .room); records = omega (arith, b .fits, b .room); room = omega (arith, b .scratch, size-active, x .outside .size) };
           ringed = ringed-scratch log base n ringsAt s₁ s₃ (b .fits) (λ i p q. links-kept i p q) r;

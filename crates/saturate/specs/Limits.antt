@@ -6,15 +6,15 @@ use lib.ListN.{length}
 use Rattle.model.specs.Log.{limit, rounds}
 use Rattle.scratch.specs.Regions.{ringsAt}
 use Rattle.rings.specs.Rings.{RingRoom, Ringed}
-use Rattle.table.specs.Reading.{systemIn}
+use Rattle.table.specs.Reading.{saturatedIn}
 use Rattle.saturate.specs.declared.Saturated.{Saturated}
 use Rattle.saturate.specs.declared.Saturated.the-variants.{Limit, Full}
 use Rattle.saturate.specs.Rounds.{Logged}
 
 -- the log begins with the records of the limit, and they are in rings
 pub record SaturatedLimit (table : List ℕ) (n : ℕ) (log s : List ℕ) (count last : ℕ) (log′ s′ : List ℕ) : Type 0 where
-  pub logged : Logged (limit (systemIn table)) count log′
-  pub last-round : last ≡ rounds (limit (systemIn table))
+  pub logged : Logged (limit (saturatedIn table)) count log′
+  pub last-round : last ≡ rounds (limit (saturatedIn table))
   pub fits : count ≤ n
   pub linked : RingRoom log′ count n ringsAt s′ × Ringed log′ count n ringsAt s′
   pub log-length : length log′ ≡ length log
@@ -22,7 +22,7 @@ pub record SaturatedLimit (table : List ℕ) (n : ℕ) (log s : List ℕ) (count
 
 -- or has no room for them
 pub record SaturatedFull (table : List ℕ) (n : ℕ) (log s log′ s′ : List ℕ) : Type 0 where
-  pub over : n < length (limit (systemIn table))
+  pub over : n < length (limit (saturatedIn table))
   pub log-length : length log′ ≡ length log
   pub scratch-length : length s′ ≡ length s
 

@@ -11,7 +11,7 @@ use Rattle.scratch.specs.Regions.{activeAt, keysAt, linksEnd, ringsAt}
 use Rattle.rings.specs.Rings.{OutsideSame, Ringed}
 use Rattle.keys.specs.Keys.{Indexed}
 use Rattle.table.specs.declared.Table.{Table}
-use Rattle.table.specs.Reading.{Holds, systemIn}
+use Rattle.table.specs.Reading.{Holds, saturatedIn}
 use Rattle.rules.specs.Regions.{KeptOutside, positionBytes}
 use Rattle.rules.specs.Rules.{AllActive, Gathered, hasLetter, letterCeiling}
 use Rattle.heads.specs.Rounds.{Prepared}
@@ -55,13 +55,13 @@ pub record KeysIndexed (t : Table) (base n position : ℕ) (log s s′ : List �
 -- log can hold, and their links.
 pub record RoundBegins (table : List ℕ) (t : Table) (lo base n k : ℕ) (log s : List ℕ) : Type 0 where
   pub holds : Holds table t
-  pub handed : HoldsRounds (systemIn table) k log
-  pub size : base ≡ length (logAt (systemIn table) k)
+  pub handed : HoldsRounds (saturatedIn table) k log
+  pub size : base ≡ length (logAt (saturatedIn table) k)
   -- each round added a record
   pub late : k ≤ base
   -- the records of round k are those from lo on
   pub low : lo ≤ base
-  pub last : 1 ≤ k → lo ≡ length (logAt (systemIn table) (k - 1))
+  pub last : 1 ≤ k → lo ≡ length (logAt (saturatedIn table) (k - 1))
   pub room : n ≡ capacity (length log)
   pub fits : base ≤ n
   pub scratch : linksEnd n ≤ length s
@@ -73,6 +73,6 @@ pub record RoundBegins (table : List ℕ) (t : Table) (lo base n k : ℕ) (log s
 -- holds is not decided
 pub record RoundScratch (table : List ℕ) (t : Table) (base n k : ℕ) (log s s′ : List ℕ) : Type 0 where
   pub ringed : Ringed log base n ringsAt s′
-  pub indexed : base < length (logAt (systemIn table) (k + 1)) → length (logAt (systemIn table) (k + 1)) ≤ n → Indexed log base n (keysAt n) s′
+  pub indexed : base < length (logAt (saturatedIn table) (k + 1)) → length (logAt (saturatedIn table) (k + 1)) ≤ n → Indexed log base n (keysAt n) s′
   pub prepared : Prepared table t s′
   pub size : length s′ ≡ length s

@@ -21,13 +21,20 @@ pub enum Saturated {
     Full,
 }
 
-// Adds rounds to round 0 until one adds nothing or the log has no room.
-fn add_rounds(table: &[u8], t: Table, log: &mut [u8], scratch: &mut [u8], n: usize) -> Saturated
-    requires { ⌜ RoundBegins (now table) t 0 (t .transitions) n 0 (now log) (now scratch) ⌝ }
+// Adds rounds to the records of round 0, which are `count`, until one adds nothing or the log has no room.
+fn add_rounds(
+    table: &[u8],
+    t: Table,
+    log: &mut [u8],
+    scratch: &mut [u8],
+    n: usize,
+    count: usize,
+) -> Saturated
+    requires { ⌜ RoundBegins (now table) t 0 count n 0 (now log) (now scratch) ⌝ }
     ensures { λ r. ⌜ SaturatedDone (now (table .entry)) n (now (log .entry)) (now (scratch .entry)) r (now (log .exit)) (now (scratch .exit)) ⌝ }
 {
     let mut lo = 0;
-    let mut base = t.transitions;
+    let mut base = count;
     let mut k = 0;
     loop {
         match add_round(table, t, log, scratch, lo, base, n, k) {
@@ -55,9 +62,10 @@ pub fn saturate(table: &[u8], t: Table, log: &mut [u8], scratch: &mut [u8], n: u
     requires { ⌜ Holds (now table) t × (n ≡ capacity (length (now log))) × (linksEnd n ≤ length (now scratch)) ⌝ }
     ensures { λ r. ⌜ SaturatedDone (now (table .entry)) n (now (log .entry)) (now (scratch .entry)) r (now (log .exit)) (now (scratch .exit)) ⌝ }
 {
-    if !write_initial(table, t, log, scratch, n) {
+    let count = write_initial(table, t, log, scratch, n);
+    if n < count {
         return Saturated::Full;
     }
     prepare(table, t, log, scratch, n);
-    add_rounds(table, t, log, scratch, n)
+    add_rounds(table, t, log, scratch, n, count)
 }

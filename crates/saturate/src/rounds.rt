@@ -22,7 +22,7 @@ ghost use lib.Dec.{eqb, leb, ltb};
 ghost use lib.ListN.{length};
 ghost use Rattle.model.specs.Records.{letterAt, recordLength};
 ghost use Rattle.records.specs.Entries.{HasRecord};
-ghost use Rattle.table.specs.Reading.{Holds, systemIn};
+ghost use Rattle.table.specs.Reading.{Holds, saturatedIn};
 ghost use Rattle.scratch.specs.Regions.{keysAt, linksEnd};
 ghost use Rattle.keys.specs.Keys.{Indexed, KeyRoom};
 ghost use Rattle.rules.specs.Rules.{letterCeiling, ruleCeiling, rulesEnd};
@@ -137,7 +137,7 @@ pub fn add_round(
     k: usize,
 ) -> Added
     requires { ⌜ RoundBegins (now table) t lo base n k (now log) (now scratch) ⌝ }
-    ensures request_2_3 { λ r. ⌜ RoundAdded (systemIn (now (table .entry))) k (now (log .entry)) r (now (log .exit)) ⌝ }
+    ensures request_2_3 { λ r. ⌜ RoundAdded (saturatedIn (now (table .entry))) k (now (log .entry)) r (now (log .exit)) ⌝ }
     ensures scratch { λ r. ⌜ RoundScratch (now (table .entry)) t base n k (now (log .exit)) (now (scratch .entry)) (now (scratch .exit)) ⌝ }
 {
     append(log, scratch, RINGS, n, lo, base);

@@ -5,8 +5,8 @@ use native.Mathlib.Omega.{arith}
 use Rattle.model.specs.Calls.{scratchFor}
 use Rattle.scratch.specs.Regions.{Apart, linkRegions, region, roundRegions, ruleRegions, startRegions, transitionCodesAt, walkRegions}
 
-pub initial-fits : Apart (region transitionCodesAt (8 * 200) ∷ []) 9000
-initial-fits = omega arith
+pub initial-fits : (n : ℕ) → Apart (region transitionCodesAt (8 * n) ∷ []) (scratchFor n)
+initial-fits n = omega arith
 
 pub rules-apart : Apart ruleRegions 9000
 rules-apart = (omega arith, (omega arith, (omega arith, omega arith)))

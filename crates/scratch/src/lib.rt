@@ -1,5 +1,5 @@
-// Where everything stands in the scratch, phase by phase. Saturation uses the first 9,000 bytes, the rings and the keys; the start's path 65 sets, the stack
-// and the rings. specs/Regions.antt has the same regions for proofs, and the law that those of one phase do not meet.
+// Where everything stands in the scratch, phase by phase. Round 0 uses eight bytes for each of its records; the other rounds the first 9,000 bytes, the rings
+// and the keys; the start's path 65 sets, the stack and the rings. specs/Regions.antt has the same regions for proofs, and the law that those of one phase do not meet.
 use automaton::states::STATES;
 ghost use mathlib.Core.Path.{_≡_};
 ghost use Prim.Native.Nat.{_≤_};
@@ -16,7 +16,8 @@ pub const NEEDED_PER_RECORD: usize = 10;
 pub const NEEDED_BY_WALK: usize = 2048;
 
 // ---- round 0
-// The codes of the transitions while they are sorted, with room for as many behind them: 8 bytes for each of 200.
+// The codes of the transitions while they are sorted, with room for as many behind them: 8 bytes for each, of which the log can hold a record. Nothing else is
+// there yet.
 pub const TRANSITION_CODES: usize = 0;
 
 // ---- rounds

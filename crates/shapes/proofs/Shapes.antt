@@ -1,34 +1,33 @@
 -- What an accepted table gives to those who step through its configurations: each letter has a process of the table, states are below 8 at the
 -- table's processes and 255 elsewhere, words have letters of the table; and every step keeps it so.
-use mathlib.Core.Path.{_≡_, refl, ap, sym, subst, _∙_}
-use mathlib.Core.Bool.{true, not, _&&_, _||_, true≢false}
+use mathlib.Core.Path.{_≡_, ap, sym, subst, _∙_}
+use mathlib.Core.Bool.{true, true≢false}
 use mathlib.Core.List.{List, [], _∷_, _++_}
-use Prim.Native.Nat.{ℕ, _^_, _<_, _≤_}
+use Prim.Native.Nat.{ℕ, _<_, _≤_}
 use native.Mathlib.Omega.{arith}
-use lib.Dec.{eqb, leb, ltb}
-use lib.ListN.{length, getD, List·getD-map}
-use borrow.Author.Tests.{leb-true, lt-ltb, ltb-true}
+use lib.Dec.{eqb}
+use lib.ListN.{getD, List·getD-map}
 use Rattle.model.specs.declared.Group.{Group}
-use Rattle.model.specs.Groups.{Process, Processes, Within, p0, p1, p2, p3, at, every, has, merge, processesOf}
+use Rattle.model.specs.Groups.{Process, Processes, Within, at, has, merge}
 use Rattle.model.specs.Automata.{Transition, move}
 use Rattle.model.specs.Lists.{Each}
 use Rattle.model.specs.Systems.{Rule}
-use Rattle.model.specs.Tables.{Item, absent, bodies, byteOf, controlsOf, groupFits, groupOf, numberOf, present, ruleOf, statesOf, systemOf, transitionOf, valueFits}
+use Rattle.model.specs.Tables.{bodies, controlsOf, groupFits, groupOf, present, ruleOf, statesOf, systemOf, transitionOf}
 use Rattle.model.specs.Words.{Located, removeFirst}
 use Rattle.model.proofs.Groups.{at-merge}
 use Rattle.model.proofs.Lists.{each-append}
-use Rattle.model.proofs.CheckedItems.{Checked, Complete, Passes, each-of-kind}
+use Rattle.model.proofs.CheckedItems.{Complete}
 use Rattle.model.proofs.FittingItems.{Fitting, RuleFits, TransitionFits, fits-at, fits-outside, rules-fit, transitions-fit, start-fits}
-use Rattle.model.proofs.AcceptedTables.{accepted-well-formed}
-use Rattle.model.proofs.Tests.{by-test, and-left, and-right, every-at, implies}
+use Rattle.model.proofs.AcceptedTables.{accepted-cooperating}
+use Rattle.model.proofs.TableProcesses.{letter-present, ranged-at}
+use Rattle.model.proofs.Tests.{by-test}
 use Rattle.automaton.specs.StateNumbers.{Over}
 use Rattle.table.specs.declared.Table.{Table}
-use Rattle.table.specs.Places.{bodyOf, counts}
 use Rattle.table.specs.Reading.{Holds, itemsIn, systemIn, ruleIn, transitionIn}
 use Rattle.table.proofs.Readings.{holds-complete}
-use Rattle.table.proofs.Layouts.{table-modest, count-in, loc-in, bits-in, bits-small, pile-count, pile-letter-in, written-letter-in}
+use Rattle.table.proofs.Layouts.{count-in, pile-count, pile-letter-in, written-letter-in}
 use Rattle.shapes.specs.Shapes.{processesBelow, presentIn}
-use Rattle.shapes.proofs.Ranges.{allBelow, all-below, each-place, each-by-place}
+use Rattle.shapes.proofs.Ranges.{each-place, each-by-place}
 
 -- ---- groups
 -- a group that fits, with bounds of at most 8 at the processes of L
@@ -49,31 +48,6 @@ over-merge-fits L M bound x g small w e o = record {
       (λ f. rw f (o .outside i m)));
 }
 
--- bits below a power of two name the first processes alone
-bits-below : (n bits : ℕ) → n ≤ 4 → bits ≤ 15 → bits < 2 ^ n → Within (processesOf bits) (processesBelow n)
-unfolding processesBelow
-bits-below n bits h q l i m =
-    let all : allBelow 5 (λ n. allBelow 16 (λ b. not (ltb b (2 ^ n)) || every (λ i. not (has (processesOf b) i) || has (processesBelow n) i))) ≡ true = refl in
-    let one : (not (ltb bits (2 ^ n)) || every (λ i. not (has (processesOf bits) i) || has (processesBelow n) i)) ≡ true =
-    all-below 16 (λ b. not (ltb b (2 ^ n)) || every (λ i. not (has (processesOf b) i) || has (processesBelow n) i)) bits
-    (all-below 5 (λ n. allBelow 16 (λ b. not (ltb b (2 ^ n)) || every (λ i. not (has (processesOf b) i) || has (processesBelow n) i))) n all (omega arith)) (omega arith) in
-    implies (has (processesOf bits) i) (has (processesBelow n) i)
-    (every-at (λ i. not (has (processesOf bits) i) || has (processesBelow n) i)
-    (implies (ltb bits (2 ^ n)) (every (λ i. not (has (processesOf bits) i) || has (processesBelow n) i)) one (lt-ltb bits (2 ^ n) l)) i) m
-
--- ---- the table
--- the bounds of a process are at most 8
-bounds : {items : List Item} → Checked items → Each (λ (body : List ℕ). byteOf body 0 ≤ 8 × byteOf body 1 ≤ 8) (bodies 1 items)
-unfolding valueFits
-bounds c = each-of-kind 1 (λ items body. byteOf body 0 ≤ 8 × byteOf body 1 ≤ 8) (λ items x body l q. q) bound c
-  where
-    bound : (items : List Item) (body : List ℕ) → Passes items 1 body → byteOf body 0 ≤ 8 × byteOf body 1 ≤ 8
-    bound items body p =
-        let front = and-left (leb 1 (byteOf body 0) && leb (byteOf body 0) (byteOf body 1)) (leb (byteOf body 1) 8) (p .fits) in
-        let small : byteOf body 1 ≤ 8 = leb-true (byteOf body 1) 8 (and-right (leb 1 (byteOf body 0) && leb (byteOf body 0) (byteOf body 1)) (leb (byteOf body 1) 8) (p .fits)) in
-        let less : byteOf body 0 ≤ byteOf body 1 = leb-true (byteOf body 0) (byteOf body 1) (and-right (leb 1 (byteOf body 0)) (leb (byteOf body 0) (byteOf body 1)) front) in
-        (omega arith, small)
-
 module _ (bytes : List ℕ) (t : Table) (h : Holds bytes t) where
   complete : Complete (itemsIn bytes)
   complete = holds-complete bytes t h
@@ -81,7 +55,7 @@ module _ (bytes : List ℕ) (t : Table) (h : Holds bytes t) where
   -- each letter has a process
   pub located : Located (systemIn bytes .loc)
   unfolding systemIn
-  located = accepted-well-formed (itemsIn bytes) complete .cooperating .located
+  located = accepted-cooperating (itemsIn bytes) complete .located
 
   present-is : present (bodies 1 (itemsIn bytes)) ≡ presentIn t
   unfolding processesBelow
@@ -89,20 +63,12 @@ module _ (bytes : List ℕ) (t : Table) (h : Holds bytes t) where
 
   -- which is a process of the table
   pub loc-within : (a : ℕ) → a < t .letters → Within (systemIn bytes .loc a) (presentIn t)
-  loc-within a l =
-      let b = bits-in bytes t h a l in
-      let m : t .processes ≤ 4 = table-modest bytes t h .processes in
-      subst (λ (L : Processes). Within L (presentIn t)) (sym (loc-in bytes t h a l)) (bits-below (t .processes) (byteOf (bodyOf bytes (counts t 1) 2 a) 0) m (bits-small bytes t h a l) (b .1))
+  unfolding systemIn systemOf
+  loc-within a l = subst (Within (systemIn bytes .loc a)) present-is (letter-present (complete .checked) a (omega (arith, count-in bytes t h 2 (omega arith))))
 
-  bound-place : (i : Process) → has (presentIn t) i ≡ true → numberOf i < length (bodies 1 (itemsIn bytes))
-  unfolding processesBelow
-  bound-place p0 m = omega (arith, count-in bytes t h 1 (omega arith), ltb-true 0 (t .processes) m)
-  bound-place p1 m = omega (arith, count-in bytes t h 1 (omega arith), ltb-true 1 (t .processes) m)
-  bound-place p2 m = omega (arith, count-in bytes t h 1 (omega arith), ltb-true 2 (t .processes) m)
-  bound-place p3 m = omega (arith, count-in bytes t h 1 (omega arith), ltb-true 3 (t .processes) m)
-
+  -- which has at most 8 states
   pub bound-at : (i : Process) → has (presentIn t) i ≡ true → (controlsOf (bodies 1 (itemsIn bytes)) i ≤ 8) × (statesOf (bodies 1 (itemsIn bytes)) i ≤ 8)
-  bound-at i m = each-place (λ (body : List ℕ). byteOf body 0 ≤ 8 × byteOf body 1 ≤ 8) (bodies 1 (itemsIn bytes)) absent (numberOf i) (bounds (complete .checked)) (bound-place i m)
+  bound-at i m = let r = ranged-at (complete .checked) i (subst (λ (L : Processes). has L i ≡ true) (sym present-is) m) in (omega (arith, r .controls, r .small), r .small)
 
   -- ---- states
   pub start-over : Over (presentIn t) (systemIn bytes .start .states)

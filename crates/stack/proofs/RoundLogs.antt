@@ -6,17 +6,18 @@ use Rattle.model.specs.Log.{recordAt, logAt, limit, saturatedAt}
 use Rattle.model.proofs.Emission.{Earlier}
 use Rattle.model.proofs.Reachability.{WellFormed}
 use Rattle.model.proofs.Soundness.{Control}
-use Rattle.model.proofs.AcceptedTables.{accepted-well-formed, accepted-control}
+use Rattle.model.proofs.AcceptedTables.{accepted-control}
+use Rattle.model.proofs.CopiedTables.{accepted-well-formed}
 use Rattle.model.proofs.Validity.{each-at, log-earlier}
 use Rattle.records.specs.Entries.{HasRecord, Fits, Reads}
 use Rattle.records.proofs.Entries.{log-reads, log-has}
 use Rattle.table.specs.declared.Table.{Table}
-use Rattle.table.specs.Reading.{Holds, itemsIn, systemIn}
+use Rattle.table.specs.Reading.{Holds, itemsIn, saturatedIn, systemIn}
 use Rattle.table.proofs.Readings.{holds-complete}
 use Rattle.stack.specs.RoundLogs.{RoundLog}
 
 -- ---- the table
-pub holds-well-formed : (bytes : List ℕ) (t : Table) → Holds bytes t → WellFormed (systemIn bytes)
+pub holds-well-formed : (bytes : List ℕ) (t : Table) → Holds bytes t → WellFormed (saturatedIn bytes)
 unfolding systemIn
 holds-well-formed bytes t h = accepted-well-formed (itemsIn bytes) (holds-complete bytes t h)
 
@@ -26,14 +27,14 @@ holds-control bytes t h = accepted-control (itemsIn bytes) (holds-complete bytes
 
 -- ---- the log
 module _ {table : List ℕ} {t : Table} {round : ℕ} {log : List ℕ} {count : ℕ} (w : RoundLog table t round log count) where
-  pub round-fits : (r : ℕ) → r < count → Fits (recordAt (logAt (systemIn table) round) r)
-  round-fits r h = each-at Fits (logAt (systemIn table) round) (w .fits) r (omega (arith, w .size))
+  pub round-fits : (r : ℕ) → r < count → Fits (recordAt (logAt (saturatedIn table) round) r)
+  round-fits r h = each-at Fits (logAt (saturatedIn table) round) (w .fits) r (omega (arith, w .size))
 
-  pub round-reads : (r : ℕ) → r < count → Reads log r (recordAt (logAt (systemIn table) round) r)
-  round-reads r h = log-reads (logAt (systemIn table) round) (w .rest) log r (w .logged) (omega (arith, w .size)) (round-fits r h)
+  pub round-reads : (r : ℕ) → r < count → Reads log r (recordAt (logAt (saturatedIn table) round) r)
+  round-reads r h = log-reads (logAt (saturatedIn table) round) (w .rest) log r (w .logged) (omega (arith, w .size)) (round-fits r h)
 
   pub round-has : (r : ℕ) → r < count → HasRecord log r
-  round-has r h = log-has (logAt (systemIn table) round) (w .rest) log r (w .logged) (omega (arith, w .size))
+  round-has r h = log-has (logAt (saturatedIn table) round) (w .rest) log r (w .logged) (omega (arith, w .size))
 
-pub limit-earlier : (table : List ℕ) → Earlier (limit (systemIn table))
-limit-earlier table = log-earlier (systemIn table) (saturatedAt (systemIn table))
+pub limit-earlier : (table : List ℕ) → Earlier (limit (saturatedIn table))
+limit-earlier table = log-earlier (saturatedIn table) (saturatedAt (saturatedIn table))

@@ -1,39 +1,43 @@
 -- What an accepted table gives the search: its states are numbered, every record leads from one to another, and a state from which a word is accepted is below
 -- what the table says of each process, since the states before every transition are.
 use mathlib.Core.Path.{_≡_, ap, sym, subst, _∙_}
-use mathlib.Core.Bool.{true, false, _&&_}
+use mathlib.Core.Bool.{Bool, cond, true, false}
 use mathlib.Core.Option.{some}
 use mathlib.Core.List.{List, List·Memᴰ, [], _∷_}
-use Prim.Native.Nat.{ℕ, _<_, _≤_}
+use Prim.Native.Nat.{ℕ, _-_, _<_, _≤_}
 use native.Mathlib.Omega.{arith}
-use lib.ListN.{getElem?, length, getD, drop, List·getD-eq-default}
-use lib.Dec.{leb}
-use borrow.Author.Tests.{ltb-true, ltb-false, leb-true}
+use lib.ListN.{getElem?, length, drop}
 use Rattle.model.specs.declared.Group.{Group}
 use Rattle.model.specs.Automata.{Along, Transition, move}
-use Rattle.model.specs.Groups.{Process, Processes, at, has, Within}
+use Rattle.model.specs.Groups.{Process, Processes, at, build, has, Within}
 use Rattle.model.specs.Lists.{Each}
 use Rattle.model.specs.Log.{Record, keys, logAt, recordAt}
 use Rattle.model.specs.Systems.{InAutomaton, Rule, System, accepts}
-use Rattle.model.specs.Tables.{Item, bodies, byteOf, numberOf, absent, controlsOf, statesOf, present, locOf, ruleOf, transitionOf, groupOf, groupFits, valueFits, systemOf}
+use Rattle.model.specs.Tables.{bodies, present, systemOf}
 use Rattle.model.proofs.Acceptance.{accepts-true}
-use Rattle.model.proofs.Groups.{at-merge, at-restrict}
-use Rattle.model.proofs.Lists.{each-get, each-map, each-of-map, each-elem}
+use Rattle.model.proofs.AcceptedTables.{accepted-cooperating}
+use Rattle.model.proofs.CheckedItems.{Complete}
+use Rattle.model.proofs.CopiedTables.{saturated-copyable, saturated-eight}
+use Rattle.model.proofs.Copies.{Copyable}
+use Rattle.model.proofs.Groups.{at-build, at-merge, at-restrict, ext}
+use Rattle.model.proofs.Lists.{each-get, each-map, each-of-map, mem-each}
 use Rattle.model.proofs.Soundness.{ControlOn}
-use Rattle.model.proofs.Tests.{by-test, and-left, and-right, each-process}
-use Rattle.model.proofs.CheckedItems.{Complete, Passes, each-of-kind}
-use Rattle.model.proofs.FittingItems.{Fitting, RuleFits, TransitionFits, fits-at, fits-outside, rules-fit, transitions-fit, accepting-fit}
+use Rattle.model.proofs.TableProcesses.{ranged-at}
+use Rattle.model.proofs.Tests.{by-test}
 use Rattle.model.proofs.Validity.{each-at}
 use Rattle.automaton.specs.StateNumbers.{Over}
 use Rattle.table.specs.declared.Table.{Table}
-use Rattle.table.specs.Reading.{Holds, itemsIn, systemIn, pileIn, statesIn}
+use Rattle.table.specs.Reading.{Holds, itemsIn, pileIn, saturatedIn, systemIn}
 use Rattle.table.proofs.Layouts.{count-in, pile-letter-in}
 use Rattle.table.proofs.Readings.{holds-complete}
 use Rattle.shapes.specs.Shapes.{processesBelow}
-use Rattle.shapes.proofs.Ranges.{each-place}
-use Rattle.shapes.proofs.Shapes.{over-fits, loc-within, start-over}
+use Rattle.shapes.proofs.Shapes.{loc-within, start-over}
+use Rattle.copies.specs.declared.Copying.{Copying}
+use Rattle.copies.specs.CopyingOf.{CopyingOf}
+use Rattle.copies.proofs.Groups.{states-few}
 use Rattle.logs.proofs.Logs.{each-round, Keyed, merge-over, log-over}
-use Rattle.start.specs.RestSets.{firstProcesses, processesOfTable, acceptsFrom}
+use Rattle.start.specs.OwnGroups.{lastOf, lastStates}
+use Rattle.start.specs.RestSets.{firstProcesses, noStates, processesOfTable, acceptsFrom}
 
 -- the transition's states before are below q at its letter's processes
 abbrev pub From : (ℕ → Processes) → (Process → ℕ) → Transition → Type 0
@@ -63,123 +67,90 @@ module _ (loc : ℕ → Processes) (q : Process → ℕ) (i : Process) where
       along-from (p .path) g (p .end) (each-map (λ (t : Transition). List·Memᴰ t ts) (From loc q) (λ t m. each-get (From loc q) t ts e m) (p .path) (p .goods)) (p .along)
       (each-get (λ (f : Group). at f i < q i) (p .end) acc a (p .accepting))
 
-first-has : (n : ℕ) (i : Process) → has (firstProcesses n) i ≡ true → numberOf i < n
-first-has n = each-process (λ i. has (firstProcesses n) i ≡ true → numberOf i < n) (ltb-true 0 n) (ltb-true 1 n) (ltb-true 2 n) (ltb-true 3 n)
-
-first-lacks : (n : ℕ) (i : Process) → has (firstProcesses n) i ≡ false → n ≤ numberOf i
-first-lacks n = each-process (λ i. has (firstProcesses n) i ≡ false → n ≤ numberOf i) (ltb-false 0 n) (ltb-false 1 n) (ltb-false 2 n) (ltb-false 3 n)
-
--- a process has at least one state, at most 8, and no more control states than states
-record Ranged (body : List ℕ) : Type 0 where
-  some : 0 < byteOf body 1
-  small : byteOf body 1 ≤ 8
-  controls : byteOf body 0 ≤ byteOf body 1
-
+-- ---- what an accepted table gives; the states of the automaton that is saturated are counted with their copies
 pub record Grounds (table : List ℕ) (t : Table) : Type 0 where
-  pub states : (i : Process) → has (processesOfTable t) i ≡ true → (0 < statesIn table i) × (statesIn table i ≤ 8)
-  pub lacking : (i : Process) → has (processesOfTable t) i ≡ false → statesIn table i ≡ 256
-  pub accepted : (round k : ℕ) (g : Group) → acceptsFrom table round k g ≡ true → (i : Process) → at g i < statesIn table i
+  pub states : (i : Process) → has (processesOfTable t) i ≡ true → (0 < saturatedIn table .states i) × (saturatedIn table .states i ≤ 8)
+  pub accepted : (round k : ℕ) (g : Group) → acceptsFrom table round k g ≡ true → (i : Process) → at g i < saturatedIn table .states i
   pub letters : (i : ℕ) → i < t .pile → Within (systemIn table .loc (pileIn table i)) (processesOfTable t)
-  pub moves : (round r : ℕ) → r < length (logAt (systemIn table) round) → (g : Group) → Over (processesOfTable t) g
-      → Over (processesOfTable t) (move (systemIn table .loc) (recordAt (logAt (systemIn table) round) r .key) g)
+  pub moves : (round r : ℕ) → r < length (logAt (saturatedIn table) round) → (g : Group) → Over (processesOfTable t) g
+      → Over (processesOfTable t) (move (systemIn table .loc) (recordAt (logAt (saturatedIn table) round) r .key) g)
   pub start : Over (processesOfTable t) (systemIn table .start .states)
-  pub accepting : Each (Over (processesOfTable t)) (systemIn table .accepting)
+  pub accepting : Each (Over (processesOfTable t)) (saturatedIn table .accepting)
 
 module _ (table : List ℕ) (t : Table) (h : Holds table t) where
-  abbrev items : List Item
-  items = itemsIn table
-
-  abbrev ps : List (List ℕ)
-  ps = bodies 1 (itemsIn table)
-
-  abbrev ls : List (List ℕ)
-  ls = bodies 2 (itemsIn table)
-
   complete : Complete (itemsIn table)
   complete = holds-complete table t h
 
-  bodies-ranged : Each Ranged (bodies 1 (itemsIn table))
-  unfolding valueFits
-  bodies-ranged = each-of-kind 1 (λ items. Ranged) (λ items x body l q. q) ranged (complete .checked)
-    where
-      ranged : (items : List Item) (body : List ℕ) → Passes items 1 body → Ranged body
-      ranged items body p =
-          let a = leb 1 (byteOf body 0) in
-          let b = leb (byteOf body 0) (byteOf body 1) in
-          let c = leb (byteOf body 1) 8 in
-          let some : 1 ≤ byteOf body 0 = leb-true 1 (byteOf body 0) (and-left a b (and-left (a && b) c (p .fits))) in
-          let less : byteOf body 0 ≤ byteOf body 1 = leb-true (byteOf body 0) (byteOf body 1) (and-right a b (and-left (a && b) c (p .fits))) in
-          record { some = omega arith; small = leb-true (byteOf body 1) 8 (and-right (a && b) c (p .fits)); controls = less }
+  fitting : Copyable (saturatedIn table)
+  unfolding systemIn
+  fitting = saturated-copyable (itemsIn table) complete
 
-  ranged-at : (i : Process) → has (processesOfTable t) i ≡ true → Ranged (getD (bodies 1 (itemsIn table)) (numberOf i) absent)
-  ranged-at i m = each-place Ranged ps absent (numberOf i) bodies-ranged (omega (arith, first-has (t .processes) i m, count-in table t h 1 (omega arith)))
+  processes-are : present (bodies 1 (itemsIn table)) ≡ processesOfTable t
+  processes-are = ap firstProcesses (count-in table t h 1 (omega arith))
 
-  lacks : (i : Process) → has (processesOfTable t) i ≡ false → statesIn table i ≡ 256
-  lacks i m =
-      ap (λ (body : List ℕ). byteOf body 1) (List·getD-eq-default ps absent {n = numberOf i} (omega (arith, first-lacks (t .processes) i m, count-in table t h 1 (omega arith))))
+  states-range : (i : Process) → has (processesOfTable t) i ≡ true → (0 < saturatedIn table .states i) × (saturatedIn table .states i ≤ 8)
+  unfolding systemIn systemOf
+  states-range i m =
+      let there : has (present (bodies 1 (itemsIn table))) i ≡ true = subst (λ (L : Processes). has L i ≡ true) (sym processes-are) m in
+      (omega (arith, ranged-at (complete .checked) i there .some, fitting .controls i), saturated-eight (itemsIn table) complete i there)
 
   -- the processes of a letter are processes of the table
   letter-within : (a : ℕ) → a < t .letters → Within (systemIn table .loc a) (processesOfTable t)
   unfolding processesBelow
   letter-within = loc-within table t h
 
-  from-states : (bound : Process → ℕ) → ((i : Process) → has (processesOfTable t) i ≡ true → bound i ≤ statesIn table i) → (u : Transition)
-      → Fitting (bodies 2 (itemsIn table)) bound u
-      → From (systemIn table .loc) (statesIn table) u
-  unfolding systemIn systemOf
-  from-states bound small u f i m =
-      let a : at (u .before) i < bound i = fits-at (locOf ls (u .letter)) bound (u .before) (f .before) i m in
-      let b : bound i ≤ statesIn table i = small i (letter-within (u .letter) (omega (arith, f .letter, count-in table t h 2 (omega arith))) i m) in
-      omega arith
-
-  rooted : Rooted (systemIn table) (statesIn table)
-  unfolding systemIn systemOf
+  rooted : Rooted (saturatedIn table) (saturatedIn table .states)
+  unfolding systemIn
   rooted = record {
-    rules = λ n r is. each-elem (λ (r : Rule). ControlOn (statesIn table) (systemIn table .loc (r .letter)) (r .before)) (systemIn table .rules)
-        (each-of-map (λ (r : Rule). ControlOn (statesIn table) (systemIn table .loc (r .letter)) (r .before)) ruleOf (bodies 3 items)
-        (each-map (RuleFits ps ls) (λ (body : List ℕ). ControlOn (statesIn table) (systemIn table .loc (ruleOf body .letter)) (ruleOf body .before))
-        (λ body f. from-states (controlsOf ps) (λ i m. ranged-at i m .controls) (transitionOf body) (f .fits)) (bodies 3 items) (rules-fit (complete .checked)))) n r is;
-    automaton = λ u m. each-get (From (systemIn table .loc) (statesIn table)) u (systemIn table .transitions)
-        (each-of-map (From (systemIn table .loc) (statesIn table)) transitionOf (bodies 4 items)
-        (each-map (TransitionFits ps ls) (λ (body : List ℕ). From (systemIn table .loc) (statesIn table) (transitionOf body))
-        (λ body f. from-states (statesOf ps) (λ i m. omega arith) (transitionOf body) (f .fits)) (bodies 4 items) (transitions-fit (complete .checked)))) m;
+    rules = λ n r is i m. omega (arith, accepted-cooperating (itemsIn table) complete .rules-control n r is .0 i m, fitting .controls i);
+    automaton = λ u m. fitting .automaton u m .before;
   }
 
-  abbrev Fitted : Group → Type 0
-  Fitted g = groupFits (processesOfTable t) (statesIn table) g ≡ true
-
-  accepting-fits : Each Fitted (systemIn table .accepting)
+  accepting-over : Each (Over (processesOfTable t)) (saturatedIn table .accepting)
   unfolding systemIn systemOf
-  accepting-fits =
-      subst (λ (L : Processes). Each (λ (g : Group). groupFits L (statesIn table) g ≡ true) (systemIn table .accepting)) (ap firstProcesses (count-in table t h 1 (omega arith)))
-      (each-of-map (λ (g : Group). groupFits (present ps) (statesOf ps) g ≡ true) (λ (body : List ℕ). groupOf body 0) (bodies 5 items) (accepting-fit (complete .checked)))
-
-  accepting-states : (i : Process) → Each (λ (f : Group). at f i < statesIn table i) (systemIn table .accepting)
-  accepting-states i = each-map Fitted (λ (f : Group). at f i < statesIn table i)
-      (λ f e. by-test (has (processesOfTable t) i) (fits-at (processesOfTable t) (statesIn table) f e i)
-      (λ n. omega (arith, fits-outside (processesOfTable t) (statesIn table) f e i n, lacks i n))) (systemIn table .accepting) accepting-fits
+  accepting-over = mem-each (saturatedIn table .accepting) (Over (processesOfTable t)) (λ g m.
+      let f = fitting .accepting g m in
+      record {
+        inside = λ i y. omega (arith, f .states i, states-range i y .1);
+        outside = λ i n. f .outside i (subst (λ (L : Processes). has L i ≡ false) (sym processes-are) n);
+      })
 
   pub grounds : Grounds table t
   unfolding processesBelow
   grounds = record {
-    states = λ i m. (ranged-at i m .some, ranged-at i m .small);
-    lacking = lacks;
-    accepted = λ round k g y i. accepts-from (systemIn table .loc) (statesIn table) i (keys (logAt (systemIn table) round)) (systemIn table .accepting) (drop k (systemIn table .start .word)) g
-        (log-from (systemIn table) (statesIn table) rooted round) (accepting-states i) y;
+    states = states-range;
+    accepted = λ round k g y i. accepts-from (systemIn table .loc) (saturatedIn table .states) i (keys (logAt (saturatedIn table) round)) (saturatedIn table .accepting) (drop k (systemIn table .start .word)) g
+        (log-from (saturatedIn table) (saturatedIn table .states) rooted round)
+        (mem-each (saturatedIn table .accepting) (λ (f : Group). at f i < saturatedIn table .states i) (λ f m. fitting .accepting f m .states i)) y;
     letters = λ i l. letter-within (pileIn table i) (pile-letter-in table t h i l);
     moves = λ round r l g o.
-        let x = recordAt (logAt (systemIn table) round) r .key in
-        let w = each-at (λ r. Keyed table t (r .key)) (logAt (systemIn table) round) (log-over table t h round) r l in
+        let x = recordAt (logAt (saturatedIn table) round) r .key in
+        let w = each-at (λ r. Keyed table t (r .key)) (logAt (saturatedIn table) round) (log-over table t h round) r l in
         merge-over (processesOfTable t) (systemIn table .loc (x .letter)) (x .after) g (letter-within (x .letter) (w .0)) (w .2) o;
     start = start-over table t h;
-    accepting = each-map Fitted (Over (processesOfTable t)) (λ f e. over-fits (processesOfTable t) (statesIn table) f (λ i m. ranged-at i m .small) e)
-        (systemIn table .accepting) accepting-fits;
+    accepting = accepting-over;
   }
 
--- the number of states of every process, also of one that the table lacks
-pub states-range : (table : List ℕ) (t : Table) → Holds table t → (i : Process) → (0 < statesIn table i) × (statesIn table i ≤ 256)
-states-range table t h i =
-    let w = grounds table t h in
-    by-test (has (processesOfTable t) i)
-    (λ m. (w .states i m .0, omega (arith, w .states i m .1)))
-    (λ n. (omega (arith, w .lacking i n), omega (arith, w .lacking i n)))
+-- ---- what the code knows of the copy gives the highest states
+pub last-none : (b : Bool) → lastOf b 0 ≡ 0
+last-none true = omega arith
+last-none false = omega arith
+
+module _ (table : List ℕ) (t : Table) (h : Holds table t) (c : Copying) (copying : CopyingOf table t c) where
+  pub states-small : (i : Process) → at (c .states) i ≤ 8
+  unfolding processesBelow
+  states-small i = by-test (has (processesOfTable t) i)
+      (λ m. omega (arith, copying .states i m, states-few table t h i m))
+      (λ n. omega (arith, copying .lacking i n))
+
+  pub last-are : build (λ i. lastOf (c .made) (at (c .states) i)) ≡ lastStates table t
+  unfolding lastStates processesBelow
+  last-are = ext (λ i. at-build (λ i. lastOf (c .made) (at (c .states) i)) i
+      ∙ by-test (has (processesOfTable t) i) (own i) (none i)
+      ∙ sym (at-merge (processesOfTable t) (build (λ i. saturatedIn table .states i - 1)) noStates i))
+    where
+      own : (i : Process) → has (processesOfTable t) i ≡ true → lastOf (c .made) (at (c .states) i) ≡ cond (has (processesOfTable t) i) (at (build (λ i. saturatedIn table .states i - 1)) i) (at noStates i)
+      own i m = rw (m, at-build (λ i. saturatedIn table .states i - 1) i, copying .made, copying .states i m)
+
+      none : (i : Process) → has (processesOfTable t) i ≡ false → lastOf (c .made) (at (c .states) i) ≡ cond (has (processesOfTable t) i) (at (build (λ i. saturatedIn table .states i - 1)) i) (at noStates i)
+      none i n = rw (n, copying .lacking i n, at-build (λ i. 0) i) (last-none (c .made))

@@ -4,5 +4,6 @@ pub mod OwnGroups
 pub mod NextNumbers
 pub mod Adding
 pub mod Grounds
+pub mod LastSet
 pub mod RestRight
 pub mod Tracing

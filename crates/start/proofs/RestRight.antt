@@ -1,31 +1,30 @@
 -- The sets are right: a state is in set k exactly if the records accept the rest of the start word from letter k on.
 use mathlib.Core.Path.{_≡_, ap, sym, subst, _∙_, refl, ap₂}
-use mathlib.Core.Bool.{Bool, _||_, true, false, _&&_, true≢false}
-use mathlib.Core.List.{List, [], _∷_, map}
+use mathlib.Core.Bool.{Bool, true, false, _&&_, true≢false}
+use mathlib.Core.List.{List, [], _∷_}
 use mathlib.Core.Logic.{_⊎_, inr, ⊎-elim}
 use Prim.Native.Nat.{ℕ, suc, _+_, _-_, _<_, _≤_, zero, _*_, _%_}
 use native.Mathlib.Omega.{arith}
 use native.Mathlib.Decide.{decLt}
 use native.Mathlib.Numerals.{add-one}
 use lib.Dec.{eqb, ltb}
-use lib.ListN.{length, drop, drop-of-length-le, getD}
+use lib.ListN.{length, drop, getD}
 use lib.Seq.{drop-cons}
 use borrow.Author.Tests.{eq-eqb, eqb-true, lt-ltb, le-ltb}
 use Rattle.model.specs.declared.Group.{Group}
-use Rattle.model.specs.Tables.{groupOf}
 use Rattle.model.specs.Automata.{Transition, move}
 use Rattle.model.specs.Groups.{Process, Processes, at, has, build, processesOf, sameGroup, Within, restrict, merge}
-use Rattle.model.specs.Lists.{Each, anyOf}
+use Rattle.model.specs.Lists.{anyOf}
 use Rattle.model.specs.Log.{Record, recordAt, noRecord, readsAt, keys, logAt}
 use Rattle.model.specs.Systems.{System, accepts}
 use Rattle.model.specs.Records.{recordLength, beforeAt, afterAt}
-use Rattle.model.proofs.Groups.{ext, at-build, at-merge, restrict-merge, restrict-within, merge-within, sameGroup-true, sameGroup-of}
-use Rattle.model.proofs.Lists.{any-of, each-map, getD-mem}
+use Rattle.model.proofs.Groups.{at-build, at-merge, restrict-merge, restrict-within, merge-within, sameGroup-true, sameGroup-of}
+use Rattle.model.proofs.Lists.{any-of, getD-mem}
 use Rattle.model.proofs.LogPaths.{reads-letter}
 use Rattle.model.proofs.Tests.{by-test, same-test}
-use Rattle.automaton.specs.StateNumbers.{stateCount, stateNumber, digit, Over}
+use Rattle.automaton.specs.StateNumbers.{stateCount, stateNumber, Over}
 use Rattle.automaton.specs.StateSets.{setLength, member, firstFrom}
-use Rattle.automaton.proofs.StateSets.{member-inserted, first-of}
+use Rattle.automaton.proofs.StateSets.{first-of}
 use Rattle.scratch.specs.Regions.{ringsAt}
 use Rattle.records.specs.Entries.{Fits, Reads}
 use Rattle.packs.specs.Packs.{packed, Bytes, packedBefore}
@@ -33,74 +32,21 @@ use Rattle.packs.proofs.Packs.{pack-group, packed-same}
 use Rattle.packs.proofs.Unpacked.{restrict-bytes}
 use Rattle.rings.specs.Rings.{recordReads}
 use Rattle.table.specs.declared.Table.{Table}
-use Rattle.table.specs.Reading.{Holds, systemIn, acceptingIn, pileIn, statesIn}
-use Rattle.table.proofs.Layouts.{table-modest, accepting-count, pile-count}
+use Rattle.table.specs.Reading.{saturatedIn, systemIn, pileIn}
+use Rattle.table.proofs.Layouts.{table-modest, pile-count}
 use Rattle.logs.proofs.Logs.{over-byte}
 use Rattle.stack.specs.RoundLogs.{RoundLog, SomeRound}
 use Rattle.stack.proofs.RoundLogs.{round-fits, round-reads}
 use Rattle.start.specs.declared.Letter.{Letter}
 use Rattle.start.specs.declared.Frame.{Frame}
-use Rattle.start.specs.Regions.{setPlace, setAt, withState, OnlySet, Linked, SameBut}
-use Rattle.start.specs.RestSets.{processesOfTable, ownNumber, EmptySet, noStates, plainGroup, LetterAt, leads, firstLead, someLead, acceptsFrom, SetRight, RightForLog}
+use Rattle.start.specs.Regions.{setPlace, setAt, OnlySet, Linked, SameBut}
+use Rattle.start.specs.RestSets.{processesOfTable, ownNumber, EmptySet, noStates, zeroedGroup, LetterAt, leads, firstLead, someLead, acceptsFrom, SetRight, RightForLog}
 use Rattle.start.specs.OwnGroups.{lastStates, Numbered, FrameTo, Added}
-use Rattle.start.proofs.ScratchRegions.{same-none, same-join, length-set-at, set-state, only-state, linked-same, set-same}
-use Rattle.start.proofs.OwnGroups.{own-below, own-digit}
+use Rattle.start.proofs.ScratchRegions.{same-join, linked-same, set-same}
+use Rattle.start.proofs.OwnGroups.{own-below}
 use Rattle.start.proofs.Leading.{lead-not, lead-reads}
 use Rattle.start.proofs.Grounds.{Grounds, grounds}
-
--- set k has the states that pass the test, and nothing else has changed
-pub record Filled (test : ℕ → Bool) (k : ℕ) (s t : List ℕ) : Type 0 where
-  pub same : OnlySet k s t
-  pub members : (x : ℕ) → x < stateCount → member (setAt t k) x ≡ test x
-
--- x is the number of one of the groups at the processes L
-unfoldable pub isNumberOf : Processes → List Group → ℕ → Bool
-isNumberOf L groups x = anyOf (λ (g : Group). eqb x (ownNumber L g)) groups
-
--- a state put into set k
-member-state : (s : List ℕ) (k x y : ℕ) → setPlace k + setLength ≤ length s → x < stateCount → member (setAt (withState s k x) k) y ≡ eqb y x || member (setAt s k) y
-member-state s k x y room h =
-    ap (λ (l : List ℕ). member l y) (set-state s k x room) ∙ member-inserted (setAt s k) x y (omega (arith, length-set-at s k room))
-
--- the last first: those from j on are in
-pub record Numbering (table : List ℕ) (t : Table) (j : ℕ) (s u : List ℕ) : Type 0 where
-  pub few : j ≤ t .accepting
-  pub same : OnlySet (t .pile) s u
-  pub members : (x : ℕ) → x < stateCount → member (setAt u (t .pile)) x ≡ isNumberOf (processesOfTable t) (drop j (systemIn table .accepting)) x
-
-module _ {table : List ℕ} {t : Table} (holds : Holds table t) where
-  pub numbering-start : (s : List ℕ) → EmptySet s (t .pile) → Numbering table t (t .accepting) s s
-  unfolding isNumberOf
-  numbering-start s empty = record {
-    few = omega arith;
-    same = same-none (setPlace (t .pile)) (setPlace (t .pile) + setLength) s;
-    members = λ x h. empty x ∙ sym (ap (λ (l : List Group). isNumberOf (processesOfTable t) l x)
-        (drop-of-length-le (systemIn table .accepting) {i = t .accepting} (omega (arith, accepting-count table t holds))));
-  }
-
-  pub numbering-turn : {j : ℕ} {s u v : List ℕ} → ringsAt ≤ length s → 0 < j → Numbering table t j s u
-      → v ≡ withState u (t .pile) (ownNumber (processesOfTable t) (acceptingIn table (j - 1))) → Numbering table t (j - 1) s v
-  unfolding isNumberOf
-  numbering-turn {j} {s} {u} room h f is =
-      let L = processesOfTable t in
-      let x₀ = ownNumber L (acceptingIn table (j - 1)) in
-      let room-u : setPlace (t .pile) + setLength ≤ length u = omega (arith, f .same .size, table-modest table t holds .pile) in
-      let e : suc (j - 1) ≡ j = omega arith in
-      let split : drop (j - 1) (systemIn table .accepting) ≡ acceptingIn table (j - 1) ∷ drop j (systemIn table .accepting) =
-      drop-cons (systemIn table .accepting) (j - 1) (groupOf [] 0) (omega (arith, f .few, accepting-count table t holds))
-      ∙ ap (λ (i : ℕ). acceptingIn table (j - 1) ∷ drop i (systemIn table .accepting)) e in
-      subst (Numbering table t (j - 1) s) (sym is) (record {
-        few = omega (arith, f .few);
-        same = same-join (f .same) (only-state u (t .pile) x₀ room-u);
-        members = λ x l. member-state u (t .pile) x₀ x room-u (own-below L (acceptingIn table (j - 1))) ∙ ap (λ (b : Bool). eqb x x₀ || b) (f .members x l)
-            ∙ sym (ap (λ (gs : List Group). isNumberOf L gs x) split);
-      })
-
-pub numbering-end : {table : List ℕ} {t : Table} {j : ℕ} {s u : List ℕ} → j ≤ 0 → Numbering table t j s u
-    → Filled (isNumberOf (processesOfTable t) (systemIn table .accepting)) (t .pile) s u
-numbering-end {table} {t} {j} h f =
-    let e : j ≡ 0 = omega arith in
-    record { same = f .same; members = λ x l. f .members x l ∙ ap (λ (i : ℕ). isNumberOf (processesOfTable t) (drop i (systemIn table .accepting)) x) e }
+use Rattle.start.proofs.LastSet.{any-map}
 
 -- ---- some element passes a test
 first-agree : (test other : ℕ → Bool) (n k : ℕ) → ((j : ℕ) → n ≤ j → j < n + k → test j ≡ other j) → firstFrom test n k ≡ firstFrom other n k
@@ -120,14 +66,6 @@ any-first f d xs =
       | yes h ↦ any-of f xs (getD xs r d) (getD-mem xs r d h) (w .passes (omega arith)) ∙ sym (lt-ltb r (length xs) h)
       | no h ↦ any-none f d xs (λ j l. w .fails j (omega arith) (omega arith)) ∙ sym (le-ltb r (length xs) (omega arith))
     ]
-
-any-map : {A B : Type 0} (f : B → Bool) (h : A → B) (xs : List A) → anyOf f (map h xs) ≡ anyOf (λ (x : A). f (h x)) xs
-any-map f h [] = refl
-any-map f h (x ∷ xs) = ap (λ (b : Bool). f (h x) || b) (any-map f h xs)
-
-any-agree : {A : Type 0} (f h : A → Bool) (xs : List A) → Each (λ (x : A). f x ≡ h x) xs → anyOf f xs ≡ anyOf h xs
-any-agree f h [] e = refl
-any-agree f h (x ∷ xs) e = ap₂ (λ (a b : Bool). a || b) (e .0) (any-agree f h xs (e .1))
 
 -- ---- acceptance by the lowest record that leads on
 -- record r reads the letter b in the state g, and from where it leads the rest w is accepted
@@ -157,10 +95,10 @@ reads-model loc log b g r e w f small =
 -- ---- one letter
 module _ {table : List ℕ} {t : Table} {round : ℕ} {log : List ℕ} {count : ℕ} (lent : RoundLog table t round log count) (i : ℕ) (inside : i < t .pile) (a : Letter) (letter : LetterAt table i a) where
   abbrev sys : System
-  sys = systemIn table
+  sys = saturatedIn table
 
   abbrev records : List Record
-  records = logAt (systemIn table) round
+  records = logAt (saturatedIn table) round
 
   ground : Grounds table t
   ground = grounds table t (lent .holds)
@@ -174,55 +112,55 @@ module _ {table : List ℕ} {t : Table} {round : ℕ} {log : List ℕ} {count : 
 
   -- 0 for 255 at the processes that the table lacks makes no difference
   reads-is : (g : Group) → Over (processesOfTable t) g → (r : ℕ) → r < count
-      → recordReads log (a .number) (packed (restrict (processesOf (a .bits)) (plainGroup (processesOfTable t) g))) r
-      ≡ readsAt (systemIn table .loc) (pileIn table i) g (recordAt (logAt (systemIn table) round) r)
+      → recordReads log (a .number) (packed (restrict (processesOf (a .bits)) (zeroedGroup (processesOfTable t) g))) r
+      ≡ readsAt (systemIn table .loc) (pileIn table i) g (recordAt (logAt (saturatedIn table) round) r)
   reads-is g o r h =
       let L = processesOfTable t in
-      ap (λ (h : Group). recordReads log (a .number) (packed h) r) (restrict-within L (processesOf (a .bits)) (plainGroup L g) g own-within (restrict-merge L g noStates))
+      ap (λ (h : Group). recordReads log (a .number) (packed h) r) (restrict-within L (processesOf (a .bits)) (zeroedGroup L g) g own-within (restrict-merge L g noStates))
       ∙ ap₂ (λ (b : ℕ) (L : Processes). recordReads log b (packed (restrict L g)) r) (letter .number) (letter .bits .same)
       ∙ reads-model (sys .loc) log (pileIn table i) g r (recordAt records r) (round-reads lent r h) (round-fits lent r h) (over-byte L g o)
 
   -- where a record that reads the letter leads
-  pub target-is : (g : Group) (r : ℕ) → r < count → readsAt (systemIn table .loc) (pileIn table i) g (recordAt (logAt (systemIn table) round) r) ≡ true
-      → merge (processesOf (a .bits)) (afterAt log r) g ≡ move (systemIn table .loc) (recordAt (logAt (systemIn table) round) r .key) g
+  pub target-is : (g : Group) (r : ℕ) → r < count → readsAt (systemIn table .loc) (pileIn table i) g (recordAt (logAt (saturatedIn table) round) r) ≡ true
+      → merge (processesOf (a .bits)) (afterAt log r) g ≡ move (systemIn table .loc) (recordAt (logAt (saturatedIn table) round) r .key) g
   target-is g r h y =
       ap₂ (λ (L : Processes) (x : Group). merge L x g)
       (letter .bits .same ∙ sym (ap (sys .loc) (reads-letter (sys .loc) (pileIn table i) g (recordAt records r) y)))
       (round-reads lent r h .after)
 
   module _ (s : List ℕ) (next : SetRight table t round s (i + 1)) (g : Group) (o : Over (processesOfTable t) g) where
-    lead-is : (r : ℕ) → r < count → leads log (setAt s (i + 1)) a (plainGroup (processesOfTable t) g) r
-        ≡ goesOn (systemIn table) (logAt (systemIn table) round) (pileIn table i) (drop (i + 1) (systemIn table .start .word)) g r
+    lead-is : (r : ℕ) → r < count → leads log (setAt s (i + 1)) a (zeroedGroup (processesOfTable t) g) r
+        ≡ goesOn (saturatedIn table) (logAt (saturatedIn table) round) (pileIn table i) (drop (i + 1) (systemIn table .start .word)) g r
     unfolding ownNumber
     lead-is r h = by-test (readsAt (sys .loc) (pileIn table i) g (recordAt records r))
-        (λ y. rw y (lead-reads log (setAt s (i + 1)) a (plainGroup (processesOfTable t) g) r (reads-is g o r h ∙ y)
+        (λ y. rw y (lead-reads log (setAt s (i + 1)) a (zeroedGroup (processesOfTable t) g) r (reads-is g o r h ∙ y)
         ∙ ap (λ (x : Group). member (setAt s (i + 1)) (stateNumber x)) (sym (merge-within (processesOfTable t) (processesOf (a .bits)) (afterAt log r) g noStates own-within))
         ∙ ap (λ (x : Group). member (setAt s (i + 1)) (ownNumber (processesOfTable t) x)) (target-is g r h y)
         ∙ next (move (sys .loc) (recordAt records r .key) g) (ground .moves round r (omega (arith, lent .size)) g o)))
-        (λ n. rw n (lead-not log (setAt s (i + 1)) a (plainGroup (processesOfTable t) g) r (reads-is g o r h ∙ n)))
+        (λ n. rw n (lead-not log (setAt s (i + 1)) a (zeroedGroup (processesOfTable t) g) r (reads-is g o r h ∙ n)))
 
-    pub first-is-lead : firstLead log count (setAt s (i + 1)) a (plainGroup (processesOfTable t) g)
-        ≡ firstFrom (goesOn (systemIn table) (logAt (systemIn table) round) (pileIn table i) (drop (i + 1) (systemIn table .start .word)) g) 0 (length (logAt (systemIn table) round))
+    pub first-is-lead : firstLead log count (setAt s (i + 1)) a (zeroedGroup (processesOfTable t) g)
+        ≡ firstFrom (goesOn (saturatedIn table) (logAt (saturatedIn table) round) (pileIn table i) (drop (i + 1) (systemIn table .start .word)) g) 0 (length (logAt (saturatedIn table) round))
     unfolding firstLead
     first-is-lead =
-        first-agree (leads log (setAt s (i + 1)) a (plainGroup (processesOfTable t) g)) (goesOn sys records (pileIn table i) (drop (i + 1) (sys .start .word)) g) 0 count
+        first-agree (leads log (setAt s (i + 1)) a (zeroedGroup (processesOfTable t) g)) (goesOn sys records (pileIn table i) (drop (i + 1) (sys .start .word)) g) 0 count
         (λ r p q. lead-is r (omega arith))
         ∙ ap (λ (k : ℕ). firstFrom (goesOn sys records (pileIn table i) (drop (i + 1) (sys .start .word)) g) 0 k) (sym (lent .size))
 
-    pub lead-accepts : someLead log count (setAt s (i + 1)) a (plainGroup (processesOfTable t) g) ≡ acceptsFrom table round i g
+    pub lead-accepts : someLead log count (setAt s (i + 1)) a (zeroedGroup (processesOfTable t) g) ≡ acceptsFrom table round i g
     lead-accepts =
         ap₂ (λ (r n : ℕ). ltb r n) first-is-lead (sym (lent .size))
         ∙ sym (ap (λ (w : List ℕ). accepts (sys .loc) (keys records) (sys .accepting) w g) word-from ∙ accepts-first sys records (pileIn table i) (drop (i + 1) (sys .start .word)) g)
 
   -- set i from set i + 1
-  own-states : (g : Group) → Over (processesOfTable t) g → Numbered (processesOf (a .bits)) (plainGroup (processesOfTable t) g)
+  own-states : (g : Group) → Over (processesOfTable t) g → Numbered (processesOf (a .bits)) (zeroedGroup (processesOfTable t) g)
   own-states g o j m = rw (at-merge (processesOfTable t) g noStates j, own-within j m) (o .inside j (own-within j m))
 
-  under-last : (g : Group) → acceptsFrom table round i g ≡ true → (j : Process) → at (plainGroup (processesOfTable t) g) j % 8 ≤ at (lastStates table t) j % 8
+  under-last : (g : Group) → acceptsFrom table round i g ≡ true → (j : Process) → at (zeroedGroup (processesOfTable t) g) j % 8 ≤ at (lastStates table t) j % 8
   unfolding lastStates
   under-last g y j =
       let L = processesOfTable t in
-      let last : Process → ℕ = λ j. statesIn table j - 1 in
+      let last : Process → ℕ = λ j. saturatedIn table .states j - 1 in
       rw (at-merge L g noStates j, at-merge L (build last) noStates j, at-build last j) (by-test (has L j)
       (λ m. rw m (omega (arith, ground .accepted round i g y j, ground .states j m .0, ground .states j m .1)))
       (λ n. rw n (omega arith)))
@@ -231,33 +169,10 @@ module _ {table : List ℕ} {t : Table} {round : ℕ} {log : List ℕ} {count : 
       → Added log count (setAt s (i + 1)) a f (λ (z : ℕ). z < stateCount) i s s′ → SetRight table t round s′ i
   unfolding ownNumber
   set-before s s′ f next empty to d g o =
-      let h = plainGroup (processesOfTable t) g in
+      let h = zeroedGroup (processesOfTable t) g in
       same-test (member (setAt s′ i) (stateNumber h)) (acceptsFrom table round i g)
       (λ y. sym (lead-accepts s next g o) ∙ ⊎-elim (λ m. absurd (true≢false (sym m ∙ empty (stateNumber h)))) (λ z. z) (d .sound h (own-states g o) y))
       (λ y. d .complete h (to .reaches h (own-states g o) (under-last g y)) (own-below (processesOf (a .bits)) h) (lead-accepts s next g o ∙ y))
-
--- ---- the last set
-own-injective : (L : Processes) (g h : Group) → Over L g → Over L h → ownNumber L g ≡ ownNumber L h → g ≡ h
-own-injective L g h o q e = ext (λ i. by-test (has L i)
-    (λ m. let same : at g i % 8 ≡ at h i % 8 = sym (own-digit L g i ∙ rw m) ∙ ap (λ (x : ℕ). digit x i) e ∙ own-digit L h i ∙ rw m in omega (arith, o .inside i m, q .inside i m))
-    (λ n. o .outside i n ∙ sym (q .outside i n)))
-
-number-same : (L : Processes) (g h : Group) → Over L g → Over L h → eqb (ownNumber L g) (ownNumber L h) ≡ sameGroup g h
-number-same L g h o q = same-test (eqb (ownNumber L g) (ownNumber L h)) (sameGroup g h)
-    (λ t. sameGroup-of g h (own-injective L g h o q (eqb-true (ownNumber L g) (ownNumber L h) t)))
-    (λ t. eq-eqb (ownNumber L g) (ownNumber L h) (ap (ownNumber L) (sameGroup-true g h t)))
-
-pub set-last : {table : List ℕ} {t : Table} → Holds table t → (round : ℕ) (s s′ : List ℕ)
-    → Filled (isNumberOf (processesOfTable t) (systemIn table .accepting)) (t .pile) s s′ → SetRight table t round s′ (t .pile)
-unfolding isNumberOf
-set-last {table} {t} holds round s s′ f g o =
-    let L = processesOfTable t in
-    f .members (ownNumber L g) (own-below L g)
-    ∙ any-agree (λ (h : Group). eqb (ownNumber L g) (ownNumber L h)) (sameGroup g) (systemIn table .accepting)
-    (each-map (Over L) (λ (h : Group). eqb (ownNumber L g) (ownNumber L h) ≡ sameGroup g h) (λ h q. number-same L g h o q) (systemIn table .accepting)
-    (grounds table t holds .accepting))
-    ∙ sym (ap (λ (w : List ℕ). accepts (systemIn table .loc) (keys (logAt (systemIn table) round)) (systemIn table .accepting) w g)
-    (drop-of-length-le (systemIn table .start .word) {i = t .pile} (omega (arith, pile-count table t holds))))
 
 -- ---- the sets from the back
 -- a set stays right where other bytes change

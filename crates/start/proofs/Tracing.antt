@@ -28,7 +28,7 @@ use Rattle.automaton.specs.StateNumbers.{Over}
 use Rattle.automaton.proofs.StateSets.{First, first-at}
 use Rattle.scratch.specs.Regions.{ringsAt, stackAt}
 use Rattle.table.specs.declared.Table.{Table}
-use Rattle.table.specs.Reading.{Holds, systemIn, pileIn}
+use Rattle.table.specs.Reading.{Holds, saturatedIn, systemIn, pileIn}
 use Rattle.table.proofs.Layouts.{table-modest, pile-count}
 use Rattle.stack.specs.StackNumbers.{stackPlace, numbersDown, stackOf}
 use Rattle.stack.specs.RoundLogs.{RoundLog, SomeRound, EachRound}
@@ -38,7 +38,7 @@ use Rattle.start.specs.declared.Letter.{Letter}
 use Rattle.start.specs.declared.StartPath.the-variants.{NoPath, Found}
 use Rattle.start.specs.declared.Trace.{Trace}
 use Rattle.start.specs.Regions.{setAt, SameBut}
-use Rattle.start.specs.RestSets.{processesOfTable, plainGroup, LetterAt, firstLead, acceptsFrom, SetRight, RightForLog, SetsReady, startIn}
+use Rattle.start.specs.RestSets.{processesOfTable, zeroedGroup, LetterAt, firstLead, acceptsFrom, SetRight, RightForLog, SetsReady, startIn}
 use Rattle.start.specs.Search.{pathFrom, roundPath, OnPath, Underway, Advanced, PathWritten, startFound, Sought}
 use Rattle.start.proofs.ScratchRegions.{same-none, same-join, linked-same}
 use Rattle.start.proofs.Grounds.{grounds}
@@ -65,28 +65,28 @@ pub record NextRecord (table : List ℕ) (t : Table) (round i : ℕ) (g : Group)
 module _ {table : List ℕ} {t : Table} {round : ℕ} {log : List ℕ} {count : ℕ} (lent : RoundLog table t round log count) (i : ℕ) (inside : i < t .pile) (a : Letter) (letter : LetterAt table i a)
     (s : List ℕ) (next : SetRight table t round s (i + 1)) (g : Group) (o : Over (processesOfTable t) g) (good : acceptsFrom table round i g ≡ true) where
   abbrev sys : System
-  sys = systemIn table
+  sys = saturatedIn table
 
   abbrev records : List Record
-  records = logAt (systemIn table) round
+  records = logAt (saturatedIn table) round
 
   abbrev rest : List ℕ
   rest = drop (i + 1) (systemIn table .start .word)
 
-  module _ (r : ℕ) (is : r ≡ firstLead log count (setAt s (i + 1)) a (plainGroup (processesOfTable t) g)) where
+  module _ (r : ℕ) (is : r ≡ firstLead log count (setAt s (i + 1)) a (zeroedGroup (processesOfTable t) g)) where
     pub lead-inside : r < count
     lead-inside = ltb-true r count (ap (λ (k : ℕ). ltb k count) is ∙ lead-accepts lent i inside a letter s next g o ∙ good)
 
-    found : First (goesOn (systemIn table) (logAt (systemIn table) round) (pileIn table i) (drop (i + 1) (systemIn table .start .word)) g) 0 (length (logAt (systemIn table) round)) r
+    found : First (goesOn (saturatedIn table) (logAt (saturatedIn table) round) (pileIn table i) (drop (i + 1) (systemIn table .start .word)) g) 0 (length (logAt (saturatedIn table) round)) r
     found = first-at (goesOn sys records (pileIn table i) rest g) 0 (length records) r (is ∙ first-is-lead lent i inside a letter s next g o)
 
-    goes : goesOn (systemIn table) (logAt (systemIn table) round) (pileIn table i) (drop (i + 1) (systemIn table .start .word)) g r ≡ true
+    goes : goesOn (saturatedIn table) (logAt (saturatedIn table) round) (pileIn table i) (drop (i + 1) (systemIn table .start .word)) g r ≡ true
     goes = found .passes (omega (arith, lead-inside, lent .size))
 
-    reads : readsAt (systemIn table .loc) (pileIn table i) g (recordAt (logAt (systemIn table) round) r) ≡ true
+    reads : readsAt (systemIn table .loc) (pileIn table i) g (recordAt (logAt (saturatedIn table) round) r) ≡ true
     reads = and-left (readsAt (sys .loc) (pileIn table i) g (recordAt records r)) (accepts (sys .loc) (keys records) (sys .accepting) rest (move (sys .loc) (recordAt records r .key) g)) goes
 
-    path-step : pathFrom table round i g ≡ Option·map (push r) (pathFrom table round (i + 1) (move (systemIn table .loc) (recordAt (logAt (systemIn table) round) r .key) g))
+    path-step : pathFrom table round i g ≡ Option·map (push r) (pathFrom table round (i + 1) (move (systemIn table .loc) (recordAt (logAt (saturatedIn table) round) r .key) g))
     path-step =
         let h = move (sys .loc) (recordAt records r .key) g in
         accepting-path-greedy sys records (record { states = g; word = drop i (sys .start .word) })
@@ -105,9 +105,9 @@ module _ {table : List ℕ} {t : Table} {round : ℕ} {log : List ℕ} {count : 
 
 -- the step that the code makes, for every round whose log this is
 module _ {table : List ℕ} {t : Table} {log : List ℕ} {count n : ℕ} {s : List ℕ} {i : ℕ} {c : Trace} (u : Underway table t log count n s i c) {a : Letter} (letter : LetterAt table i a)
-    {g : Group} (plain : g ≡ plainGroup (processesOfTable t) (c .state)) {r : ℕ} (is : r ≡ firstLead log count (setAt s (i + 1)) a g) where
-  lead : r ≡ firstLead log count (setAt s (i + 1)) a (plainGroup (processesOfTable t) (c .state))
-  lead = is ∙ ap (firstLead log count (setAt s (i + 1)) a) plain
+    {g : Group} (zeroed : g ≡ zeroedGroup (processesOfTable t) (c .state)) {r : ℕ} (is : r ≡ firstLead log count (setAt s (i + 1)) a g) where
+  lead : r ≡ firstLead log count (setAt s (i + 1)) a (zeroedGroup (processesOfTable t) (c .state))
+  lead = is ∙ ap (firstLead log count (setAt s (i + 1)) a) zeroed
 
   pub step-inside : r < count
   step-inside = let lent = u .some .1 in lead-inside lent i (u .inside) a letter s (u .next _ lent) (c .state) (u .on-path .over) (u .on-path .accepted _ lent) r lead
@@ -154,7 +154,7 @@ pub record Tracing (table : List ℕ) (t : Table) (log : List ℕ) (count : ℕ)
   pub same : SameBut stackAt ringsAt s s′
   pub on-path : OnPath table t log count i c
   pub path : EachRound table t log count (λ (round : ℕ). roundPath table round ≡ Option·map (prepend (soFar t i s′)) (pathFrom table round i (c .state)))
-  pub figure : EachRound table t log count (λ (round : ℕ). c .steps ≡ pathSteps (logAt (systemIn table) round) (soFar t i s′))
+  pub figure : EachRound table t log count (λ (round : ℕ). c .steps ≡ pathSteps (logAt (saturatedIn table) round) (soFar t i s′))
 
 -- what the first set tells of the start
 start-right : {table : List ℕ} {t : Table} {log : List ℕ} {count : ℕ} (s : List ℕ) → RightForLog table t log count s 0
@@ -225,7 +225,7 @@ module _ {table : List ℕ} {t : Table} {log : List ℕ} {count : ℕ} {n : ℕ}
         ∙ prepend-more (soFar t i s′) (v .number) (pathFrom table round (i + 1) (d .state))
         ∙ ap (λ (l : List ℕ). Option·map (prepend l) (pathFrom table round (i + 1) (d .state))) (sym more);
     figure = λ round lent.
-        let steps : ℕ → ℕ = λ m. recordAt (logAt (systemIn table) round) m .steps in
+        let steps : ℕ → ℕ = λ m. recordAt (logAt (saturatedIn table) round) m .steps in
         let sum : sumOver steps (soFar t (i + 1) s″) ≡ sumOver steps (soFar t i s′) + steps (v .number) = ap (sumOver steps) more ∙ sum-more steps (soFar t i s′) (v .number) in
         let figure : c .steps ≡ min (sumOver steps (soFar t i s′)) stepsCap = w .figure round lent in
         v .steps round lent ∙ omega arith;
@@ -246,7 +246,7 @@ tracing-end {table} {t} {s′ = s′} {i = i} {c = c} holds h w round lent =
     let e : i ≡ t .pile = omega (arith, w .few) in
     let base : stackPlace (t .pile - i) ≡ stackAt = omega arith in
     let all : stackOf s′ (t .pile) ≡ soFar t i s′ = sym (ap₂ (λ (b k : ℕ). numbersDown s′ b k) base e) in
-    let last = path-end (systemIn table) (logAt (systemIn table) round) (drop i (systemIn table .start .word)) (c .state)
+    let last = path-end (saturatedIn table) (logAt (saturatedIn table) round) (drop i (systemIn table .start .word)) (c .state)
     (drop-of-length-le (systemIn table .start .word) {i = i} (omega (arith, pile-count table t holds))) (w .on-path .accepted round lent) in
     record {
       path = record { numbers = soFar t i s′; end = c .state };
@@ -259,7 +259,7 @@ tracing-end {table} {t} {s′ = s′} {i = i} {c = c} holds h w round lent =
 -- ---- the answer
 pub sought-path : {table : List ℕ} {t : Table} {round : ℕ} {s : List ℕ} {steps : ℕ} → PathWritten table t round s steps → Sought table t round (Found steps) s
 sought-path {table} {t} {round} {s} {steps} w = record {
-  given = ap Found (w .figure) ∙ sym (ap (startFound (logAt (systemIn table) round)) (w .is));
+  given = ap Found (w .figure) ∙ sym (ap (startFound (logAt (saturatedIn table) round)) (w .is));
   stack = λ p e. let same : w .path ≡ p = one (w .path) p (sym (w .is) ∙ e) in w .stack ∙ ap (λ (q : Path). q .numbers) same;
 }
   where
@@ -274,7 +274,7 @@ pub sought-none : {table : List ℕ} {t : Table} {log : List ℕ} {count : ℕ} 
     → EachRound table t log count (λ (round : ℕ). Sought table t round NoPath s)
 unfolding acceptingPath
 sought-none {table} s right e round lent =
-    let sys = systemIn table in
+    let sys = saturatedIn table in
     let records = logAt sys round in
     let missing : roundPath table round ≡ none = no-some (roundPath table round)
     (sym (accepts-is (sys .loc) records (sys .accepting) (sys .start .word) (sys .start .states)) ∙ sym (start-right s right round lent) ∙ e) in

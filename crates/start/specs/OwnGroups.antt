@@ -1,9 +1,9 @@
 -- The groups of a letter's processes, by their numbers: the letter's own states, and 0 at every other process.
 use mathlib.Core.Path.{_≡_}
-use mathlib.Core.Bool.{true, false, cond}
+use mathlib.Core.Bool.{Bool, true, false, cond}
 use mathlib.Core.Logic.{_⊎_}
 use mathlib.Core.List.{List}
-use Prim.Native.Nat.{ℕ, _-_, _%_, _<_, _≤_}
+use Prim.Native.Nat.{ℕ, _+_, _-_, _%_, _<_, _≤_}
 use Rattle.model.specs.declared.Group.{Group}
 use Rattle.model.specs.Groups.{Process, Processes, p0, p1, p2, p3, at, has, build, processesOf}
 use Rattle.model.specs.Records.{afterAt}
@@ -12,19 +12,22 @@ use Rattle.automaton.specs.StateSets.{member}
 use Rattle.packs.specs.Packs.{maskOf}
 use Rattle.wordsets.specs.WordSets.{hasBit, RestBits}
 use Rattle.table.specs.declared.Table.{Table}
-use Rattle.table.specs.Reading.{statesIn}
+use Rattle.table.specs.Reading.{saturatedIn}
 use Rattle.start.specs.declared.Frame.{Frame}
 use Rattle.start.specs.declared.Letter.{Letter}
 use Rattle.start.specs.Regions.{setAt, OnlySet}
-use Rattle.start.specs.RestSets.{processesOfTable, plainGroup, ownNumber, someLead}
+use Rattle.start.specs.RestSets.{processesOfTable, zeroedGroup, ownNumber, someLead}
 
 -- y is the own number after record r, for the processes of the mask
 abbrev pub OwnAfter : List ℕ → ℕ → ℕ → ℕ → Type 0
 OwnAfter log r mask y = (L : Processes) → mask ≡ maskOf L → y ≡ ownNumber L (afterAt log r)
 
--- the highest state of each process; 0 where the table lacks it
+-- the highest of so many states, where they are copied or not; and of each process, 0 where the table lacks it
+abbrev pub lastOf : Bool → ℕ → ℕ
+lastOf copied states = cond copied (states + states) states - 1
+
 unfoldable pub lastStates : List ℕ → Table → Group
-lastStates table t = plainGroup (processesOfTable t) (build (λ i. statesIn table i - 1))
+lastStates table t = zeroedGroup (processesOfTable t) (build (λ i. saturatedIn table .states i - 1))
 
 -- ---- their numbers in turn
 -- the number x is at no process above top

@@ -1,6 +1,6 @@
 -- The scratch of the search: 65 sets of states, then the stack of record numbers, then the rings of the log's records.
 use mathlib.Core.Path.{_≡_}
-use mathlib.Core.List.{List, _++_}
+use mathlib.Core.List.{List, [], _∷_, _++_}
 use Prim.Native.Nat.{ℕ, _+_, _*_, _<_, _≤_}
 use lib.ListN.{length, getD, take, drop}
 use Rattle.automaton.specs.StateSets.{setLength, inserted}
@@ -25,6 +25,11 @@ withSet s k members = take (setPlace k) s ++ (members ++ drop setLength (drop (s
 -- set k with one state more
 unfoldable pub withState : List ℕ → ℕ → ℕ → List ℕ
 withState s k x = withSet s k (inserted (setAt s k) x)
+
+-- and with several more, one after the other
+abbrev pub withStates : List ℕ → ℕ → List ℕ → List ℕ
+withStates s k [] = s
+withStates s k (x ∷ xs) = withStates (withState s k x) k xs
 
 -- the log's first count records are in their rings, of n buckets
 pub record Linked (log : List ℕ) (count n : ℕ) (s : List ℕ) : Type 0 where

@@ -15,7 +15,7 @@ use Rattle.automaton.specs.StateSets.{member, firstFrom}
 use Rattle.packs.specs.Packs.{packed}
 use Rattle.rings.specs.Rings.{recordReads}
 use Rattle.table.specs.declared.Table.{Table}
-use Rattle.table.specs.Reading.{systemIn, pileIn, BitsOf}
+use Rattle.table.specs.Reading.{saturatedIn, systemIn, pileIn, BitsOf}
 use Rattle.stack.specs.RoundLogs.{EachRound}
 use Rattle.start.specs.declared.Letter.{Letter}
 use Rattle.start.specs.Regions.{setAt, Linked}
@@ -31,11 +31,11 @@ processesOfTable t = firstProcesses (t .processes)
 abbrev pub noStates : Group
 noStates = build (λ i. 0)
 
-abbrev pub plainGroup : Processes → Group → Group
-plainGroup L g = merge L g noStates
+abbrev pub zeroedGroup : Processes → Group → Group
+zeroedGroup L g = merge L g noStates
 
 unfoldable pub ownNumber : Processes → Group → ℕ
-ownNumber L g = stateNumber (plainGroup L g)
+ownNumber L g = stateNumber (zeroedGroup L g)
 
 -- letter i of the start word, with its processes
 pub record LetterAt (table : List ℕ) (i : ℕ) (a : Letter) : Type 0 where
@@ -63,7 +63,7 @@ EmptySet s k = (x : ℕ) → member (setAt s k) x ≡ false
 -- ---- what a set means
 -- the records up to a round accept the start word from letter k on from the state g
 abbrev pub acceptsFrom : List ℕ → ℕ → ℕ → Group → Bool
-acceptsFrom table round k g = accepts (systemIn table .loc) (keys (logAt (systemIn table) round)) (systemIn table .accepting) (drop k (systemIn table .start .word)) g
+acceptsFrom table round k g = accepts (systemIn table .loc) (keys (logAt (saturatedIn table) round)) (saturatedIn table .accepting) (drop k (systemIn table .start .word)) g
 
 -- a process that the table lacks counts as 0 in the numbers of the set
 abbrev pub SetRight : List ℕ → Table → ℕ → List ℕ → ℕ → Type 0

@@ -11,7 +11,7 @@ use Rattle.model.specs.Unfolding.{acceptingPath, pathSteps}
 use Rattle.numbers.specs.NumberBytes.{withNumber}
 use Rattle.automaton.specs.StateNumbers.{Over}
 use Rattle.table.specs.declared.Table.{Table}
-use Rattle.table.specs.Reading.{systemIn}
+use Rattle.table.specs.Reading.{saturatedIn, systemIn}
 use Rattle.stack.specs.RoundLogs.{SomeRound, EachRound}
 use Rattle.stack.specs.StackNumbers.{stackPlace, stackOf}
 use Rattle.start.specs.declared.StartPath.{StartPath}
@@ -22,10 +22,10 @@ use Rattle.start.specs.RestSets.{processesOfTable, acceptsFrom, RightFor
 
 -- the first accepting path from the state g that reads the start word from letter k on, and that from the start
 abbrev pub pathFrom : List ℕ → ℕ → ℕ → Group → Option Path
-pathFrom table round k g = acceptingPath (systemIn table) (logAt (systemIn table) round) (record { states = g; word = drop k (systemIn table .start .word) })
+pathFrom table round k g = acceptingPath (saturatedIn table) (logAt (saturatedIn table) round) (record { states = g; word = drop k (systemIn table .start .word) })
 
 abbrev pub roundPath : List ℕ → ℕ → Option Path
-roundPath table round = acceptingPath (systemIn table) (logAt (systemIn table) round) (systemIn table .start)
+roundPath table round = acceptingPath (saturatedIn table) (logAt (saturatedIn table) round) (systemIn table .start)
 
 -- the path has come to a state of the table from which the rest of the start word from letter k on is accepted
 pub record OnPath (table : List ℕ) (t : Table) (log : List ℕ) (count k : ℕ) (c : Trace) : Type 0 where
@@ -48,14 +48,14 @@ pub record Advanced (table : List ℕ) (t : Table) (log : List ℕ) (count k : �
   pub first : EachRound table t log count (λ (round : ℕ). pathFrom table round k (c .state) ≡ Option·map (push number) (pathFrom table round (k + 1) (d .state)))
   pub on-path : OnPath table t log count (k + 1) d
   pub written : s′ ≡ withNumber 2 s (stackPlace (t .pile - 1 - k)) number
-  pub steps : EachRound table t log count (λ (round : ℕ). d .steps ≡ min (c .steps + recordAt (logAt (systemIn table) round) number .steps) stepsCap)
+  pub steps : EachRound table t log count (λ (round : ℕ). d .steps ≡ min (c .steps + recordAt (logAt (saturatedIn table) round) number .steps) stepsCap)
 
 -- the start's path is on the stack, and these are its steps
 pub record PathWritten (table : List ℕ) (t : Table) (round : ℕ) (s : List ℕ) (steps : ℕ) : Type 0 where
   pub path : Path
   pub is : roundPath table round ≡ some path
   pub stack : stackOf s (t .pile) ≡ path .numbers
-  pub figure : steps ≡ pathSteps (logAt (systemIn table) round) (path .numbers)
+  pub figure : steps ≡ pathSteps (logAt (saturatedIn table) round) (path .numbers)
 
 -- ---- the whole search
 abbrev pub startFound : List Record → Option Path → StartPath
@@ -64,5 +64,5 @@ startFound log (some p) = Found (pathSteps log (p .numbers))
 
 -- the answer, and where there is a path its record numbers as a stack in the scratch, the first letter's record on top
 pub record Sought (table : List ℕ) (t : Table) (round : ℕ) (answer : StartPath) (scratch : List ℕ) : Type 0 where
-  pub given : answer ≡ startFound (logAt (systemIn table) round) (roundPath table round)
+  pub given : answer ≡ startFound (logAt (saturatedIn table) round) (roundPath table round)
   pub stack : (p : Path) → roundPath table round ≡ some p → stackOf scratch (t .pile) ≡ p .numbers

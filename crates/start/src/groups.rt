@@ -1,11 +1,11 @@
 // The groups of a letter's processes in turn, and what the records with such a group before add to a set.
 use crate::Frame;
 use crate::Letter;
-use crate::letters::plain;
 use automaton::groups::merged;
 use automaton::states;
 use automaton::states::STATES;
 use automaton::states::numbered;
+use copies::Copying;
 use model::Group;
 use packs::after_at;
 use packs::mask_of;
@@ -14,39 +14,43 @@ use rings::first_match;
 use rings::next_match;
 use scratch::RINGS;
 use scratch::SET_BYTES;
-use table::Table;
-use table::local_states;
 use wordsets::add_record;
 use wordsets::rest_bits;
 ghost use mathlib.Core.Path.{_≡_};
 ghost use mathlib.Core.Bool.{cond};
-ghost use Prim.Native.Nat.{ℕ, _+_, _%_, _<_};
-ghost use Rattle.model.specs.Groups.{processesOf};
+ghost use Prim.Native.Nat.{ℕ, _+_, _%_, _<_, _≤_};
+ghost use Rattle.model.specs.Groups.{Process, at, build, processesOf};
 ghost use Rattle.automaton.specs.StateNumbers.{stateCount};
 ghost use Rattle.records.specs.Entries.{HasRecord};
-ghost use Rattle.table.specs.Reading.{Holds, statesIn, processAt};
 ghost use Rattle.start.specs.Regions.{setAt, Linked};
-ghost use Rattle.start.specs.OwnGroups.{OwnAfter, lastStates, Under, NextUnder, Framed, FrameTo, Added};
+ghost use Rattle.start.specs.OwnGroups.{OwnAfter, lastOf, Under, NextUnder, Framed, FrameTo, Added};
 
-fn last_state(table: &[u8], t: Table, p: usize) -> u8
-    requires { ⌜ Holds (now table) t × (p < 4) ⌝ }
-    ensures { λ r. ⌜ r + 1 ≡ statesIn (now (table .entry)) (processAt p) ⌝ }
+// The highest of so many states, copied ones included; 0 where there are none.
+fn last_state(copied: bool, states: u8) -> u8
+    requires { ⌜ states ≤ 8 ⌝ }
+    ensures { λ r. ⌜ r ≡ lastOf copied states ⌝ }
 {
-    (local_states(table, t, p) - 1) as u8
+    if states == 0 {
+        return 0;
+    }
+    if copied {
+        return states + states - 1;
+    }
+    states - 1
 }
 
 // The highest state of each process, 0 where the table lacks it.
-pub fn last_states(table: &[u8], t: Table) -> Group
-    requires { ⌜ Holds (now table) t ⌝ }
-    ensures { λ r. ⌜ r ≡ lastStates (now (table .entry)) t ⌝ }
+pub fn last_states(c: Copying) -> Group
+    requires { ⌜ ((i : Process) → at (c .states) i ≤ 8) ⌝ }
+    ensures { λ r. ⌜ r ≡ build (λ i. lastOf (c .made) (at (c .states) i)) ⌝ }
 {
-    let last = Group {
-        s0: last_state(table, t, 0),
-        s1: last_state(table, t, 1),
-        s2: last_state(table, t, 2),
-        s3: last_state(table, t, 3),
-    };
-    plain(t, last)
+    let states = c.states;
+    Group {
+        s0: last_state(c.made, states.s0),
+        s1: last_state(c.made, states.s1),
+        s2: last_state(c.made, states.s2),
+        s3: last_state(c.made, states.s3),
+    }
 }
 
 // How many states of a process are gone through beside the letter's own ones.

@@ -26,11 +26,11 @@ ghost use Rattle.model.specs.Records.{afterAt};
 ghost use Rattle.records.specs.Entries.{HasRecord};
 ghost use Rattle.table.specs.Reading.{Holds};
 ghost use Rattle.start.specs.Regions.{setPlace, setAt, Linked};
-ghost use Rattle.start.specs.RestSets.{processesOfTable, plainGroup, LetterAt, firstLead};
+ghost use Rattle.start.specs.RestSets.{processesOfTable, zeroedGroup, LetterAt, firstLead};
 
 // g with 0 at the processes that the table lacks, as it counts in the numbers of the sets.
-pub fn plain(t: Table, g: Group) -> Group
-    ensures { λ r. ⌜ r ≡ plainGroup (processesOfTable t) g ⌝ }
+pub fn zeroed(t: Table, g: Group) -> Group
+    ensures { λ r. ⌜ r ≡ zeroedGroup (processesOfTable t) g ⌝ }
 {
     Group {
         s0: chosen(0 < t.processes, g.s0, 0),

@@ -5,7 +5,7 @@ pub mod letters;
 pub mod paths;
 pub mod sets;
 
-use crate::letters::plain;
+use crate::letters::zeroed;
 use crate::paths::write_path;
 use crate::sets::fill_sets;
 use automaton::sets::contains;
@@ -58,7 +58,7 @@ fn is_accepted(table: &[u8], t: Table, scratch: &[u8]) -> bool
     ensures { λ b. ⌜ b ≡ startIn (now (table .entry)) t (now (scratch .entry)) ⌝ }
 {
     let g = start_group(table, t);
-    contains(&scratch[0..SET_BYTES], number(plain(t, g)))
+    contains(&scratch[0..SET_BYTES], number(zeroed(t, g)))
 }
 
 // Finds the start's path and leaves it on the stack; what the rest of the scratch holds is not decided. n is the number of records that the scratch has room

@@ -2,7 +2,7 @@
 use crate::Trace;
 use crate::letters::first_lead;
 use crate::letters::letter_at;
-use crate::letters::plain;
+use crate::letters::zeroed;
 use automaton::groups::merged;
 use records::STEPS_CAP;
 use records::after_at;
@@ -42,7 +42,7 @@ fn advance(
 {
     let a = letter_at(table, t, i);
     let g = c.state;
-    let r = first_lead(log, scratch, n, count, i + 1, a, plain(t, g));
+    let r = first_lead(log, scratch, n, count, i + 1, a, zeroed(t, g));
     put_number(scratch, t.pile - 1 - i, r as u16);
     let after = after_at(log, r);
     Trace {

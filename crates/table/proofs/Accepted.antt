@@ -9,7 +9,7 @@ use lib.Dec.{eqb, ltb, leb}
 use lib.ListN.{length, getD}
 use borrow.Author.Tests.{eqb-false, leb-true, leb-false}
 use Rattle.model.proofs.Tests.{by-test, by-zero, or-right}
-use Rattle.model.specs.Tables.{Item, bodyLength, controlsOf, locOf, ruleOf, transitionOf, valueFits, cooperates, leavesControl, refusal, Reading, accepted, refused, readFrom, read}
+use Rattle.model.specs.Tables.{Item, bodyLength, locOf, ruleOf, valueFits, cooperates, isReentry, refusal, Reading, accepted, refused, readFrom, read}
 use Rattle.table.specs.Places.{bodyAt, bodiesAt, offset, bodyOf, itemsBelow, counts, countsAt, itemsBefore, processesIn, lettersIn, Modest, Passed}
 use Rattle.table.specs.Reading.{countsOf, parsed, Holds, itemsOf, itemsIn, outOfTurn, readOn, Stepped}
 use Rattle.table.specs.declared.Cursor.{Cursor}
@@ -24,7 +24,7 @@ use Rattle.table.proofs.Steps.{Clear, clear-of, step-end, step-refused,
 pub record Fit (ps ls : List (List ℕ)) (k : ℕ) (body : List ℕ) : Type 0 where
   pub values : valueFits ps ls k body ≡ true
   pub stray : (eqb k 3 && not (cooperates (locOf ls) (ruleOf body))) ≡ false
-  pub reentry : (eqb k 4 && not (leavesControl (locOf ls) (controlsOf ps) (transitionOf body))) ≡ false
+  pub reentry : isReentry ps ls k body ≡ false
 
 -- every item before the cursor fits, against the processes and letters that stand there
 abbrev pub AllFit : List ℕ → Cursor → Type 0
@@ -32,7 +32,7 @@ AllFit bytes c = (k j : ℕ) → k < 8 → j < countsAt c k → Fit (processesIn
 
 -- A body is judged by the processes and letters before it alone, so it fits against those of the whole table. The new item is of kind k, the judged one of kind j.
 fit-later : (ps ls ps′ ls′ : List (List ℕ)) (k j : ℕ) (body : List ℕ) → j ≤ k → ((k ≡ 1 → ⊥) → ps ≡ ps′) → ((k ≡ 1 → ⊥) → (k ≡ 2 → ⊥) → ls ≡ ls′) → Fit ps ls j body → Fit ps′ ls′ j body
-unfolding valueFits
+unfolding valueFits isReentry
 fit-later ps ls ps′ ls′ k zero body h e f x = record { values = refl; stray = refl; reentry = refl }
 fit-later ps ls ps′ ls′ k (suc zero) body h e f x = record { values = x .values; stray = refl; reentry = refl }
 fit-later ps ls ps′ ls′ k (suc (suc zero)) body h e f x = rw (← (e (λ q. omega arith))) (record { values = x .values; stray = refl; reentry = refl })

@@ -13,9 +13,9 @@ use Rattle.model.proofs.Tests.{and-left, and-right}
 use Rattle.model.specs.Automata.{Transition}
 use Rattle.model.specs.Groups.{Processes, processesOf}
 use Rattle.model.specs.Systems.{Rule}
-use Rattle.model.specs.Tables.{locOf, statesOf, writtenPlaces, bodyLength, bodies, byteOf, groupOf, numberOf, absent, ruleOf, transitionOf, valueFits, systemOf, longest}
-use Rattle.table.specs.Places.{bodyAt, bodiesAt, offset, placeOf, bodyOf, counts, processesIn, lettersIn, Modest, Heads}
-use Rattle.table.specs.Reading.{Holds, itemsIn, systemIn, ruleIn, transitionIn, acceptingIn, pileIn, statesIn, processAt}
+use Rattle.model.specs.Tables.{locOf, controlsOf, statesOf, writtenPlaces, bodyLength, bodies, byteOf, groupOf, numberOf, absent, ruleOf, transitionOf, valueFits, systemOf, longest}
+use Rattle.table.specs.Places.{boundIn, bodyAt, bodiesAt, offset, placeOf, bodyOf, counts, processesIn, lettersIn, Modest, Heads}
+use Rattle.table.specs.Reading.{Holds, itemsIn, systemIn, ruleIn, transitionIn, acceptingIn, pileIn, processAt}
 use Rattle.table.specs.declared.Table.{Table}
 use Rattle.table.proofs.Accepted.{Fit, layout}
 use Rattle.table.proofs.Bodies.{body-length, bodies-length, bodies-at}
@@ -100,7 +100,12 @@ module _ (bytes : List ℕ) (t : Table) (h : Holds bytes t) where
   processes-are : bodies 1 (itemsIn bytes) ≡ processesIn bytes t
   processes-are = bodies-in 1 (omega arith) ∙ ap (λ (p : ℕ). bodiesAt bytes 2 p (t .processes)) (first-item t 1)
 
-  pub states-at : (i : ℕ) → i < 4 → statesIn bytes (processAt i) ≡ byteOf (getD (processesIn bytes t) i absent) 1
+  pub controls-are : systemIn bytes .controls ≡ boundIn bytes t 0
+  unfolding systemIn systemOf
+  controls-are = ap controlsOf processes-are
+
+  pub states-at : (i : ℕ) → i < 4 → systemIn bytes .states (processAt i) ≡ byteOf (getD (processesIn bytes t) i absent) 1
+  unfolding systemIn systemOf
   states-at i l = ap (λ (ps : List (List ℕ)). statesOf ps (processAt i)) processes-are ∙ ap (λ (j : ℕ). byteOf (getD (processesIn bytes t) j absent) 1) (number-at i l)
 
   pub letters-are : bodies 2 (itemsIn bytes) ≡ lettersIn bytes t
@@ -112,9 +117,6 @@ module _ (bytes : List ℕ) (t : Table) (h : Holds bytes t) where
 
   pub letter-body : (a : ℕ) → a < t .letters → getD (lettersIn bytes t) a (15 ∷ []) ≡ bodyOf bytes (counts t 1) 2 a
   letter-body a l = ap (λ (ls : List (List ℕ)). getD ls a (15 ∷ [])) (sym letters-are) ∙ body-in 2 a (15 ∷ []) (omega arith) l
-
-  pub loc-in : (a : ℕ) → a < t .letters → systemIn bytes .loc a ≡ processesOf (byteOf (bodyOf bytes (counts t 1) 2 a) 0)
-  loc-in a l = ap (λ (f : ℕ → Processes). f a) loc-is ∙ ap (λ (b : List ℕ). processesOf (byteOf b 0)) (letter-body a l)
 
   pub letters-count : length (lettersIn bytes t) ≡ t .letters
   letters-count = bodies-length bytes 1 (3 * t .processes) (t .letters)

@@ -10,7 +10,7 @@ use lib.ListN.{length, getD, drop, replicate, length-take, length-drop, drop-of-
 use lib.Seq.{drop-cons, drop-drop}
 use borrow.Author.Tests.{not-false, eq-eqb, ne-eqb, eqb-false, ltb-false, lt-ltb, le-ltb, leb-true, leb-false}
 use Rattle.model.proofs.Tests.{by-test, or-left, or-right}
-use Rattle.model.specs.Tables.{Item, bodyLength, ceiling, bodies, count, controlsOf, locOf, ruleOf, transitionOf, isStranger, isOutOfTurn, valueFits, cooperates, leavesControl, refusal, Reading, accepted, ending, unlessRefused, readFrom, read}
+use Rattle.model.specs.Tables.{Item, bodyLength, ceiling, bodies, count, locOf, ruleOf, isStranger, isOutOfTurn, valueFits, cooperates, isReentry, refusal, Reading, accepted, ending, unlessRefused, readFrom, read}
 use Rattle.table.specs.Places.{bodyAt, bodiesAt, offset, itemsBelow, countsAt, itemsBefore, advanced, Whole, Passed}
 use Rattle.table.specs.Reading.{countsOf, parsed, outOfTurn, bodyRefusal, readOn, Onward, Stepped}
 use Rattle.table.specs.declared.Cursor.{Cursor}
@@ -28,7 +28,7 @@ pub record Clear (items : List Item) (k : ℕ) (body : List ℕ) : Type 0 where
   pub whole : ltb (length body) (bodyLength k) ≡ false
   pub values : valueFits (bodies 1 items) (bodies 2 items) k body ≡ true
   pub stray : (eqb k 3 && not (cooperates (locOf (bodies 2 items)) (ruleOf body))) ≡ false
-  pub reentry : (eqb k 4 && not (leavesControl (locOf (bodies 2 items)) (controlsOf (bodies 1 items)) (transitionOf body))) ≡ false
+  pub reentry : isReentry (bodies 1 items) (bodies 2 items) k body ≡ false
 
 -- a check that did not pass gives a number above 0
 no-refusal : (a : Bool) (n m : ℕ) → cond a (suc n) m ≡ 0 → (a ≡ false) × (m ≡ 0)
@@ -44,7 +44,7 @@ clear-of items k body e =
     let d = no-refusal (ltb (length body) (bodyLength k)) 0 _ (c .1) in
     let f = no-refusal (not (valueFits (bodies 1 items) (bodies 2 items) k body)) 4 _ (d .1) in
     let g = no-refusal (eqb k 3 && not (cooperates (locOf (bodies 2 items)) (ruleOf body))) 5 _ (f .1) in
-    let h = no-refusal (eqb k 4 && not (leavesControl (locOf (bodies 2 items)) (controlsOf (bodies 1 items)) (transitionOf body))) 6 _ (g .1) in
+    let h = no-refusal (isReentry (bodies 1 items) (bodies 2 items) k body) 6 _ (g .1) in
     record { stranger = a .0; turn = b .0; room = c .0; whole = d .0; values = not-false _ (f .0); stray = g .0; reentry = h .0 }
 
 -- the checks 3, 4 and 1 in a row, with the number m behind them

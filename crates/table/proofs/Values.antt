@@ -1,5 +1,5 @@
 -- What check 5 says of a body.
-use mathlib.Core.Bool.{Bool, true, not, _&&_, _||_}
+use mathlib.Core.Bool.{Bool, true, _&&_}
 use mathlib.Core.List.{List, [], _∷_}
 use mathlib.Core.Path.{_≡_, refl, sym, ap, _∙_}
 use Prim.Native.Nat.{ℕ, zero, suc, _-_, _*_, _^_, _<_, _≤_}
@@ -9,7 +9,7 @@ use lib.Dec.{ltb}
 use lib.ListN.{length, getD, take, drop}
 use borrow.Author.Tests.{ltb-true, leb-true}
 use Rattle.model.proofs.Tests.{and-left, and-right}
-use Rattle.model.specs.Groups.{Process, Processes, every, has, processesOf}
+use Rattle.model.specs.Groups.{Process, Processes, processesOf, withinTest}
 use Rattle.model.specs.Lists.{allOf}
 use Rattle.model.specs.Tables.{writtenPlaces, bodyLength, byteOf, controlsOf, statesOf, locOf, present, transitionOf, transitionFits, writtenFit, valueFits}
 use Rattle.table.specs.Places.{processesIn, lettersIn, Whole}
@@ -41,7 +41,7 @@ present-bits ps n h e = up-to-4 (λ m. processesOf (2 ^ m - 1) ≡ first m) refl
 
 -- each process of the letter is one of the set
 abbrev pub within : List ℕ → Table → ℕ → ℕ → Bool
-within bytes t outer a = every (λ i. not (has (locOf (lettersIn bytes t) a) i) || has (processesOf outer) i)
+within bytes t outer a = withinTest (locOf (lettersIn bytes t) a) (processesOf outer)
 
 -- ---- rules and transitions that pass
 both : (a b : Bool) → (a && b) ≡ true → (a ≡ true) × (b ≡ true)

@@ -6,9 +6,10 @@ use Prim.Native.Nat.{ℕ, zero, suc, _<_, _≤_}
 use lib.Dec.{eqb, ltb}
 use lib.ListN.{getD, drop}
 use Rattle.model.specs.Automata.{Transition}
+use Rattle.model.specs.Copies.{withCopy}
 use Rattle.model.specs.Groups.{Process, p0, p1, p2, p3, Processes, processesOf}
 use Rattle.model.specs.Systems.{Rule, System}
-use Rattle.model.specs.Tables.{Item, bodies, count, groupOf, controlsOf, statesOf, locOf, ruleOf, transitionOf, valueFits, cooperates, leavesControl, isTwin, Reading, accepted, refused, readFrom, read, systemOf}
+use Rattle.model.specs.Tables.{Item, bodies, count, groupOf, locOf, ruleOf, transitionOf, valueFits, cooperates, isReentry, isTwin, Reading, accepted, refused, readFrom, read, systemOf}
 use Rattle.model.specs.declared.Group.{Group}
 use Rattle.table.specs.Places.{itemsBefore, Passed}
 use Rattle.table.specs.declared.Cursor.{Cursor}
@@ -42,6 +43,10 @@ itemsIn bytes = itemsOf (read bytes)
 unfoldable pub systemIn : List ℕ → System
 systemIn bytes = systemOf (itemsIn bytes)
 
+-- the system whose automaton is saturated
+abbrev pub saturatedIn : List ℕ → System
+saturatedIn bytes = withCopy (systemIn bytes)
+
 -- its parts by their numbers
 abbrev pub ruleIn : List ℕ → ℕ → Rule
 ruleIn bytes k = getD (systemIn bytes .rules) k (ruleOf [])
@@ -54,10 +59,6 @@ acceptingIn bytes k = getD (systemIn bytes .accepting) k (groupOf [] 0)
 
 abbrev pub pileIn : List ℕ → ℕ → ℕ
 pileIn bytes k = getD (systemIn bytes .start .word) k 0
-
--- the number of states of a process
-abbrev pub statesIn : List ℕ → Process → ℕ
-statesIn bytes i = statesOf (bodies 1 (itemsIn bytes)) i
 
 -- process i, for i below 4
 abbrev pub processAt : ℕ → Process
@@ -81,7 +82,7 @@ unfoldable pub bodyRefusal : List Item → ℕ → List ℕ → ℕ
 bodyRefusal items k body =
     cond (not (valueFits (bodies 1 items) (bodies 2 items) k body)) 5
     (cond (eqb k 3 && not (cooperates (locOf (bodies 2 items)) (ruleOf body))) 6
-    (cond (eqb k 4 && not (leavesControl (locOf (bodies 2 items)) (controlsOf (bodies 1 items)) (transitionOf body))) 7
+    (cond (isReentry (bodies 1 items) (bodies 2 items) k body) 7
     (cond (isTwin items k body) 8 0)))
 
 -- the reading from a cursor on

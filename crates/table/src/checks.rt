@@ -6,8 +6,8 @@ ghost use Prim.Native.Nat.{_^_, _≤_, _<_};
 ghost use lib.Dec.{eqb, ltb, leb};
 ghost use lib.ListN.{length, getD, take, drop};
 ghost use Rattle.model.specs.Lists.{allOf};
-ghost use Rattle.model.specs.Groups.{every, at, has, processesOf};
-ghost use Rattle.model.specs.Tables.{writtenPlaces, bodyLength, byteOf, groupOf, absent, present, locOf, ruleOf, transitionOf, groupFits, transitionFits, writtenFit, valueFits, cooperates, leavesControl};
+ghost use Rattle.model.specs.Groups.{every, at, has, processesOf, withinTest};
+ghost use Rattle.model.specs.Tables.{writtenPlaces, bodyLength, byteOf, groupOf, absent, present, locOf, ruleOf, transitionOf, groupFits, transitionFits, writtenFit, valueFits, cooperates, isNarrow, isReentry};
 ghost use Rattle.table.specs.Places.{processesIn, lettersIn, boundIn, Heads, Whole};
 use crate::Table;
 use crate::fields::bits_of;
@@ -182,7 +182,7 @@ pub fn implies(a: bool, b: bool) -> bool
 
 // Each process of the first set is one of the second.
 pub fn is_within(inner: u8, outer: u8) -> bool
-    ensures { λ r. ⌜ r ≡ every (λ i. not (has (processesOf inner) i) || has (processesOf outer) i) ⌝ }
+    ensures { λ r. ⌜ r ≡ withinTest (processesOf inner) (processesOf outer) ⌝ }
 {
     implies(inner % 2 == 1, outer % 2 == 1)
         & implies(inner / 2 % 2 == 1, outer / 2 % 2 == 1)
@@ -193,7 +193,7 @@ pub fn is_within(inner: u8, outer: u8) -> bool
 // Each process of the written letters is one of the set.
 pub fn are_within(bytes: &[u8], t: Table, outer: u8, written: &[u8]) -> bool
     requires { ⌜ Heads (now bytes) t × (allOf (λ a. ltb a (t .letters)) (now written) ≡ true) ⌝ }
-    ensures { λ r. ⌜ r ≡ allOf (λ a. every (λ i. not (has (locOf (lettersIn (now (bytes .entry)) t) a) i) || has (processesOf outer) i)) (now (written .entry)) ⌝ }
+    ensures { λ r. ⌜ r ≡ allOf (λ a. withinTest (locOf (lettersIn (now (bytes .entry)) t) a) (processesOf outer)) (now (written .entry)) ⌝ }
 {
     let mut j = 0;
     while j < written.len() {
@@ -240,14 +240,32 @@ pub fn leaves_control(bytes: &[u8], t: Table, bits: u8, g: Group) -> bool
         & is_outside(bytes, t, 3, bits / 8 % 2 == 1, g.s3)
 }
 
+// Every process has at most 4 states.
+pub fn is_narrow(bytes: &[u8], t: Table) -> bool
+    requires { ⌜ Heads (now bytes) t ⌝ }
+    ensures { λ r. ⌜ r ≡ isNarrow (processesIn (now (bytes .entry)) t) ⌝ }
+{
+    let mut i = 0;
+    while i < t.processes {
+        if 4 < bound_of(bytes, t, 1, i) {
+            return false;
+        }
+        i += 1;
+    }
+    true
+}
+
 // Check 7, of a transition that passed check 5.
 pub fn is_reentry(bytes: &[u8], t: Table, kind: u8, body: &[u8]) -> bool
     requires { ⌜ Whole (now bytes) t kind (now body) × (valueFits (processesIn (now bytes) t) (lettersIn (now bytes) t) kind (now body) ≡ true) ⌝ }
-    ensures { λ r. ⌜ r ≡ (eqb kind 4 && not (leavesControl (locOf (lettersIn (now (bytes .entry)) t)) (boundIn (now (bytes .entry)) t 0) (transitionOf (now (body .entry))))) ⌝ }
+    ensures { λ r. ⌜ r ≡ isReentry (processesIn (now (bytes .entry)) t) (lettersIn (now (bytes .entry)) t) kind (now (body .entry)) ⌝ }
 {
     if kind != 4 {
         return false;
     }
     let bits = bits_of(bytes, t, wide(body[0]));
-    !leaves_control(bytes, t, bits, group_at(body, 5))
+    if leaves_control(bytes, t, bits, group_at(body, 5)) {
+        return false;
+    }
+    !is_narrow(bytes, t)
 }

@@ -5,7 +5,7 @@ ghost use Prim.Native.Nat.{_+_, _*_, _≤_, _<_};
 ghost use lib.ListN.{length, getD, take, drop};
 ghost use Rattle.model.specs.Tables.{writtenPlaces, absent, bodyLength, byteOf, groupOf};
 ghost use Rattle.table.specs.Places.{bodyAt, processesIn, lettersIn, Heads, Modest};
-ghost use Rattle.table.specs.Reading.{Holds, systemIn, ruleIn, transitionIn, acceptingIn, pileIn, statesIn, processAt, BitsOf};
+ghost use Rattle.table.specs.Reading.{Holds, systemIn, ruleIn, transitionIn, acceptingIn, pileIn, processAt, BitsOf};
 use crate::Table;
 use model::Group;
 use model::WRITTEN_PLACES;
@@ -102,7 +102,7 @@ pub fn bits_of(bytes: &[u8], t: Table, a: usize) -> u8
 // How many states process i has; 256 where the table lacks the process.
 pub fn local_states(bytes: &[u8], t: Table, i: usize) -> usize
     requires { ⌜ Holds (now bytes) t × (i < 4) ⌝ }
-    ensures { λ r. ⌜ r ≡ statesIn (now (bytes .entry)) (processAt i) ⌝ }
+    ensures { λ r. ⌜ r ≡ systemIn (now (bytes .entry)) .states (processAt i) ⌝ }
 {
     bound_of(bytes, t, 1, i)
 }

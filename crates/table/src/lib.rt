@@ -12,6 +12,8 @@ mod items;
 use crate::items::advance;
 use crate::items::body_length;
 use crate::items::check_item;
+pub use checks::is_within;
+pub use checks::leaves_control;
 pub use fields::accepting_group;
 pub use fields::letter_bits;
 pub use fields::local_states;

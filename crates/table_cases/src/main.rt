@@ -426,12 +426,21 @@ fn show_strays() {
     show_changed(&[56u8, 2, 58, 1]);
 }
 
-// 7, re-entry: at station 0, at station 1, at later items, and by another q.
+// 7, re-entry, where a station has 5 states: at station 0, at station 1, at later items, of which two are not of the wide station, and by another q.
 fn show_reentries() {
+    show_changed(&[5u8, 5, 69, 1]);
+    show_changed(&[5u8, 5, 70, 0]);
+    show_changed(&[5u8, 5, 79, 1]);
+    show_changed(&[5u8, 5, 89, 0]);
+    show_changed(&[2u8, 5, 89, 0]);
+    show_changed(&[4u8, 2, 5, 5]);
+}
+
+// The same where no station has more than 4.
+fn show_narrow_reentries() {
     show_changed(&[69u8, 1]);
     show_changed(&[70u8, 0]);
-    show_changed(&[79u8, 1]);
-    show_changed(&[89u8, 0]);
+    show_changed(&[2u8, 4, 5, 4, 79, 1]);
     show_changed(&[4u8, 2, 5, 3]);
 }
 
@@ -657,6 +666,7 @@ fn main() {
     show_pile_value();
     show_strays();
     show_reentries();
+    show_narrow_reentries();
     show_rule_twins();
     show_transition_twins();
     show_other_twins();

@@ -23,7 +23,7 @@ use Rattle.model.proofs.Reasons.{path-length}
 use Rattle.scratch.specs.Regions.{stackAt}
 use Rattle.records.specs.Entries.{HasRecord, Reads}
 use Rattle.table.specs.declared.Table.{Table}
-use Rattle.table.specs.Reading.{systemIn, ruleIn}
+use Rattle.table.specs.Reading.{saturatedIn, systemIn, ruleIn}
 use Rattle.table.proofs.Layouts.{table-modest, rules-count, pile-count, written-few}
 use Rattle.lengths.specs.declared.Lengths.{Lengths}
 use Rattle.lengths.specs.Projections.{Added, Change, LengthsOf, Noted, lengthAt, noted}
@@ -41,14 +41,14 @@ use Rattle.unfold.proofs.Running.{Going, going-count, going-start, rule
 -- ---- the loop's invariant: what the records on the stack emit is left of the run
 pub record Working (table : List ℕ) (room : ℕ) (ns page₀ s page : List ℕ) (w : Work) : Type 0 where
   pub size : length s ≡ room
-  pub inside : InLog (limit (systemIn table)) (stackOf s (w .top))
-  pub low : Low 64 (length (limit (systemIn table))) (stackOf s (w .top))
-  pub going : Going (systemIn table) (emitted (limit (systemIn table)) ns) page₀ (emitted (limit (systemIn table)) (stackOf s (w .top))) page (w .rules) (w .lengths) (w .highest)
+  pub inside : InLog (limit (saturatedIn table)) (stackOf s (w .top))
+  pub low : Low 64 (length (limit (saturatedIn table))) (stackOf s (w .top))
+  pub going : Going (saturatedIn table) (emitted (limit (saturatedIn table)) ns) page₀ (emitted (limit (saturatedIn table)) (stackOf s (w .top))) page (w .rules) (w .lengths) (w .highest)
 
 module _ {table : List ℕ} {t : Table} {changes log : List ℕ} {count room : ℕ} {ns page₀ : List ℕ}
-    (pre : LimitLog table t log count × (scratchFor count ≤ room) × Unfoldable (systemIn table) ns page₀ × Noted table (t .rules) changes) where
+    (pre : LimitLog table t log count × (scratchFor count ≤ room) × Unfoldable (saturatedIn table) ns page₀ × Noted table (t .rules) changes) where
   abbrev sys : System
-  sys = systemIn table
+  sys = saturatedIn table
 
   abbrev records : List Record
   records = limit sys
@@ -72,7 +72,7 @@ module _ {table : List ℕ} {t : Table} {changes log : List ℕ} {count room : �
   pub working-small : {s page : List ℕ} {w : Work} → Working table room ns page₀ s page w → (w .rules ≤ 1000000) × (w .rules ≤ greatest (lengthAt (w .highest)))
   working-small {w = w} v = (omega (arith, going-count (v .going), pre .2 .few), omega (arith, v .going .lengths p0, v .going .under p0, greatest-most (lengthAt (w .highest)) p0))
 
-  pub working-end : {s page : List ℕ} {w : Work} → w .top ≤ 0 → Working table room ns page₀ s page w → Unfolded (systemIn table) ns page₀ page (greatest (lengthAt (w .highest)) - w .rules)
+  pub working-end : {s page : List ℕ} {w : Work} → w .top ≤ 0 → Working table room ns page₀ s page w → Unfolded (saturatedIn table) ns page₀ page (greatest (lengthAt (w .highest)) - w .rules)
   unfolding numbersDown
   working-end {s} {page} {w} h v =
       let z : w .top ≡ 0 = omega arith in
@@ -212,13 +212,13 @@ module _ {changes log s page : List ℕ} {w : Work} {x round : ℕ} (top : x ≡
   turn-replaceable n h = (rw top (h .has), h .some, rw top (h .replaceable (λ z. n (is ∙ ap (roundAt log) top ∙ z))))
 
 -- ---- for the callers: the start's path is unfoldable where its steps fit the page
-pub path-unfoldable : {table : List ℕ} {t : Table} {log : List ℕ} {count : ℕ} → LimitLog table t log count → (p : Path) → startPath (systemIn table) ≡ some p → (ns page : List ℕ) → ns ≡ p .numbers
-    → pathSteps (limit (systemIn table)) (p .numbers) ≤ length page → pathSteps (limit (systemIn table)) (p .numbers) ≤ 1000000 → Unfoldable (systemIn table) ns page
+pub path-unfoldable : {table : List ℕ} {t : Table} {log : List ℕ} {count : ℕ} → LimitLog table t log count → (p : Path) → startPath (saturatedIn table) ≡ some p → (ns page : List ℕ) → ns ≡ p .numbers
+    → pathSteps (limit (saturatedIn table)) (p .numbers) ≤ length page → pathSteps (limit (saturatedIn table)) (p .numbers) ≤ 1000000 → Unfoldable (saturatedIn table) ns page
 path-unfoldable {table} {t} {log} {count} lent p is ns page e fits few = rw e (
-    let k = saturatedAt (systemIn table) in
-    let found = accepting-path-found (systemIn table) (limit (systemIn table)) (systemIn table .start) p is .0 in
-    let joins = answer-yes (systemIn table) (holds-well-formed table t (lent .holds)) k (systemIn table .start) (holds-control table t (lent .holds)) p is in
-    let steps : pathSteps (limit (systemIn table)) (p .numbers) ≡ min (length (emitted (limit (systemIn table)) (p .numbers))) stepsCap = answer-steps (systemIn table) k (systemIn table .start) p is in
+    let k = saturatedAt (saturatedIn table) in
+    let found = accepting-path-found (saturatedIn table) (limit (saturatedIn table)) (systemIn table .start) p is .0 in
+    let joins = answer-yes (saturatedIn table) (holds-well-formed table t (lent .holds)) k (systemIn table .start) (holds-control table t (lent .holds)) p is in
+    let steps : pathSteps (limit (saturatedIn table)) (p .numbers) ≡ min (length (emitted (limit (saturatedIn table)) (p .numbers))) stepsCap = answer-steps (saturatedIn table) k (systemIn table .start) p is in
     record {
       inside = found .inside;
       low = omega (arith, path-length found, pile-count table t (lent .holds), table-modest table t (lent .holds) .pile);

@@ -21,7 +21,7 @@ ghost use Prim.Native.Nat.{_+_, _-_, _<_, _≤_};
 ghost use lib.ListN.{length};
 ghost use Rattle.model.specs.Tables.{writtenPlaces};
 ghost use Rattle.records.specs.Entries.{HasRecord};
-ghost use Rattle.table.specs.Reading.{systemIn};
+ghost use Rattle.table.specs.Reading.{saturatedIn};
 ghost use Rattle.stack.specs.StackNumbers.{stackOf};
 ghost use Rattle.model.specs.Calls.{scratchFor};
 ghost use Rattle.stack.specs.RoundLogs.{LimitLog};
@@ -138,8 +138,8 @@ fn work_off(
     count: usize,
     top: usize,
 ) -> u32
-    requires { ⌜ LimitLog (now table) t (now log) count × (scratchFor count ≤ length (now scratch)) × Unfoldable (systemIn (now table)) (stackOf (now scratch) top) (now page) × Noted (now table) (t .rules) (now changes) ⌝ }
-    ensures { λ r. ⌜ Unfolded (systemIn (now (table .entry))) (stackOf (now (scratch .entry)) top) (now (page .entry)) (now (page .exit)) r ⌝ }
+    requires { ⌜ LimitLog (now table) t (now log) count × (scratchFor count ≤ length (now scratch)) × Unfoldable (saturatedIn (now table)) (stackOf (now scratch) top) (now page) × Noted (now table) (t .rules) (now changes) ⌝ }
+    ensures { λ r. ⌜ Unfolded (saturatedIn (now (table .entry))) (stackOf (now (scratch .entry)) top) (now (page .entry)) (now (page .exit)) r ⌝ }
 {
     let lengths = start_lengths(table, t);
     let mut w = Work {
@@ -164,8 +164,8 @@ pub fn unfold(
     count: usize,
     top: usize,
 ) -> u32
-    requires { ⌜ LimitLog (now table) t (now log) count × (scratchFor count ≤ length (now scratch)) × Unfoldable (systemIn (now table)) (stackOf (now scratch) top) (now page) ⌝ }
-    ensures { λ r. ⌜ Unfolded (systemIn (now (table .entry))) (stackOf (now (scratch .entry)) top) (now (page .entry)) (now (page .exit)) r ⌝ }
+    requires { ⌜ LimitLog (now table) t (now log) count × (scratchFor count ≤ length (now scratch)) × Unfoldable (saturatedIn (now table)) (stackOf (now scratch) top) (now page) ⌝ }
+    ensures { λ r. ⌜ Unfolded (saturatedIn (now (table .entry))) (stackOf (now (scratch .entry)) top) (now (page .entry)) (now (page .exit)) r ⌝ }
 {
     let mut changes = [0u32; CHANGES];
     note_changes(table, t, &mut changes);

@@ -14,10 +14,11 @@ use Rattle.model.specs.Calls.{zeros, filled, verdict, startPath, isLong, pageAf
 use Rattle.model.specs.Log.{Record, Path, limit, rounds, saturatedAt}
 use Rattle.model.specs.Unfolding.{emitted, pathSteps}
 use Rattle.model.proofs.Closing.{zeros-same}
+use Rattle.model.proofs.Copies.{peak-copy}
 use Rattle.model.proofs.Reachability.{answer-steps}
 use Rattle.model.proofs.Tests.{or-left, or-right}
 use Rattle.table.specs.declared.Table.{Table}
-use Rattle.table.specs.Reading.{systemIn}
+use Rattle.table.specs.Reading.{saturatedIn, systemIn}
 use Rattle.stack.specs.StackNumbers.{stackOf}
 use Rattle.start.specs.declared.StartPath.{StartPath}
 use Rattle.start.specs.declared.StartPath.the-variants.{NoPath, Found}
@@ -33,8 +34,8 @@ stated-found log none = refl
 stated-found log (some p) = refl
 
 pub verdict-stated : {table : List ℕ} {t : Table} {log : List ℕ} {n count most : ℕ} {s : List ℕ} → Settled table t log n count most s → {answer : StartPath} {s′ : List ℕ}
-    → Sought table t (saturatedAt (systemIn table)) answer s′ → stated answer count most ≡ verdict (limit (systemIn table)) (startPath (systemIn table))
-verdict-stated {table} w f = rw (f .given, sym (w .log-of .size), w .highest) (stated-found (limit (systemIn table)) (startPath (systemIn table)))
+    → Sought table t (saturatedAt (saturatedIn table)) answer s′ → stated answer count most ≡ verdict (limit (saturatedIn table)) (startPath (saturatedIn table))
+verdict-stated {table} w f = rw (f .given, sym (w .log-of .size), w .highest) (stated-found (limit (saturatedIn table)) (startPath (saturatedIn table)))
 
 -- ---- whether a run is long
 pub short-fits : (steps room : ℕ) → isLong steps room ≡ false → (steps ≤ room) × (steps ≤ 1000000)
@@ -57,22 +58,22 @@ module _ {table : List ℕ} {t : Table} {log : List ℕ} {count most steps : ℕ
   run-long e z = record { given = rw (w .is, ← w .figure, e); cleared = z; run = refl }
 
   module _ (short : isLong steps (length page) ≡ false) where
-    pub run-unfoldable : Unfoldable (systemIn table) (stackOf s (t .pile)) page
+    pub run-unfoldable : Unfoldable (saturatedIn table) (stackOf s (t .pile)) page
     run-unfoldable =
         let f = short-fits steps (length page) short in
         path-unfoldable (w .log-of) (w .path) (w .is) (stackOf s (t .pile)) page (w .stack) (omega (arith, f .0, w .figure)) (omega (arith, f .1, w .figure))
 
-    pub run-written : {page₁ page₂ s₂ : List ℕ} (s₁ : List ℕ) {transitions used highest : ℕ} → Unfolded (systemIn table) (stackOf s (t .pile)) page page₁ highest → used ≡ steps
+    pub run-written : {page₁ page₂ s₂ : List ℕ} (s₁ : List ℕ) {transitions used highest : ℕ} → Unfolded (saturatedIn table) (stackOf s (t .pile)) page page₁ highest → used ≡ steps
         → transitions ≡ count → page₂ ≡ take used page₁ ++ replicate (length page₁ - used) 0 → s₂ ≡ zeros s₁ → length s₁ ≡ length s
         → RunLeft table s page (Ran.Reached transitions most steps highest) s₂ page₂
     unfolding pageAfter startRun
     run-written {page₁} {page₂} s₁ {used = used} {highest = highest} u us tr f z e =
-        let run : List ℕ = emitted (limit (systemIn table)) (w .path .numbers) in
-        let v : Unfolded (systemIn table) (w .path .numbers) page page₁ highest = subst (λ (ns : List ℕ). Unfolded (systemIn table) ns page page₁ highest) (w .stack) u in
+        let run : List ℕ = emitted (limit (saturatedIn table)) (w .path .numbers) in
+        let v : Unfolded (saturatedIn table) (w .path .numbers) page page₁ highest = subst (λ (ns : List ℕ). Unfolded (saturatedIn table) ns page page₁ highest) (w .stack) u in
         let fits = short-fits steps (length page) short in
-        let size : length run ≡ used = omega (arith, w .figure, fits .1, answer-steps (systemIn table) (saturatedAt (systemIn table)) (systemIn table .start) (w .path) (w .is)) in
+        let size : length run ≡ used = omega (arith, w .figure, fits .1, answer-steps (saturatedIn table) (saturatedAt (saturatedIn table)) (systemIn table .start) (w .path) (w .is)) in
         record {
-          given = rw (w .is, ← w .figure, short, tr, ← w .log-of .size, w .highest, v .highest);
+          given = rw (w .is, ← w .figure, short, tr, ← w .log-of .size, w .highest, v .highest ∙ peak-copy (systemIn table) run (systemIn table .start));
           cleared = z ∙ zeros-same s₁ s e;
           run = page-filled run page page₁ page₂ used size (omega (arith, fits .0)) (v .written) f ∙ rw (w .is);
         }
@@ -87,18 +88,18 @@ path-found log none steps e = let z : _≡_ {A = ℕ} 0 1 = cc in absurd (omega 
 path-found log (some p) steps e = (p, refl, cc)
 
 module _ {table : List ℕ} {t : Table} {log : List ℕ} {n count most : ℕ} {s : List ℕ} (w : Settled table t log n count most s) {answer : StartPath} {s₁ : List ℕ}
-    (f : Sought table t (saturatedAt (systemIn table)) answer s₁) (size : length s₁ ≡ length s) where
+    (f : Sought table t (saturatedAt (saturatedIn table)) answer s₁) (size : length s₁ ≡ length s) where
   pub run-none : {page s₂ : List ℕ} → answer ≡ NoPath → s₂ ≡ zeros s₁ → RunLeft table s page (Ran.Refused 16 0) s₂ page
   unfolding pageAfter
   run-none e z = record {
-    given = rw (no-path (limit (systemIn table)) (startPath (systemIn table)) (sym e ∙ f .given));
+    given = rw (no-path (limit (saturatedIn table)) (startPath (saturatedIn table)) (sym e ∙ f .given));
     cleared = z ∙ zeros-same s₁ s size;
     run = refl;
   }
 
   pub path-stacked : {steps : ℕ} → answer ≡ Found steps → PathOnStack table t log count most steps s₁
   path-stacked {steps} e =
-      let p = path-found (limit (systemIn table)) (startPath (systemIn table)) steps (sym e ∙ f .given) in
+      let p = path-found (limit (saturatedIn table)) (startPath (saturatedIn table)) steps (sym e ∙ f .given) in
       record {
         log-of = w .log-of;
         room = omega (arith, w .room, w .linked .room .fits, size);

@@ -11,7 +11,7 @@ use Rattle.model.specs.Lists.{valueOr}
 use Rattle.model.specs.Log.{Path, limit, rounds}
 use Rattle.model.specs.Unfolding.{emitted, pathSteps}
 use Rattle.table.specs.declared.Table.{Table}
-use Rattle.table.specs.Reading.{systemIn}
+use Rattle.table.specs.Reading.{saturatedIn, systemIn}
 use Rattle.stack.specs.RoundLogs.{LimitLog}
 use Rattle.stack.specs.StackNumbers.{stackOf}
 use Rattle.start.specs.declared.StartPath.{StartPath}
@@ -29,24 +29,24 @@ pub record Settled (table : List ℕ) (t : Table) (log : List ℕ) (n count most
   pub log-of : LimitLog table t log count
   pub linked : Linked log count n scratch
   pub room : scratchFor n ≤ length scratch
-  pub highest : most ≡ rounds (limit (systemIn table))
+  pub highest : most ≡ rounds (limit (saturatedIn table))
 
 -- document 01: "The start's path: likewise the first accepting one in the limit"; its record numbers are the stack, the first letter's on top, and these are its steps
 pub record PathOnStack (table : List ℕ) (t : Table) (log : List ℕ) (count most steps : ℕ) (scratch : List ℕ) : Type 0 where
   pub log-of : LimitLog table t log count
   pub room : scratchFor count ≤ length scratch
-  pub highest : most ≡ rounds (limit (systemIn table))
+  pub highest : most ≡ rounds (limit (saturatedIn table))
   pub path : Path
-  pub is : startPath (systemIn table) ≡ some path
+  pub is : startPath (saturatedIn table) ≡ some path
   pub stack : stackOf scratch (t .pile) ≡ path .numbers
-  pub figure : steps ≡ pathSteps (limit (systemIn table)) (path .numbers)
+  pub figure : steps ≡ pathSteps (limit (saturatedIn table)) (path .numbers)
 
 -- document 01: "Unfolding: take the first record of the path that isn't of round 0, emit its rule"; the rules that the start's path emits
 unfoldable pub startRun : List ℕ → List ℕ
-startRun table = valueOr [] (λ (p : Path). emitted (limit (systemIn table)) (p .numbers)) (startPath (systemIn table))
+startRun table = valueOr [] (λ (p : Path). emitted (limit (saturatedIn table)) (p .numbers)) (startPath (saturatedIn table))
 
 -- document 01: "scratch is left zero", "The page holds the run then zeros, unchanged if refused"
 pub record RunLeft (table scratch₀ page₀ : List ℕ) (r : Ran) (scratch page : List ℕ) : Type 0 where
-  pub given : r ≡ runVerdict (systemIn table) (length page₀) (startPath (systemIn table))
+  pub given : r ≡ runVerdict (systemIn table) (length page₀) (startPath (saturatedIn table))
   pub cleared : scratch ≡ zeros scratch₀
   pub run : page ≡ pageAfter (runRefusal r) (startRun table) page₀

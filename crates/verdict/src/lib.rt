@@ -16,7 +16,7 @@ ghost use lib.ListN.{length, take, replicate};
 ghost use Rattle.model.specs.Calls.{zeros, verdict, startPath, isLong};
 ghost use Rattle.model.specs.Log.{limit};
 ghost use Rattle.model.specs.Records.{recordLength};
-ghost use Rattle.table.specs.Reading.{systemIn};
+ghost use Rattle.table.specs.Reading.{saturatedIn};
 ghost use Rattle.verdict.specs.Verdicts.{stated, Settled, PathOnStack, RunLeft};
 
 const LONGEST_RUN: u32 = 1000000;
@@ -84,7 +84,7 @@ pub fn answer_limit(
     rounds: u32,
 ) -> Answered
     requires { ⌜ Settled (now table) t (now log) n count rounds (now scratch) ⌝ }
-    ensures { λ r. ⌜ (r ≡ verdict (limit (systemIn (now (table .entry)))) (startPath (systemIn (now (table .entry))))) × (now (scratch .exit) ≡ zeros (now (scratch .entry))) ⌝ }
+    ensures { λ r. ⌜ (r ≡ verdict (limit (saturatedIn (now (table .entry)))) (startPath (saturatedIn (now (table .entry))))) × (now (scratch .exit) ≡ zeros (now (scratch .entry))) ⌝ }
 {
     let path = find(table, t, log, scratch, n, count);
     clear(scratch);
@@ -145,7 +145,7 @@ pub fn answer_and_run_limit(
     rounds: u32,
 ) -> AnswerAndRun
     requires { ⌜ Settled (now table) t (now log) n count rounds (now scratch) ⌝ }
-    ensures answer { λ r. ⌜ r .answered ≡ verdict (limit (systemIn (now (table .entry)))) (startPath (systemIn (now (table .entry)))) ⌝ }
+    ensures answer { λ r. ⌜ r .answered ≡ verdict (limit (saturatedIn (now (table .entry)))) (startPath (saturatedIn (now (table .entry)))) ⌝ }
     ensures run { λ r. ⌜ RunLeft (now (table .entry)) (now (scratch .entry)) (now (page .entry)) (r .ran) (now (scratch .exit)) (now (page .exit)) ⌝ }
 {
     let path = find(table, t, log, scratch, n, count);

@@ -101,17 +101,25 @@ fn long_run(rng: &mut Rng) -> Table {
     table
 }
 
-/// Damage to a table of any shape, or bytes that were never a table.
+/// Damage to a table of any shape, a table that is refused for its copies alone, or bytes that were
+/// never a table.
 fn damaged_table(rng: &mut Rng, number: usize, full: &Table) -> Vec<u8> {
     let whole = match number % 16 {
         0 => return random_bytes(rng),
         1 => full.clone(),
-        2 | 3 => random::table(rng, &Shape::LARGE),
+        2 => random::table(rng, &Shape::LARGE),
+        3 => return wide_re_entry(rng).bytes(),
         4..8 => random::table(rng, &Shape::MIDDLE),
         8..12 => random::table(rng, &Shape::DENSE),
         _ => random::table(rng, &Shape::TINY),
     };
     damage::damaged(rng, &whole)
+}
+
+/// A table of any shape that is refused 7.
+fn wide_re_entry(rng: &mut Rng) -> Table {
+    let shape = *rng.pick(&[Shape::TINY, Shape::DENSE, Shape::MIDDLE, Shape::LARGE]);
+    random::wide_re_entry(rng, &shape)
 }
 
 /// Up to 39 bytes, most of them kinds.
@@ -134,6 +142,7 @@ fn named_cases() -> Vec<Case> {
     };
     push("empty file", Vec::new());
     push("sound", damage::sound().bytes());
+    push("re-entering", damage::re_entering().bytes());
     for (name, table) in named::all() {
         push(&name, table.bytes());
     }
@@ -146,6 +155,13 @@ fn named_cases() -> Vec<Case> {
     for records in [1_999, 2_000, 2_001] {
         let name = format!("{records} records");
         push(&name, bench::wide(records, 5).bytes());
+    }
+    for transitions in [125, 126] {
+        let name = format!("{transitions} transitions copied, no rule");
+        let mut table = bench::copied();
+        table.watch.truncate(transitions);
+        table.rules.clear();
+        push(&name, table.bytes());
     }
     for steps in [9_999, 10_000, 10_001, 999_999] {
         let name = format!("run of {steps} steps");

@@ -1,15 +1,19 @@
 //! Cases for comparing engines, and the comparison by several threads with its report.
 
 mod cases;
+mod copies;
 mod counts;
 mod peaks;
+mod records;
 mod refusals;
 mod rules;
 mod written;
 
 pub use cases::{Case, Cases, Make, Maker, random_table};
+pub use copies::{copy_situations, note_copy, note_short_log, on_copy};
 pub use counts::{Counts, Demand};
 pub use peaks::{note_peak, peak_situations};
+pub use records::{transition_of, transitions};
 pub use refusals::{note_refusal, refusal_situations};
 pub use rules::{RULES, absent, rule};
 pub use written::{note_rules, note_written, rule_situations, written_situations};

@@ -7,7 +7,7 @@ use tables::{Table, WRITTEN_PLACES};
 /// The numbers of written letters that are counted.
 const COUNTED: RangeInclusive<usize> = WRITTEN_PLACES - 1..=WRITTEN_PLACES;
 /// How many processes a letter can have.
-const SIZES: RangeInclusive<usize> = 1..=4;
+pub const SIZES: RangeInclusive<usize> = 1..=4;
 
 /// The name of the rules' situations.
 const RULE_NAME: &str = "rules";

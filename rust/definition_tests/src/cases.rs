@@ -49,7 +49,7 @@ pub struct Case {
 }
 
 /// The small tables of documents 01 and 02, random ones and damaged ones, each with one of the
-/// calls; then the chosen runs, walks and desks.
+/// calls; then the chosen runs, a log that is too short, walks and desks.
 pub fn all(seed: u64) -> Vec<Case> {
     let mut rng = Rng::new(seed);
     let calls = small_tables(&mut rng).into_iter().enumerate();
@@ -60,6 +60,7 @@ pub fn all(seed: u64) -> Vec<Case> {
         })
         .collect();
     cases.extend(chosen_runs());
+    cases.push(short_log());
     cases.extend(chosen_walks());
     cases.extend(chosen_desks());
     cases
@@ -85,7 +86,7 @@ fn small_tables(rng: &mut Rng) -> Vec<Vec<u8>> {
     tables
 }
 
-/// The runs of tables with a peak or a path of their own.
+/// The runs of tables with a peak, a path or a copied automaton of their own.
 fn chosen_runs() -> impl Iterator<Item = Case> {
     let tables = [
         named::t(),
@@ -94,6 +95,9 @@ fn chosen_runs() -> impl Iterator<Item = Case> {
         named::count(WRITTEN_PLACES - 1),
         named::count(WRITTEN_PLACES),
         named::six_written(),
+        named::re_entry_of(4),
+        named::staying(1),
+        named::mixed_goal(),
     ];
     tables.into_iter().map(|table| {
         let table = table.bytes();
@@ -104,13 +108,29 @@ fn chosen_runs() -> impl Iterator<Item = Case> {
     })
 }
 
-/// Walks with counts: different ones at four processes, and those beside refusals 12, 13 and 14.
+/// A log that has room for the watch transitions, but not for their copies.
+fn short_log() -> Case {
+    let table = named::staying(1);
+    let log = RECORD_BYTES * (table.round_zero().len() - 1);
+    Case {
+        table: table.bytes(),
+        call: Call::Answer {
+            log,
+            scratch: scratch_needed(log),
+        },
+    }
+}
+
+/// Walks with counts: different ones at four processes, and those beside refusals 12, 13 and 14;
+/// and walks that lead back into line states, one to a watched configuration.
 fn chosen_walks() -> impl Iterator<Item = Case> {
     let walks = [
         (named::six_written(), vec![0, 4, 3, 6, 1], 6),
         (named::t(), vec![0, 1, 1, 2], 3),
         (named::t(), vec![0, 2, 3], 3),
         (named::doubling(3), vec![0, 1], 2),
+        (named::mixed_goal(), vec![0], 2),
+        (named::re_entry(), vec![], 2),
     ];
     walks.into_iter().map(|(table, rules, pile)| Case {
         table: table.bytes(),

@@ -10,7 +10,8 @@ use lib.ListN.{take}
 use Rattle.model.specs.Groups.{greatest, sameGroup, processBits, restrict, merge}
 use Rattle.model.specs.Words.{tops}
 use Rattle.model.specs.Systems.{enabled, fire}
-use Rattle.model.specs.Tables.{isOutOfTurn, groupFits, transitionFits, writtenFit, valueFits, cooperates, leavesControl, isTwin, refusal, readFrom, read, systemOf}
+use Rattle.model.specs.Copies.{leavesControl, reenters, copies, subsets, mixed, mixtures, copied}
+use Rattle.model.specs.Tables.{isOutOfTurn, groupFits, transitionFits, writtenFit, valueFits, cooperates, isNarrow, isReentry, isTwin, refusal, readFrom, read, systemOf}
 use Rattle.model.specs.Log.{readsAt, keyLess, sameKey, additions, logAt, firstSaturated, saturatedAt}
 use Rattle.model.specs.Unfolding.{acceptingPath, emittedBy}
 use Rattle.model.specs.Records.{recordBytes}
@@ -33,7 +34,7 @@ walked table list pile scratch =
 ";
 
 /// The definitions that an equation may unfold.
-const UNFOLDING: &str = "unfolding greatest sameGroup processBits restrict merge tops enabled fire isOutOfTurn groupFits transitionFits writtenFit valueFits cooperates leavesControl isTwin refusal readFrom read systemOf readsAt keyLess sameKey additions logAt firstSaturated saturatedAt acceptingPath emittedBy recordBytes recordsOf runOf scratchAfter logAfter pageAfter answerGiven answerCall runGiven runCall walkCounts walkGiven withStep walkCall checks deskCall";
+const UNFOLDING: &str = "unfolding greatest sameGroup processBits restrict merge tops enabled fire leavesControl reenters copies subsets mixed mixtures copied isOutOfTurn groupFits transitionFits writtenFit valueFits cooperates isNarrow isReentry isTwin refusal readFrom read systemOf readsAt keyLess sameKey additions logAt firstSaturated saturatedAt acceptingPath emittedBy recordBytes recordsOf runOf scratchAfter logAfter pageAfter answerGiven answerCall runGiven runCall walkCounts walkGiven withStep walkCall checks deskCall";
 
 /// A call's outcome by the definitions, and the lists that it shall be.
 pub struct Equation {

@@ -13,10 +13,11 @@ mod situations;
 
 use comparison::{Case, Cases, Counts, Program, note_refusal};
 use desks::Desks;
+use second_engine::Refusal;
 use sequence::Sequence;
 use std::io;
 use std::process::ExitCode;
-use tables::Rng;
+use tables::{Rng, Table};
 
 const NAME: &str = "desk_tests";
 /// How many random tables, and how many damaged ones. Each accepted one has a sequence.
@@ -43,13 +44,16 @@ fn compare(seed: u64) -> io::Result<bool> {
 fn compare_one(case: &Case, counts: &mut Counts) -> Result<(), String> {
     let desks = match Desks::open(&case.bytes)? {
         Ok(desks) => desks,
-        Err(refusal) => {
-            counts.meet(situations::refused("opening", refusal.number));
-            note_refusal(&case.name, refusal.number, refusal.place, counts);
+        Err(Refusal { number, place }) => {
+            counts.meet(situations::refused("opening", number));
+            note_refusal(&case.name, &case.bytes, number, place, counts);
             return Ok(());
         }
     };
     counts.meet(situations::SEQUENCES);
+    if Table::read(&case.bytes).is_copied() {
+        counts.meet(situations::COPIED);
+    }
     let mut sequence = Sequence::new(&case.bytes, desks, counts)?;
     sequence.run(&mut Rng::new(!case.seed))
 }

@@ -5,9 +5,11 @@ use crate::histories::Histories;
 use comparison::{Counts, Demand, refusal_situations};
 use second_engine::{DESK_PILE, Refusal, WRITTEN_PLACES};
 
-/// How many sequences of calls there must be.
+/// How many sequences of calls there must be, and how many on tables with a copied automaton.
 const LEAST: usize = 20_000;
+const LEAST_COPIED: usize = 5_000;
 pub const SEQUENCES: &str = "sequences";
+pub const COPIED: &str = "sequences on copied tables";
 /// The counts, not 0, are not those of a walk of the current history.
 pub const OTHER_COUNTS: &str = "counts other than those of the whole history";
 
@@ -198,5 +200,6 @@ pub fn all() -> Vec<Demand> {
     names.extend(refusal_situations());
     let mut situations: Vec<_> = names.into_iter().map(Demand::once).collect();
     situations.push(Demand::new(SEQUENCES, LEAST));
+    situations.push(Demand::new(COPIED, LEAST_COPIED));
     situations
 }

@@ -14,12 +14,12 @@ mod reasons;
 mod situations;
 mod trials;
 
-use comparison::{Case, Cases, Counts, Make, Program, RULES};
+use comparison::{Case, Cases, Counts, Make, Program, RULES, note_copy};
 use engines::Pool;
 use facts::Facts;
 use std::io;
 use std::process::ExitCode;
-use tables::Rng;
+use tables::{Rng, Table};
 use trials::Trials;
 
 const NAME: &str = "outcome_tests";
@@ -56,11 +56,17 @@ fn compare_one(pool: &Pool, case: &Case, counts: &mut Counts) -> Result<(), Stri
         Make::Damaged if !facts.accepted => counts.meet(situations::REFUSED),
         _ => (),
     }
+    let table = facts.accepted.then(|| Table::read(&case.bytes));
+    let copied = table.filter(Table::is_copied);
+    if let Some(table) = &copied {
+        note_copy(table, &facts.log, counts);
+    }
     let mut trials = Trials {
         pool,
         name: &case.name,
         table: &case.bytes,
         facts: &facts,
+        copied: copied.as_ref(),
         rules,
         rng,
         counts,

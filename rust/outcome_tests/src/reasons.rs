@@ -1,9 +1,9 @@
 //! The reasons of a limit's records: whether some have several, so that their choice matters, and
 //! how long their paths are.
 
-use comparison::{Counts, note_written, written_situations};
+use comparison::{Counts, note_written, transition_of, written_situations};
 use second_engine::RECORD_BYTES;
-use tables::{Group, Rule, Table, Transition, WRITTEN_PLACES, restrict};
+use tables::{Group, Rule, Table, Transition, WRITTEN_PLACES, overlay, restrict};
 
 /// The most paths followed at once; tables with more of them are not judged.
 const PATHS: usize = 500;
@@ -69,14 +69,9 @@ impl Several {
 
 impl Record {
     fn read(bytes: &[u8]) -> Record {
-        let group = |from: usize| std::array::from_fn(|process| bytes[from + process]);
         let path = bytes[13..].chunks_exact(2).take(WRITTEN_PLACES);
         Record {
-            transition: Transition {
-                letter: bytes[0],
-                before: group(1),
-                after: group(5),
-            },
+            transition: transition_of(bytes),
             round: u16::from_le_bytes([bytes[9], bytes[10]]),
             places: path.take_while(|place| *place != [0xFF, 0xFF]).count(),
         }
@@ -101,12 +96,4 @@ fn path_ends(table: &Table, known: &[Transition], rule: &Rule) -> Vec<Group> {
         ends = from.take(PATHS).collect();
     }
     ends
-}
-
-/// The states with those of `part` where it has any.
-fn overlay(states: Group, part: Group) -> Group {
-    std::array::from_fn(|process| match part[process] {
-        tables::NO_PART => states[process],
-        state => state,
-    })
 }

@@ -4,27 +4,36 @@ use crate::facts::Facts;
 use crate::reasons::{Several, note_paths, path_situations};
 use crate::{bounds, lists, participation};
 use comparison::{
-    Counts, Demand, note_peak, note_rules, peak_situations, refusal_situations, rule_situations,
+    Counts, Demand, copy_situations, note_peak, note_rules, on_copy, peak_situations,
+    refusal_situations, rule_situations,
 };
 use tables::Table;
 
 /// How many random tables must be accepted, and how many damaged ones refused.
 const LEAST: usize = 20_000;
+/// How many random tables must have a copied automaton.
+const LEAST_COPIED: usize = 5_000;
 /// The most records of a limit whose reasons are counted.
 const COUNTED: usize = 60;
 
 const ACCEPTED: &str = "random tables accepted";
 pub const REFUSED: &str = "damaged tables refused";
+const COPIED: &str = "random tables copied";
 
-/// Outcomes of calls and features of limits.
-const OUTCOMES: [&str; 11] = [
+/// Outcomes of calls, which must be met on copied tables too.
+const OUTCOMES: [&str; 7] = [
     "answer reachable",
     "answer unreachable",
-    "run reachable",
-    "run too long for any page",
+    "run without steps",
+    "run with steps",
     "walk watched at once",
     "walk watched after steps",
     "walk not watched",
+];
+
+/// Runs and limits out of the common.
+const FEATURES: [&str; 5] = [
+    "run too long for any page",
     "limits of 100 rounds or more",
     "limits above 65,535 records",
     "limits with several rules for a record",
@@ -34,6 +43,9 @@ const OUTCOMES: [&str; 11] = [
 /// Counts a random accepted table and what is special about it.
 pub fn note_shape(table: &Table, facts: &Facts, counts: &mut Counts) {
     counts.meet(ACCEPTED);
+    if table.is_copied() {
+        counts.meet(COPIED);
+    }
     counts.meet(format!("tables of {} processes", table.processes.len()));
     let ceilings = [
         (1, table.processes.len(), 4),
@@ -85,6 +97,9 @@ pub fn all() -> Vec<Demand> {
     let kinds = [1, 2, 3, 4, 5, 7];
     names.extend(kinds.map(|kind| format!("tables with kind {kind} at its ceiling")));
     names.extend(OUTCOMES.map(str::to_string));
+    names.extend(OUTCOMES.map(on_copy));
+    names.extend(FEATURES.map(str::to_string));
+    names.extend(copy_situations());
     names.extend(participation::situations());
     names.extend(peak_situations().map(str::to_string));
     names.extend(rule_situations().chain(path_situations()));
@@ -93,5 +108,6 @@ pub fn all() -> Vec<Demand> {
     names.extend(lists::NAMES.map(str::to_string));
     let mut situations: Vec<_> = names.into_iter().map(Demand::once).collect();
     situations.extend([ACCEPTED, REFUSED].map(|name| Demand::new(name, LEAST)));
+    situations.push(Demand::new(COPIED, LEAST_COPIED));
     situations
 }

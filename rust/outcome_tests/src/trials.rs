@@ -5,10 +5,10 @@ use crate::engines::Pool;
 use crate::facts::Facts;
 use crate::lists;
 use crate::participation::note_walk;
-use comparison::{Counts, note_refusal};
+use comparison::{Counts, note_refusal, note_short_log, on_copy};
 use roskavel::{Answer, Cause, Refusal, Run, STEP_CEILING, Walk};
-use second_engine::{RECORD_BYTES, WALK_SCRATCH, scratch_needed};
-use tables::Rng;
+use second_engine::{RECORD_BYTES, WALK_SCRATCH, log_capacity, scratch_needed};
+use tables::{Rng, Table};
 
 /// From this product of records and rounds on a call takes seconds.
 const DEAR: usize = 1 << 30;
@@ -19,6 +19,8 @@ pub struct Trials<'t> {
     pub name: &'t str,
     pub table: &'t [u8],
     pub facts: &'t Facts,
+    /// The table, if its automaton is copied.
+    pub copied: Option<&'t Table>,
     /// How many rules the table has, or a guess.
     pub rules: usize,
     pub rng: Rng,
@@ -51,7 +53,10 @@ impl Trials<'_> {
         match self.pool.answer(&mut self.rng, self.table, lengths)? {
             Answer::Reachable { .. } => self.meet("answer reachable", &names),
             Answer::Unreachable { .. } => self.meet("answer unreachable", &names),
-            Answer::Refused(refusal) => self.refused("answer", refusal, &names),
+            Answer::Refused(refusal) => {
+                self.note_log(refusal, log.value);
+                self.refused("answer", refusal, &names);
+            }
         }
         Ok(())
     }
@@ -70,8 +75,10 @@ impl Trials<'_> {
         let lengths = [log.value, scratch.value, page.value];
         let names = [&scratch.name[..], &log.name, &page.name];
         match self.pool.run(&mut self.rng, self.table, lengths)? {
-            Run::Reachable { .. } => self.meet("run reachable", &names),
+            Run::Reachable { steps: 0, .. } => self.meet("run without steps", &names),
+            Run::Reachable { .. } => self.meet("run with steps", &names),
             Run::Refused(refusal) => {
+                self.note_log(refusal, log.value);
                 if refusal.cause == Cause::LongRun && page.value > STEP_CEILING {
                     self.meet("run too long for any page", &[]);
                 }
@@ -122,11 +129,23 @@ impl Trials<'_> {
         };
         let number = refusal.cause.number();
         self.meet(&format!("{call} refused {number}"), &names[..seen]);
-        note_refusal(self.name, number, refusal.place, self.counts);
+        note_refusal(self.name, self.table, number, refusal.place, self.counts);
+    }
+
+    /// Counts a log of this length that is too short for the copies of round 0 alone.
+    fn note_log(&mut self, refusal: Refusal, log: usize) {
+        if let Some(table) = self.copied
+            && refusal.cause == Cause::ShortLog
+        {
+            note_short_log(table, log_capacity(log), self.counts);
+        }
     }
 
     fn meet(&mut self, outcome: &str, names: &[&str]) {
         self.counts.meet(outcome.to_string());
+        if self.copied.is_some() {
+            self.counts.meet(on_copy(outcome));
+        }
         for name in names {
             self.counts.meet(name.to_string());
         }

@@ -115,7 +115,8 @@ pub enum Cause {
     Value = 5,
     /// A rule that does not cooperate.
     Stray = 6,
-    /// A watch transition into a state of the system.
+    /// A watch transition into a state of the system, where some process of the table has more than
+    /// four states.
     ReEntry = 7,
     /// A rule, watch transition or accepting group seen before.
     Twin = 8,
@@ -318,6 +319,10 @@ impl<'l> Walk<'l> {
 
 /// Says whether the watched set can be reached from the start. The log then holds the records of
 /// the limit automaton, then zeros; only zeros if refused by [`Cause::ShortLog`].
+///
+/// If some watch transition leads into a state of the system, each process has a copy of all its
+/// states, numbered after them, and the limit is that of the copied automaton, which accepts the
+/// same configurations.
 pub fn answer(table: &[u8], log: &mut [u8], scratch: &mut [u8]) -> Answer {
     let mut figures = [0; 16];
     calls::answer(table, log, scratch, &mut figures);

@@ -67,6 +67,33 @@ fn rules_write_up_to_six_letters() {
     }
 }
 
+/// The records tell the copies of a process's states by numbers after its own.
+#[test]
+fn re_entry_is_answered_by_a_copy() {
+    let mut log = vec![DIRT; roskavel::log_bytes(6)];
+    let mut scratch = vec![DIRT; scratch_bytes(log.len())];
+    let unreachable = Answer::Unreachable {
+        transitions: 3,
+        rounds: 1,
+    };
+    let table = named::re_entry().bytes();
+    assert_eq!(answer(&table, &mut log, &mut scratch), unreachable);
+    let records: Vec<&[u8]> = log.chunks(RECORD_BYTES).collect();
+    let states = [0, 1, 2].map(|record: usize| (records[record][1], records[record][5]));
+    assert_eq!(states, [(0, 3), (2, 3), (1, 1)]);
+    assert!(Desk::open(&table).is_ok());
+    let reachable = Answer::Reachable {
+        transitions: 6,
+        rounds: 0,
+        steps: 0,
+    };
+    let staying = named::staying(1).bytes();
+    assert_eq!(answer(&staying, &mut log, &mut scratch), reachable);
+    let short_log = Answer::Refused(refusal(Cause::ShortLog, 0));
+    let short = &mut log[..roskavel::log_bytes(6) - 1];
+    assert_eq!(answer(&staying, short, &mut scratch), short_log);
+}
+
 #[test]
 fn slices_may_be_empty() {
     let cut = refusal(Cause::Cut, 0);
@@ -159,7 +186,7 @@ fn a_desk_fires_and_returns() {
 
 #[test]
 fn a_desk_refuses() {
-    let opened = Desk::open(&named::re_entry().bytes());
+    let opened = Desk::open(&named::re_entry_of(5).bytes());
     assert_eq!(opened.unwrap_err(), refusal(Cause::ReEntry, 24));
     assert_eq!(Desk::open(&[]).unwrap_err(), refusal(Cause::Cut, 0));
     let mut table = Table::new(1, 1, 1);

@@ -85,7 +85,7 @@ impl Desk {
 
     /// The state of each process, FF where the table lacks it.
     pub fn states(&self) -> [u8; 4] {
-        self.configuration().states.to_bytes()
+        self.table.numbers(self.configuration().states)
     }
 
     /// The pile's word, top first.

@@ -40,23 +40,47 @@ impl Locations {
     }
 }
 
-/// A state group: one local state per process, `F` for a process that has no part. The order
-/// of the packed numbers is the order of the groups, process 0 first.
+/// The bit of each nibble that marks a copied state.
+const MARKS: u16 = 0x8888;
+
+/// A local state: one that the table has, by its number, or the copy of it (request 2.6).
+#[derive(Clone, Copy, PartialEq, Eq, Debug)]
+pub enum State {
+    Plain(u8),
+    Copied(u8),
+}
+
+/// A state group: one local state per process, `F` for a process that has no part. A nibble has
+/// the state's number, which is below 8, or below 4 beside a mark, so that `F` is no state. The
+/// order of the packed numbers is the order of the groups: process 0 first, plain states before
+/// copied ones.
 #[derive(Clone, Copy, PartialEq, Eq, PartialOrd, Ord, Debug)]
 pub struct Group(u16);
 
 impl Group {
-    /// The states are below 8; `FF` becomes the nibble `F`.
+    /// A group of plain states; `FF` becomes the nibble `F`.
     pub fn from_bytes(bytes: [u8; PROCESSES]) -> Self {
         let push = |packed: u16, byte: &u8| packed << 4 | u16::from(byte & 0xF);
         Group(bytes.iter().fold(0, push))
     }
 
-    pub fn to_bytes(self) -> [u8; PROCESSES] {
-        std::array::from_fn(|process| match self.0 >> (12 - 4 * process) & 0xF {
-            0xF => NO_PART,
-            state => state as u8,
+    /// The state of each process that has part.
+    pub fn states(self) -> [Option<State>; PROCESSES] {
+        std::array::from_fn(|process| match (self.0 >> (12 - 4 * process) & 0xF) as u8 {
+            0xF => None,
+            number @ 0..8 => Some(State::Plain(number)),
+            marked => Some(State::Copied(marked & 0x7)),
         })
+    }
+
+    /// The group with copied states at `locations`.
+    pub fn copied(self, locations: Locations) -> Group {
+        Group(self.0 | locations.0 & MARKS)
+    }
+
+    /// The group with plain states at `locations`.
+    pub fn plain(self, locations: Locations) -> Group {
+        Group(self.0 & !(locations.0 & MARKS))
     }
 
     /// The part of the group that belongs to `locations`.

@@ -1,8 +1,9 @@
 //! A second engine for document 01, of independent make: reachability of cooperating
 //! multi-pushdown systems by saturation of a watch automaton, with the desk of request 2.1, the
-//! peak of request 2.2, the written places of request 2.4 and the counts of request 2.5. Every call
-//! works on tables of any bytes and on buffers of any length.
+//! peak of request 2.2, the written places of request 2.4, the counts of request 2.5 and the copied
+//! automaton of request 2.6. Every call works on tables of any bytes and on buffers of any length.
 
+mod copy;
 mod desk;
 mod group;
 mod participation;
@@ -187,7 +188,7 @@ pub fn walk(table: &[u8], rules: &[u16], pile: &mut [u8], scratch: &mut [u8]) ->
             rest: step,
         },
         None => Walk::Walked {
-            states: at.states.to_bytes(),
+            states: table.numbers(at.states),
             length: at.height(),
             watched: at.watched(&table),
             counts: step_counts(&table, rules),
@@ -211,7 +212,7 @@ fn solve(
         place: 0,
     })?;
     for (bytes, record) in log.chunks_exact_mut(RECORD_BYTES).zip(&limit.records) {
-        write_record(bytes, record);
+        write_record(bytes, &limit.table, record);
     }
     let path = limit.start_path();
     Ok((limit, path))
@@ -253,10 +254,10 @@ fn check_scratch(scratch: &[u8], needed: usize) -> Result<(), Refusal> {
 }
 
 /// A record's bytes: letter, before, after, round, rule, path, steps, little-endian.
-fn write_record(bytes: &mut [u8], record: &Record) {
+fn write_record(bytes: &mut [u8], table: &Table, record: &Record) {
     bytes[0] = record.transition.letter;
-    bytes[1..5].copy_from_slice(&record.transition.before.to_bytes());
-    bytes[5..9].copy_from_slice(&record.transition.after.to_bytes());
+    bytes[1..5].copy_from_slice(&table.numbers(record.transition.before));
+    bytes[5..9].copy_from_slice(&table.numbers(record.transition.after));
     bytes[9..11].copy_from_slice(&record.round.to_le_bytes());
     bytes[11..13].copy_from_slice(&record.rule.to_le_bytes());
     for (place, number) in bytes[PATH..STEPS].chunks_exact_mut(2).zip(record.path) {

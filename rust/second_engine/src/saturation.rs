@@ -1,5 +1,6 @@
 //! Saturation: the limit automaton with a reason for each of its transitions.
 
+use crate::copy::{accepts, round_zero};
 use crate::group::{Group, GroupSet};
 use crate::table::{Table, Transition, WRITTEN_PLACES};
 use std::collections::{BTreeMap, HashMap};
@@ -106,9 +107,11 @@ pub struct Limit {
 }
 
 impl Limit {
-    /// Saturates the table's watch automaton; nothing if the limit has more than `n` records.
+    /// Saturates the table's watch automaton or its copy; nothing if the limit has more than `n`
+    /// records.
     pub fn of(table: Table, n: usize) -> Option<Limit> {
-        if table.watch.len() > n {
+        let watch = round_zero(&table);
+        if watch.len() > n {
             return None;
         }
         let mut limit = Limit {
@@ -118,7 +121,7 @@ impl Limit {
             held: PlaceMap::default(),
             readers: PlaceMap::default(),
         };
-        limit.add_watch();
+        limit.add_watch(watch);
         let mut awake = RuleSet([u64::MAX; 4]);
         for round in 1u32.. {
             let found = limit.find_new(&awake, n)?;
@@ -141,7 +144,7 @@ impl Limit {
     pub fn start_path(&self) -> Option<Vec<u16>> {
         let layers = self.layers(self.table.start, &self.table.pile);
         let ends = &layers[self.table.pile.len()];
-        let accepting = |end: &Reached| self.table.accepting.contains(&end.group);
+        let accepting = |end: &Reached| accepts(&self.table, end.group);
         let end = ends.iter().position(accepting)?;
         Some(path_to(&layers, end))
     }
@@ -167,9 +170,8 @@ impl Limit {
         rules
     }
 
-    /// Round 0 holds the watch transitions, in order.
-    fn add_watch(&mut self) {
-        let mut watch = self.table.watch.clone();
+    /// Round 0 holds the watch transitions or their copies, in order.
+    fn add_watch(&mut self, mut watch: Vec<Transition>) {
         watch.sort();
         for transition in watch {
             self.add(Record {

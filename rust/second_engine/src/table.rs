@@ -1,7 +1,7 @@
 //! The table and its reader: refusals 1 to 9.
 
 use crate::Refusal;
-use crate::group::{Group, Locations, NO_PART, PROCESSES};
+use crate::group::{Group, Locations, NO_PART, PROCESSES, State};
 use std::collections::HashSet;
 
 /// A process (document 01: station): its local states are below `all`, those of the system
@@ -59,6 +59,8 @@ const WRITTEN: usize = 10;
 const LENGTH: [usize; 9] = [0, 2, 1, WRITTEN + WRITTEN_PLACES, 9, 4, 4, 1, 0];
 /// Ceilings by kind.
 const CEILING: [usize; 9] = [0, 4, 32, 200, 200, 64, 1, 64, 1];
+/// The most states of a process whose states can be copied.
+const NARROW: u8 = 4;
 
 const CUT: u8 = 1;
 const STRANGER: u8 = 2;
@@ -116,8 +118,32 @@ impl Table {
     }
 
     /// The bits of all processes the table has.
-    fn everyone(&self) -> Locations {
+    pub fn everyone(&self) -> Locations {
         Locations::from_bits((1 << self.processes.len()) - 1)
+    }
+
+    /// The numbers of a group's states, `FF` where a process has no part. The copies of a
+    /// process's states are numbered after all its states.
+    pub fn numbers(&self, group: Group) -> [u8; PROCESSES] {
+        let states = group.states();
+        std::array::from_fn(|process| match states[process] {
+            None => NO_PART,
+            Some(State::Plain(number)) => number,
+            Some(State::Copied(number)) => self.processes[process].all + number,
+        })
+    }
+
+    /// Whether a watch transition leads back into a line state of some process.
+    pub fn re_enters(&self, watch: &Transition) -> bool {
+        let after = self.numbers(watch.after);
+        // FF, the place of a process without part, is no line state.
+        let mut places = self.processes.iter().zip(after);
+        places.any(|(process, state)| state < process.line)
+    }
+
+    /// Whether the states of every process can be copied.
+    fn is_narrow(&self) -> bool {
+        self.processes.iter().all(|process| process.all <= NARROW)
     }
 }
 
@@ -226,16 +252,15 @@ impl<'b> Reader<'b> {
         let locations = self.locations(letter)?;
         let before = self.group(&body[1..5], locations, States::All)?;
         let after = self.group(&body[5..9], locations, States::All)?;
-        for (process, &state) in self.table.processes.iter().zip(&body[5..9]) {
-            // FF, the place of a process without part, is no line state either.
-            check(state >= process.line, RE_ENTRY)?;
-        }
-        self.check_twin(WATCH, body)?;
-        self.table.watch.push(Transition {
+        let watch = Transition {
             letter,
             before,
             after,
-        });
+        };
+        let table = &self.table;
+        check(table.is_narrow() || !table.re_enters(&watch), RE_ENTRY)?;
+        self.check_twin(WATCH, body)?;
+        self.table.watch.push(watch);
         Ok(())
     }
 

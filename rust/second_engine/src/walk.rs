@@ -51,8 +51,8 @@ impl Configuration {
         self.states = table.step(rule.letter, self.states, rule.after);
     }
 
-    /// Whether the watch automaton accepts: some path from the states reads the whole pile and
-    /// ends in an accepting global state.
+    /// Whether the table's own watch automaton accepts: some path from the states reads the whole
+    /// pile and ends in an accepting global state.
     pub fn watched(&self, table: &Table) -> bool {
         let mut reached = BTreeSet::from([self.states]);
         for letter in self.pile() {

@@ -1,7 +1,7 @@
-//! Benchmark tables: large limits, many rounds, a full start pile, long runs, deep reasons, and
-//! every kind at its ceiling; and families of tables that grow in one figure.
+//! Benchmark tables: large limits, many rounds, a full start pile, long runs, deep reasons, a
+//! copied automaton, and every kind at its ceiling; and families of tables that grow in one figure.
 
-use crate::model::{Group, NO_PART, Process, Rule, Table, drop_twin, group};
+use crate::model::{Group, Process, Rule, Table, WRITTEN_PLACES, drop_twin, group, overlay};
 use crate::named;
 use crate::rng::Rng;
 
@@ -59,8 +59,8 @@ pub fn products() -> Table {
 fn add_ends(table: &mut Table) {
     let widest = table.rules.iter().max_by_key(|rule| rule.written.len());
     if let Some(rule) = widest {
-        table.start = joined([0; 4], rule.before);
-        let goal = joined([0; 4], rule.before.map(|state| state | 1));
+        table.start = overlay([0; 4], rule.before);
+        let goal = overlay([0; 4], rule.before.map(|state| state | 1));
         table.accepting.push(goal);
         table.pile.push(rule.letter);
     }
@@ -105,14 +105,6 @@ fn add_products(table: &mut Table, bits: u8, singles: &[u8], rules: usize) {
         }
         table.rule(letter, before, [0; 4], singles);
     }
-}
-
-/// The states of `part`, and those of `all` where it has none.
-fn joined(all: Group, part: Group) -> Group {
-    std::array::from_fn(|process| match part[process] {
-        NO_PART => all[process],
-        state => state,
-    })
 }
 
 /// `count` watch transitions on a letter of its own.
@@ -313,6 +305,26 @@ pub fn one_rule() -> Table {
     table
 }
 
+/// 200 watch transitions of four processes that lead back into line states, so that round 0 has
+/// 3,200 records: one letter leads from each of 200 global states to the next. Rules on another
+/// letter write it six times, from half of these states; the start pile has that letter alone.
+pub fn copied() -> Table {
+    let mut table = Table::new(4, 4, 4);
+    let next = table.letter(ALL);
+    let leap = table.letter(ALL);
+    let states = |number: u8| [number / 64, number / 16 % 4, number / 4 % 4, number % 4];
+    for number in 0..200 {
+        table.transition(next, states(number), states(number + 1));
+    }
+    for number in 0..100 {
+        let states = states(number);
+        table.rule(leap, states, states, &[next; WRITTEN_PLACES]);
+    }
+    table.pile.push(leap);
+    table.accepting.push(states(WRITTEN_PLACES as u8));
+    table
+}
+
 /// Doubling with 19 letters and a start pile of exactly `steps` steps, up to 1,048,574. Each
 /// letter takes one less than a power of two; the greatest that fits is taken each time.
 pub fn long_run(steps: usize) -> Table {
@@ -402,10 +414,10 @@ fn add_readable_pile(table: &mut Table, rng: &mut Rng, length: usize) {
     let plain: Vec<&Rule> = plain.collect();
     let mut at = table.start;
     for _ in 0..length {
-        let fitting = plain.iter().filter(|rule| joined(at, rule.before) == at);
+        let fitting = plain.iter().filter(|rule| overlay(at, rule.before) == at);
         let fitting: Vec<&&Rule> = fitting.collect();
         let rule = rng.pick(&fitting);
-        at = joined(at, rule.after);
+        at = overlay(at, rule.after);
         table.pile.push(rule.letter);
     }
     table.accepting.push(at);
@@ -456,5 +468,6 @@ pub fn all() -> Vec<(&'static str, Table)> {
         ("8 to the 64 paths from the start", many_paths()),
         ("chain of 200 rules", chain()),
         ("200 transitions, one rule", one_rule()),
+        ("200 transitions copied to 3,200", copied()),
     ]
 }

@@ -1,6 +1,7 @@
 //! Damaged tables: specimens with the refusal they must meet, and random damage.
 
 use crate::bench;
+use crate::copies::NARROW;
 use crate::model::{self, BODY, NO_PART, Table, WRITTEN_PLACES, group};
 use crate::named;
 use crate::rng::Rng;
@@ -43,6 +44,21 @@ pub fn sound() -> Table {
         table.accepting.push(group(&[state; 3]));
     }
     table.pile = vec![0, 1, 2];
+    table
+}
+
+/// `sound` with watch transitions that lead back into line states, accepted too.
+pub fn re_entering() -> Table {
+    let mut table = sound();
+    for watch in &mut table.watch {
+        watch.after = watch.before;
+    }
+    table
+}
+
+/// The table with a process of more states than can be copied.
+fn widened(mut table: Table, process: usize) -> Table {
+    table.processes[process].all = NARROW + 1;
     table
 }
 
@@ -231,29 +247,46 @@ fn add_strays(list: &mut Vec<Specimen>) {
     push(list, "first rule is stray".to_string(), stray, 6, first);
 }
 
+/// In each table one process is wide, whether the transition's letter has it or not.
 fn add_re_entries(list: &mut Vec<Specimen>) {
-    let items = sound().items();
-    for index in of_kind(&items, 4) {
-        for byte in (6..9).filter(|&byte| items[index][byte] != NO_PART) {
-            for state in 0..2 {
-                let mut entering = items.clone();
-                entering[index][byte] = state;
-                let name = format!("item {index}, byte {byte} enters {state}");
-                push(list, name, entering, 7, index);
+    for wide in 0..3 {
+        let items = widened(sound(), wide).items();
+        let watch = of_kind(&items, 4);
+        for &index in &watch {
+            for byte in (6..9).filter(|&byte| items[index][byte] != NO_PART) {
+                for state in 0..2 {
+                    let mut entering = items.clone();
+                    entering[index][byte] = state;
+                    let name = format!("item {index}, byte {byte} enters {state}, wide {wide}");
+                    push(list, name, entering, 7, index);
+                }
             }
+        }
+        // The first of several is the place.
+        let all = widened(re_entering(), wide).items();
+        let mut later = all.clone();
+        later[watch[0]] = items[watch[0]].clone();
+        for (several, first) in [(all, watch[0]), (later, watch[1])] {
+            let name = format!("items from {first} on enter, wide {wide}");
+            push(list, name, several, 7, first);
         }
     }
 }
 
 fn add_twins(list: &mut Vec<Specimen>) {
-    let items = sound().items();
-    for kind in [3, 4, 5] {
+    for (make, table, kind) in [
+        ("sound", sound(), 3),
+        ("sound", sound(), 4),
+        ("sound", sound(), 5),
+        ("re-entering", re_entering(), 4),
+    ] {
+        let items = table.items();
         let indices = of_kind(&items, kind);
         for &first in &indices {
             for &second in indices.iter().filter(|&&second| second >= first) {
                 let mut twins = items.clone();
                 twins.insert(second + 1, items[first].clone());
-                let name = format!("item {first} again after item {second}");
+                let name = format!("{make}, item {first} again after item {second}");
                 push(list, name, twins, 8, second + 1);
             }
         }
@@ -272,7 +305,7 @@ fn add_leftovers(list: &mut Vec<Specimen>) {
 
 /// Items with two faults: the order 2, 3, 4, 1, 5, 6, 7, 8 decides.
 fn add_rivals(list: &mut Vec<Specimen>) {
-    let items = sound().items();
+    let items = widened(sound(), 2).items();
     let (rule, watch) = (of_kind(&items, 3)[1], of_kind(&items, 4)[0]);
     let mut rival = |name: &str, number, index: usize, item: &[u8], last: bool| {
         let mut faulty = items[..index].to_vec();

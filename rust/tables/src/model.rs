@@ -190,6 +190,14 @@ pub fn restrict(group: Group, bits: u8) -> Group {
     })
 }
 
+/// The states with those of `part` where it has any.
+pub fn overlay(states: Group, part: Group) -> Group {
+    std::array::from_fn(|process| match part[process] {
+        NO_PART => states[process],
+        state => state,
+    })
+}
+
 /// Takes the last item back if the items held it before.
 pub fn drop_twin<T: PartialEq>(items: &mut Vec<T>) {
     if let Some((last, others)) = items.split_last()

@@ -1,4 +1,4 @@
-//! The small tables of document 01, and those of requests 2.2 and 2.4.
+//! The small tables of document 01, and those of requests 2.2, 2.4 and 2.6.
 
 use crate::model::{Group, Table, WRITTEN_PLACES, group};
 
@@ -50,15 +50,51 @@ pub fn t_at_goal() -> Table {
     table
 }
 
-/// A watch transition enters a line state; refused 7.
+/// A watch transition leads back into a line state, in which a rule would fire: nothing fires from
+/// the start, and it stays unwatched.
 pub fn re_entry() -> Table {
-    let mut table = Table::new(1, 2, 2);
+    re_entry_of(2)
+}
+
+/// The same with so many states in all; more than 4 are refused 7 at 24.
+pub fn re_entry_of(states: u8) -> Table {
+    let mut table = Table::new(1, 2, states);
     table.letter(1);
     table.letter(1);
     table.rule(1, ONE, ONE, &[]);
     table.transition(0, ZERO, ONE);
     table.accepting.push(group(&[1]));
     table.pile = vec![0, 1];
+    table
+}
+
+/// Two processes of one line state, the second with so many states in all. The automaton stays in
+/// state 0 with a letter of the first and with one of both, and reads both from the start. More than
+/// 4 states are refused 7 at 10, at a transition that the second process has no part in.
+pub fn staying(states: u8) -> Table {
+    let mut table = Table::new(2, 1, 1);
+    table.processes[1].all = states;
+    let first = table.letter(0b01);
+    let both = table.letter(0b11);
+    for letter in [first, both] {
+        table.transition(letter, ZERO, ZERO);
+    }
+    table.accepting.push(group(&[0, 0]));
+    table.pile = vec![first, both];
+    table
+}
+
+/// The rule moves process 1 to state 1 and writes a letter of process 0, with which the automaton
+/// stays in state 0. So the start is accepted in a copied state of process 0 and a plain one of
+/// process 1, and in no other group.
+pub fn mixed_goal() -> Table {
+    let mut table = Table::new(2, 2, 2);
+    let first = table.letter(0b01);
+    let both = table.letter(0b11);
+    table.rule(both, ZERO, group(&[0, 1]), &[first]);
+    table.transition(first, ZERO, ZERO);
+    table.accepting.push(group(&[0, 1]));
+    table.pile = vec![both, first];
     table
 }
 
@@ -156,11 +192,18 @@ pub fn all() -> Vec<(String, Table)> {
         ("T without accepting".to_string(), t_without_accepting()),
         ("T at its goal".to_string(), t_at_goal()),
         ("re-entry".to_string(), re_entry()),
+        ("mixed goal".to_string(), mixed_goal()),
         ("smallest".to_string(), smallest()),
         ("idle station".to_string(), idle_station()),
         ("spread word".to_string(), spread_word()),
         ("six written letters".to_string(), six_written()),
     ];
+    for states in [3, 4, 5, 8] {
+        tables.push((format!("re-entry, {states} states"), re_entry_of(states)));
+    }
+    for states in [1, 4, 5] {
+        tables.push((format!("staying, {states} states"), staying(states)));
+    }
     for letters in [1, 2, 3, 19, 20, 32] {
         tables.push((format!("doubling {letters}"), doubling(letters)));
     }

@@ -1,6 +1,7 @@
-//! Random accepted tables.
+//! Random accepted tables, and random ones that are refused 7.
 
 use crate::bench;
+use crate::copies::NARROW;
 use crate::model::{
     Group, NO_PART, Process, Table, Transition, WRITTEN_PLACES, drop_twin, restrict,
 };
@@ -64,11 +65,24 @@ impl Shape {
     };
 }
 
-/// A random accepted table within a shape.
+/// A random accepted table within a shape. In about a third of them watch transitions lead back
+/// into line states.
 pub fn table(rng: &mut Rng, shape: &Shape) -> Table {
     let mut grower = Grower::new(rng, shape);
     grower.grow();
     grower.table
+}
+
+/// A random table that is refused 7, and has no other fault: some watch transition leads back into a
+/// line state, and some process, one of its letter's or not, has more than four states.
+pub fn wide_re_entry(rng: &mut Rng, shape: &Shape) -> Table {
+    let mut wide = table(rng, shape);
+    while !wide.is_copied() {
+        wide = table(rng, shape);
+    }
+    let process = rng.below(wide.processes.len());
+    wide.processes[process].all = *rng.pick(&[5, 5, 5, 6, 7, 8]);
+    wide
 }
 
 /// A random accepted table of any make, the small ones most often.
@@ -155,6 +169,8 @@ struct Grower<'r> {
     /// How many of 16 rules share the letter and states before of another: the more, the more
     /// transitions has the limit for each rule.
     shared: usize,
+    /// Whether watch transitions may lead back into line states.
+    re_entering: bool,
 }
 
 /// A process, more often with many states than with few.
@@ -181,9 +197,15 @@ struct Path {
 impl<'r> Grower<'r> {
     /// A table of processes and letters alone.
     fn new(rng: &'r mut Rng, shape: &Shape) -> Self {
+        // Some of these tables have no watch transition, or none that leads back.
+        let re_entering = rng.chance(3, 8);
+        let states = match re_entering {
+            true => shape.states.min(usize::from(NARROW)),
+            false => shape.states,
+        };
         let mut table = Table::new(rng.between(1, shape.processes), 1, 1);
         for process in &mut table.processes {
-            *process = any_process(rng, shape.states);
+            *process = any_process(rng, states);
         }
         let shared = *rng.pick(&[4, 8, 12, 15]);
         let mut grower = Grower {
@@ -192,6 +214,7 @@ impl<'r> Grower<'r> {
             table,
             known: Vec::new(),
             shared,
+            re_entering,
         };
         if grower.rng.chance(49, 50) {
             for _ in 0..grower.rng.between(1, shape.letters) {
@@ -206,6 +229,7 @@ impl<'r> Grower<'r> {
         for _ in 0..self.rng.between(0, shape.watch) {
             self.add_watch();
         }
+        self.known = self.table.round_zero();
         let rules = self.rng.between(0, shape.rules);
         for _ in 0..rules.max(self.rng.below(shape.rules)) {
             self.add_rule();
@@ -214,10 +238,11 @@ impl<'r> Grower<'r> {
         let path = self.path(self.table.everyone(), length);
         self.table.start = path.first;
         self.table.pile = path.word;
+        let end = self.table.plain(path.end);
         for _ in 0..self.rng.between(0, shape.accepting) {
             match self.rng.below(8) {
-                0 => self.add_goal(path.end),
-                1 | 2 => self.add_near_goal(path.end),
+                0 => self.add_goal(end),
+                1 | 2 => self.add_near_goal(end),
                 _ => self.add_any_goal(),
             }
         }
@@ -266,7 +291,8 @@ impl<'r> Grower<'r> {
         });
     }
 
-    /// Adds a watch transition on some letter, if all its processes have further states.
+    /// Adds a watch transition on some letter, if all its processes have states that it may lead
+    /// into.
     fn add_watch(&mut self) {
         let Some(letter) = self.any_letter() else {
             return;
@@ -276,22 +302,18 @@ impl<'r> Grower<'r> {
         let mut after = [NO_PART; 4];
         for (index, process) in self.table.processes.iter().enumerate() {
             let (line, all) = (usize::from(process.line), usize::from(process.all));
+            let least = if self.re_entering { 0 } else { line };
             let part = bits >> index & 1 == 1;
-            if part && line == all {
+            if part && least == all {
                 return;
             }
             if part {
                 before[index] = self.rng.below(all) as u8;
-                after[index] = self.rng.between(line, all - 1) as u8;
+                after[index] = self.rng.between(least, all - 1) as u8;
             }
         }
         self.table.transition(letter, before, after);
         drop_twin(&mut self.table.watch);
-        self.known.push(Transition {
-            letter,
-            before,
-            after,
-        });
     }
 
     fn add_goal(&mut self, goal: Group) {
@@ -326,7 +348,12 @@ impl<'r> Grower<'r> {
         let mut first = [NO_PART; 4];
         let mut end = [NO_PART; 4];
         let mut word = Vec::new();
+        // Some paths are of the automaton without its copy, which must not count.
+        let uncopied = self.rng.chance(1, 4);
         for _ in 0..length {
+            if uncopied {
+                end = self.table.plain(end);
+            }
             let next = if self.rng.chance(1, 16) {
                 self.any_transition(bits)
             } else {

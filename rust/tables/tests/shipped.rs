@@ -5,11 +5,12 @@ use tables::{Table, bench, named};
 
 #[test]
 fn shipped_tables_are_the_tested_ones() {
-    let tables: [(&str, Table); 13] = [
+    let tables: [(&str, Table); 14] = [
         ("T", named::t()),
         ("T-without-rule-2", named::t_without_rule_2()),
         ("T-at-goal", named::t_at_goal()),
         ("re-entry", named::re_entry()),
+        ("staying", named::staying(1)),
         ("doubling-3", named::doubling(3)),
         ("doubling-19", named::doubling(19)),
         ("doubling-20", named::doubling(20)),

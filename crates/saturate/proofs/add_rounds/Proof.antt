@@ -8,10 +8,10 @@ use Rattle.saturate.proofs.add_rounds.Statement.{statement}
 use Rattle.saturate.proofs.add_rounds.Tie as tie
 
 abbrev Inv-loop : tie.InvT-loop
-Inv-loop table t log₀ scratch₀ n lo₀ base₀ k₀ log scratch lo base k = Saturating table t n log₀ scratch₀ log scratch lo base k
+Inv-loop table t log₀ scratch₀ n count lo₀ base₀ k₀ log scratch lo base k = Saturating table t n log₀ scratch₀ log scratch lo base k
 
 abbrev μ-loop : tie.MeasureT-loop
-μ-loop table t log₀ scratch₀ n lo₀ base₀ k₀ log scratch lo base k = n - base
+μ-loop table t log₀ scratch₀ n count lo₀ base₀ k₀ log scratch lo base k = n - base
 
 pub add-rounds-spec : {M : Type 1} → statement M
 add-rounds-spec = tie.close (tie.spec Inv-loop μ-loop (λ c. saturating-start (c .before .before .before .pre)) (λ c κs. c .before .before .loop .inv .begins)

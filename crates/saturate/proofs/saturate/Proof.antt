@@ -1,7 +1,7 @@
 -- Round 0 is written, the scratch made ready, and the rounds added (Saturating).
 use native.Mathlib.Omega.{arith}
 use borrow.Author.Needs.{needs}
-use Rattle.saturate.proofs.Saturating.{codes-room, initial-begins, initial-full, saturated-all}
+use Rattle.saturate.proofs.Saturating.{initial-begins, initial-full, saturated-all}
 use Rattle.saturate.proofs.saturate.Statement.{statement}
 use Rattle.saturate.proofs.saturate.Tie as tie
 
@@ -19,7 +19,7 @@ pub saturate-spec : {M : Type 1} → statement M
 saturate-spec = tie.close (tie.spec
     (λ c κs.
     let entry = c .before .before .before .before .before in
-    (entry .pre .0, omega (arith, entry .pre .1), codes-room (entry .args .table .now) (entry .args .t) (entry .pre .0) (entry .args .n) (entry .args .scratch .now) (entry .pre .2)))
+    (entry .pre .0, omega (arith, entry .pre .1), omega (arith, entry .pre .2)))
     (λ c. search needs) (λ c. search needs)
     (λ c.
     let at-write = c .before .before .before .before .before in

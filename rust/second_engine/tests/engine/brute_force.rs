@@ -1,7 +1,7 @@
 //! Small random tables against the plain definitions and against a search.
 
 use crate::calls::{Seed, answered, log_of, ran, walked};
-use crate::naive::{self, Configuration, Record};
+use crate::naive::{self, Configuration, PathEnd, Record};
 use second_engine::{Answer, RECORD_BYTES, Refusal, Run, Walk};
 use std::collections::BTreeSet;
 use tables::random::{self, Shape};
@@ -26,6 +26,13 @@ struct Tally {
     spread: usize,
     /// Tables with a record whose path has every place, by the processes of its letter.
     full_paths: [usize; 5],
+    /// Copied tables that are reachable, and those that are not.
+    copied_reachable: usize,
+    copied_unreachable: usize,
+    /// Copied tables whose start is accepted in a mixed group.
+    mixed: usize,
+    /// Unreachable ones that saturation without a copy would call reachable.
+    misled: usize,
 }
 
 /// The bytes of all records.
@@ -123,11 +130,11 @@ fn compare(table: &Table, budget: usize, tally: &mut Tally) {
         tally.skipped += 1;
         return;
     };
-    let run = compare_calls(table, &records, path.as_deref());
+    let run = compare_calls(table, &records, path.as_ref().map(|(path, _)| &path[..]));
     let is_spread = |run: Vec<u16>| table.peak(&run) < table.longest_word(&run);
     tally.spread += usize::from(run.is_some_and(is_spread));
     match &path {
-        Some(path) => {
+        Some((path, _)) => {
             tally.reachable += 1;
             let steps = naive::start_steps(&records, path);
             tally.most_steps = tally.most_steps.max(steps);
@@ -144,6 +151,27 @@ fn compare(table: &Table, budget: usize, tally: &mut Tally) {
     for size in sizes {
         tally.full_paths[size] += 1;
     }
+    if table.is_copied() {
+        note_copied(table, path, budget, tally);
+    }
+}
+
+/// Notes what is special about a copied table, by the start's path in its limit.
+fn note_copied(table: &Table, path: Option<PathEnd>, budget: usize, tally: &mut Tally) {
+    let Some((_, end)) = path else {
+        tally.copied_unreachable += 1;
+        tally.misled += usize::from(accepts_without_copy(table, budget));
+        return;
+    };
+    tally.copied_reachable += 1;
+    tally.mixed += usize::from(table.is_mixed(end));
+}
+
+/// Whether the start is accepted if the table's own automaton is saturated.
+fn accepts_without_copy(table: &Table, budget: usize) -> bool {
+    let records = naive::saturate_from(table, table.watch.clone(), budget);
+    let path = records.and_then(|records| naive::start_path(table, &records, budget)?);
+    path.is_some()
 }
 
 /// How many processes the record's letter has.
@@ -169,6 +197,8 @@ fn tiny_tables_follow_the_definitions() {
     assert!(tally.reachable > 2_000 && tally.unreachable > 2_000);
     assert!(tally.spread > 100 && tally.skipped < 100);
     assert!(tally.full_paths[1..=3].iter().all(|&count| count > 10));
+    assert!(tally.copied_reachable > 500 && tally.copied_unreachable > 500);
+    assert!(tally.mixed > 100 && tally.misled > 20);
 }
 
 #[test]
@@ -176,14 +206,16 @@ fn dense_tables_follow_the_definitions() {
     let tally = compare_shape(&Shape::DENSE, 50_000..53_000);
     assert!(tally.reachable > 1_000 && tally.unreachable > 600);
     assert!(tally.choices > 1_000 && tally.skipped < 500);
+    assert!(tally.mixed > 30 && tally.misled > 5);
 }
 
 #[test]
 fn middle_tables_follow_the_definitions() {
     let tally = compare_shape(&Shape::MIDDLE, 100_000..101_000);
     assert!(tally.reachable > 300 && tally.unreachable > 300);
-    assert!(tally.choices > 300 && tally.spread > 100 && tally.skipped < 100);
+    assert!(tally.choices > 300 && tally.spread > 100 && tally.skipped < 150);
     assert!(tally.full_paths[1..=4].iter().all(|&count| count > 10));
+    assert!(tally.mixed > 30 && tally.misled > 5);
 }
 
 #[test]

@@ -4,7 +4,7 @@ use crate::calls::{Seed, answered, ran, walked};
 use second_engine::{Answer, RECORD_BYTES, Refusal, Run, Walk};
 use std::collections::{HashMap, HashSet};
 use tables::random::{self, Shape};
-use tables::{Group, Rng, Table, WRITTEN_PLACES, bench};
+use tables::{Group, Rng, Table, Transition, WRITTEN_PLACES, bench, overlay};
 
 const FULL: usize = RECORD_BYTES * 65_535;
 /// Where the path of a record begins.
@@ -37,6 +37,16 @@ fn record(bytes: &[u8]) -> Record {
     }
 }
 
+impl Record {
+    fn transition(&self) -> Transition {
+        Transition {
+            letter: self.letter,
+            before: self.before,
+            after: self.after,
+        }
+    }
+}
+
 /// Checks a log for itself: the order, every reason with its rounds and steps, and that no rule
 /// adds anything more.
 fn audit(table: &Table, log: &[u8], transitions: u32) {
@@ -45,10 +55,10 @@ fn audit(table: &Table, log: &[u8], transitions: u32) {
     let records: Vec<Record> = filled.chunks(RECORD_BYTES).map(record).collect();
     let key = |r: &Record| (r.round, r.letter, r.before, r.after);
     assert!(records.is_sorted_by(|one, next| key(one) < key(next)));
-    assert_eq!(
-        table.watch.len(),
-        records.iter().filter(|r| r.round == 0).count()
-    );
+    let mut watch = table.round_zero();
+    watch.sort();
+    let first = records.iter().filter(|r| r.round == 0);
+    assert!(first.map(Record::transition).eq(watch));
     for record in &records {
         audit_reason(table, &records, record);
     }
@@ -109,14 +119,6 @@ fn audit_closed(table: &Table, records: &[Record]) {
         let held: HashSet<Group> = held.into_iter().flatten().copied().collect();
         assert!(reached.is_subset(&held));
     }
-}
-
-/// The states with those that `part` has taken from it.
-fn overlay(states: Group, part: Group) -> Group {
-    std::array::from_fn(|process| match part[process] {
-        tables::NO_PART => states[process],
-        state => state,
-    })
 }
 
 /// Audits a table's log, and replays its run if it has one of at most a million steps; gives
@@ -227,6 +229,7 @@ fn benchmark_tables() {
     assert_eq!(check(&bench::many_paths()), reachable(96, 2, 65));
     assert_eq!(check(&bench::chain()), reachable(200, 200, 200));
     assert_eq!(check(&bench::one_rule()), reachable(220, 1, 1));
+    assert_eq!(check(&bench::copied()), reachable(3_300, 1, 1));
     assert_eq!(check(&bench::mixed(30_302, 0, 1)), reachable(821, 6, 1));
     assert_eq!(
         check(&bench::mixed(44_284, 200, 64)),

@@ -1,8 +1,9 @@
-//! Tests of the second engine against document 01 and against plain definitions.
+//! Tests of the second engine against documents 01 and 02 and against plain definitions.
 
 mod brute_force;
 mod buffers;
 mod calls;
+mod copies;
 mod desk;
 mod large;
 mod naive;

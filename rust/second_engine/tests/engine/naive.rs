@@ -1,4 +1,4 @@
-//! The definitions of document 01, followed word by word with no care for time.
+//! The definitions of documents 01 and 02, followed word by word with no care for time.
 
 use std::collections::{BTreeMap, BTreeSet, HashSet, VecDeque};
 use tables::{Group, Rule, Table, Transition, WRITTEN_PLACES, restrict};
@@ -34,7 +34,7 @@ impl Record {
 }
 
 /// A path and the global or local state it ends in.
-type PathEnd = (Vec<u16>, Group);
+pub type PathEnd = (Vec<u16>, Group);
 
 /// Enumerates paths, as long as not too many have been met.
 struct Paths<'t> {
@@ -87,9 +87,17 @@ fn steps_of(records: &[Record], path: &[u16]) -> u64 {
 
 /// All records of the limit in order; nothing if the paths are too many.
 pub fn saturate(table: &Table, budget: usize) -> Option<Vec<Record>> {
-    let watch: BTreeSet<Transition> = table.watch.iter().copied().collect();
+    saturate_from(table, table.round_zero(), budget)
+}
+
+/// The same from other transitions of round 0.
+pub fn saturate_from(
+    table: &Table,
+    round_zero: Vec<Transition>,
+    budget: usize,
+) -> Option<Vec<Record>> {
     let mut records: Vec<Record> = Vec::new();
-    for transition in watch {
+    for transition in BTreeSet::from_iter(round_zero) {
         records.push(Record {
             transition,
             round: 0,
@@ -153,18 +161,17 @@ fn next_round(
     Some(added)
 }
 
-/// The first accepting path of the start, if there is one; nothing if the paths are too many.
-pub fn start_path(table: &Table, records: &[Record], budget: usize) -> Option<Option<Vec<u16>>> {
+/// The first accepting path of the start with its end, if there is one; nothing if the paths are too
+/// many.
+pub fn start_path(table: &Table, records: &[Record], budget: usize) -> Option<Option<PathEnd>> {
     let mut paths = Paths {
         table,
         records,
         budget,
     };
-    let all = paths.all(table.start, &table.pile)?;
-    let accepting = all
-        .into_iter()
-        .filter(|(_, end)| table.accepting.contains(end));
-    Some(accepting.map(|(path, _)| path).min())
+    let mut all = paths.all(table.start, &table.pile)?;
+    all.retain(|(_, end)| table.accepting.contains(&table.plain(*end)));
+    Some(all.into_iter().min())
 }
 
 /// The steps of the start's path.

@@ -1,5 +1,5 @@
 //! A second reading of refusals 1 to 9: every condition for itself, tried in the order that
-//! document 01 gives, with the written places of request 2.4.
+//! document 01 gives, with the written places of request 2.4 and the re-entry of request 2.6.
 
 use tables::WRITTEN_PLACES;
 
@@ -67,7 +67,7 @@ fn meets(number: u8, earlier: &[Item], item: &Item) -> bool {
         1 => item.body.len() < body_length(item.kind),
         5 => !good_values(earlier, item),
         6 => item.kind == 3 && strays(earlier, item.body),
-        7 => item.kind == 4 && re_enters(earlier, item.body),
+        7 => item.kind == 4 && re_enters(earlier, item.body) && has_wide(earlier),
         _ => {
             let same = |other: &Item| other.kind == item.kind && other.body == item.body;
             (3..=5).contains(&item.kind) && earlier.iter().any(same)
@@ -148,4 +148,9 @@ fn re_enters(earlier: &[Item], body: &[u8]) -> bool {
     let bits = letters(earlier)[usize::from(body[0])];
     let mut states = processes(earlier).into_iter().enumerate();
     states.any(|(index, (line, _))| bits >> index & 1 == 1 && body[5 + index] < line)
+}
+
+/// Whether some process, whichever it is, has more than four states.
+fn has_wide(earlier: &[Item]) -> bool {
+    processes(earlier).iter().any(|&(_, all)| all > 4)
 }

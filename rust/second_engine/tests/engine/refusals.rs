@@ -73,6 +73,29 @@ fn random_tables_are_accepted() {
     }
 }
 
+/// The first re-entering transition is refused, whether or not a wide process is its letter's.
+#[test]
+fn random_wide_re_entries_are_refused() {
+    let mut outside = 0;
+    for seed in (710_000..711_000).map(Seed) {
+        let mut rng = seed.rng();
+        let shape = *rng.pick(&[Shape::TINY, Shape::DENSE, Shape::MIDDLE]);
+        let table = random::wide_re_entry(&mut rng, &shape);
+        let bytes = table.bytes();
+        let first = table.watch.iter().position(|watch| table.re_enters(watch));
+        let first = first.expect("a re-entering transition");
+        let items = table.items();
+        let before = items.iter().take_while(|item| item[0] < 4).count() + first;
+        let expected = Some((7, items[..before].concat().len()));
+        assert_eq!(judge(&bytes), expected);
+        assert_eq!(pair(refusal_of(&bytes, 0)), expected);
+        let bits = table.letters[usize::from(table.watch[first].letter)];
+        outside += usize::from(bits & table.wide_processes() == 0);
+    }
+    println!("wide processes outside the letter {outside}");
+    assert!(outside > 100);
+}
+
 /// How many items come before the refused one: of its kind for refusals 4 to 8, in all for the
 /// others.
 fn items_before(file: &[u8], number: u8, place: usize) -> usize {
@@ -96,7 +119,8 @@ fn random_damage_is_judged_alike() {
     for round in 0..20_000 {
         let table = match round % 40 {
             0 => full.clone(),
-            1..30 => random::table(&mut rng, &Shape::TINY),
+            1 => random::wide_re_entry(&mut rng, &Shape::TINY),
+            2..30 => random::table(&mut rng, &Shape::TINY),
             _ => random::table(&mut rng, &Shape::MIDDLE),
         };
         let bytes = damage::damaged(&mut rng, &table);

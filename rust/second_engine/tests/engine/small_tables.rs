@@ -189,14 +189,6 @@ fn processes_count_their_letters() {
 }
 
 #[test]
-fn re_entry_is_refused() {
-    let table = named::re_entry();
-    let place = 3 + 2 * 2 + 17;
-    let expected = Answer::Refused(refused(7, place));
-    assert_eq!(answered(&table.bytes(), LOG).0, expected);
-}
-
-#[test]
 fn doubling() {
     let (given, run) = run_of(&named::doubling(3));
     assert_eq!(given, reachable(3, 3, 7, 3));

@@ -24,7 +24,7 @@ module _ (c : tie.After-first-lead) where
   entry = letter .before .before .before .before
 
   inside : c .first-lead .result < entry .args .count
-  inside = step-inside (entry .pre) (letter .letter-at .ensures) (c .before .plain .ensures) (c .first-lead .ensures)
+  inside = step-inside (entry .pre) (letter .letter-at .ensures) (c .before .zeroed .ensures) (c .first-lead .ensures)
 
 returns : tie.Need-returns
 returns c =
@@ -32,7 +32,7 @@ returns c =
     let at-put-number = at-merged .before .before .before .before in
     let found = at-put-number .before .before .before in
     let a = entry found .args in
-    advanced (entry found .pre) (letter found .letter-at .ensures) (found .before .plain .ensures) (found .first-lead .ensures) _ _ (at-put-number .put-number .ensures)
+    advanced (entry found .pre) (letter found .letter-at .ensures) (found .before .zeroed .ensures) (found .first-lead .ensures) _ _ (at-put-number .put-number .ensures)
     (at-merged .merged .ensures ∙ ap (λ (h : Group). merge (processesOf (letter found .letter-at .result .bits)) h (a .c .state)) (at-merged .before .after-at .ensures))
     (c .add-steps .ensures ∙ ap (λ (k : ℕ). min (a .c .steps + k) stepsCap) (c .before .steps-at .ensures))
 
@@ -49,5 +49,5 @@ advance-spec = tie.close (tie.spec (λ c κs. search needs) (λ c. search needs)
     (λ c κs.
     let found = c .before .before .before .before .before .before .before .before in
     let u = entry found .pre in
-    (u .on-path .steps, omega (arith, c .steps-at .ensures, step-steps u (letter found .letter-at .ensures) (found .before .plain .ensures) (found .first-lead .ensures))))
+    (u .on-path .steps, omega (arith, c .steps-at .ensures, step-steps u (letter found .letter-at .ensures) (found .before .zeroed .ensures) (found .first-lead .ensures))))
     (λ c. search needs) returns)

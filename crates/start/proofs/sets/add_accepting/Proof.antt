@@ -1,33 +1,67 @@
--- An accepting group is put into the last set.
-use mathlib.Core.Path.{ap, _∙_}
-use Prim.Native.Nat.{ℕ}
+-- An accepting group is put into the last set, mixture after mixture (LastSet).
+use mathlib.Core.Path.{_≡_, _∙_, ap}
+use Prim.Native.Nat.{_-_, _≤_}
+use native.Mathlib.Omega.{arith}
+use lib.ListN.{length}
 use borrow.Author.Needs.{needs}
-use Rattle.automaton.specs.StateNumbers.{stateNumber}
 use Rattle.table.proofs.Layouts.{table-modest}
-use Rattle.start.specs.Regions.{withState}
-use Rattle.start.specs.RestSets.{processesOfTable, plainGroup, ownNumber}
+use Rattle.start.proofs.LastSet.{accepting-room, mixture-added, mixtures-end, mixtures-only, mixtures-start, withMixtures}
 use Rattle.start.proofs.sets.add_accepting.Statement.{statement}
 use Rattle.start.proofs.sets.add_accepting.Tie as tie
 
-insert-state-requires : tie.Need-insert-state-requires
-insert-state-requires c κs =
-    let entry = c .before .before .before .before .before .before in
-    let a = entry .args in
-    (table-modest (a .table .now) (a .t) (entry .pre .0) .pile, c .number .ensures .1, entry .pre .2)
+abbrev Inv-loop : tie.InvT-loop
+Inv-loop table t scratch₀ j x sets m₀ scratch m = (m ≤ sets) × (scratch ≡ withMixtures t x scratch₀ m)
 
-returns : tie.Need-returns
-unfolding ownNumber
-returns c =
-    let at-insert-state = c .before .before in
-    let at-number = at-insert-state .before in
-    let at-plain = at-number .before in
-    let at-accepting-group = at-plain .before .before in
-    let entry = at-accepting-group .before .before .before in
+abbrev μ-loop : tie.MeasureT-loop
+μ-loop table t scratch₀ j x sets m₀ scratch m = sets - m
+
+mixed-of-requires : tie.Need-mixed-of-requires Inv-loop μ-loop
+mixed-of-requires c κs =
+    let entry = c .before .before .before .before in
     let a = entry .args in
-    at-insert-state .insert-state .ensures ∙ ap (λ (x : ℕ). withState (a .scratch .now) (a .t .pile) x)
-    (at-number .number .ensures .0 ∙ ap stateNumber (at-plain .plain .ensures ∙ ap (plainGroup (processesOfTable (a .t))) (at-accepting-group .accepting-group .ensures)))
+    accepting-room (a .table .now) (a .t) (entry .pre .0) (a .c) (entry .pre .1) (a .j) (entry .pre .2) _ (c .present .ensures) _ (c .before .accepting-group .ensures)
+
+add-mixture-requires : tie.Need-add-mixture-requires Inv-loop μ-loop
+add-mixture-requires c κs =
+    let at-loop = c .before .before in
+    let at-mixed = at-loop .before .before in
+    let entry = at-mixed .before .before .before .before .before in
+    let a = entry .args in
+    let few = table-modest (a .table .now) (a .t) (entry .pre .0) .pile in
+    (few, omega (arith, entry .pre .3, few, ap length (at-loop .loop .inv .1), mixtures-only (a .t) (at-mixed .mixed-of .result) few (a .scratch .now) (at-loop .loop .m) (entry .pre .3) .size))
+
+loop-again : tie.Need-loop-again Inv-loop μ-loop
+loop-again c =
+    let at-add = c .before .before in
+    let at-loop = at-add .before .before .before in
+    let at-mixed = at-loop .before .before in
+    let a = at-mixed .before .before .before .before .before .args in
+    (omega (arith, at-add .before .before .loop-test .taken), mixture-added (a .t) (at-mixed .mixed-of .result) (a .scratch .now) (at-loop .loop .scratch) _ (at-loop .loop .m) (at-loop .loop .inv .1) (at-add .add-mixture .ensures))
+
+same-length : tie.Need-same-length Inv-loop μ-loop
+same-length c =
+    let at-loop = c .before in
+    let at-mixed = at-loop .before .before in
+    let entry = at-mixed .before .before .before .before .before in
+    let a = entry .args in
+    let few = table-modest (a .table .now) (a .t) (entry .pre .0) .pile in
+    ap length (at-loop .loop .inv .1) ∙ mixtures-only (a .t) (at-mixed .mixed-of .result) few (a .scratch .now) (at-loop .loop .m) (entry .pre .3) .size
+
+returns : tie.Need-returns Inv-loop μ-loop
+returns c =
+    let at-loop = c .before in
+    let at-sets = at-loop .before in
+    let at-mixed = at-sets .before in
+    let entry = at-mixed .before .before .before .before .before in
+    let a = entry .args in
+    mixtures-end (a .table .now) (a .t) (entry .pre .0) (a .c) (entry .pre .1) (a .j) (entry .pre .2) _ (at-mixed .before .present .ensures) _ (at-mixed .mixed-of .result) (at-mixed .before .before .accepting-group .ensures) (at-mixed .mixed-of .ensures)
+    (at-sets .set-count .result) (at-loop .loop .m) (at-sets .set-count .ensures) (at-loop .loop .inv .0) (c .loop-test .left) (a .scratch .now) (at-loop .loop .scratch) (at-loop .loop .inv .1)
 
 pub add-accepting-spec : {M : Type 1} → statement M
-add-accepting-spec =
-    tie.close
-    (tie.spec (λ c κs. search needs) (λ c κs. search needs) (λ c κs. search needs) insert-state-requires (λ c. search needs) returns)
+add-accepting-spec = tie.close (tie.spec Inv-loop μ-loop (λ c κs. search needs)
+    (λ c κs. let entry = c .before .before .before in table-modest (entry .args .table .now) (entry .args .t) (entry .pre .0) .processes) mixed-of-requires (λ c κs. search needs)
+    (λ c.
+    let at-mixed = c .before in
+    let a = at-mixed .before .before .before .before .before .args in
+    (omega arith, mixtures-start (a .t) (at-mixed .mixed-of .result) (a .scratch .now)))
+    add-mixture-requires (λ c. omega arith) (λ c. omega arith) loop-again same-length returns)

@@ -3,15 +3,15 @@ use mathlib.Core.Path.{_∙_}
 use native.Mathlib.Omega.{arith}
 use Rattle.table.proofs.Layouts.{table-modest}
 use Rattle.start.proofs.ScratchRegions.{same-join}
-use Rattle.start.proofs.RestRight.{Numbering, numbering-start, numbering-turn, numbering-end, set-last}
+use Rattle.start.proofs.LastSet.{Numbering, numbering-start, numbering-turn, numbering-end, set-last}
 use Rattle.start.proofs.sets.fill_accepting.Statement.{statement}
 use Rattle.start.proofs.sets.fill_accepting.Tie as tie
 
 abbrev Inv-loop : tie.InvT-loop
-Inv-loop table t scratch₀ j₀ scratch j = Numbering table t j scratch₀ scratch
+Inv-loop table t c scratch₀ j₀ scratch j = Numbering table t j scratch₀ scratch
 
 abbrev μ-loop : tie.MeasureT-loop
-μ-loop table t scratch₀ j₀ scratch j = j
+μ-loop table t c scratch₀ j₀ scratch j = j
 
 abbrev cleared : tie.At-loop Inv-loop μ-loop → tie.After-clear-set Inv-loop μ-loop
 cleared c = c .before .before .before
@@ -23,21 +23,22 @@ add-accepting-requires : tie.Need-add-accepting-requires Inv-loop μ-loop
 add-accepting-requires c κs =
     let at-loop = c .before .before in (
       entry at-loop .pre .0,
+      entry at-loop .pre .1,
       omega (arith, at-loop .loop .inv .few, c .before .loop-test .taken),
       omega
-          (arith, entry at-loop .pre .1, at-loop .loop .inv .same .size, cleared at-loop .clear-set .ensures .0 .size),
+          (arith, entry at-loop .pre .2, at-loop .loop .inv .same .size, cleared at-loop .clear-set .ensures .0 .size),
     )
 
 pub fill-accepting-spec : {M : Type 1} → statement M
 fill-accepting-spec = tie.close (tie.spec Inv-loop μ-loop
-    (λ c κs. let start = c .before .before .before in (table-modest (start .args .table .now) (start .args .t) (start .pre .0) .pile, start .pre .1))
+    (λ c κs. let start = c .before .before .before in (table-modest (start .args .table .now) (start .args .t) (start .pre .0) .pile, start .pre .2))
     (λ c. numbering-start (c .before .before .before .before .before .before .pre .0) _ (c .before .before .clear-set .ensures .1)) (λ c. omega arith)
     add-accepting-requires (λ c. omega arith)
     (λ c.
     let at-loop = c .before .before .before .before .before in
-    numbering-turn (entry at-loop .pre .0) (omega (arith, entry at-loop .pre .1, cleared at-loop .clear-set .ensures .0 .size))
+    numbering-turn (entry at-loop .pre .0) (omega (arith, entry at-loop .pre .2, cleared at-loop .clear-set .ensures .0 .size))
     (c .before .before .before .before .loop-test .taken) (at-loop .loop .inv) (c .before .before .add-accepting .ensures))
     (λ c. c .before .loop .inv .same .size ∙ cleared (c .before) .clear-set .ensures .0 .size)
     (λ c.
-    let filled = numbering-end (c .loop-test .left) (c .before .loop .inv) in
+    let filled = numbering-end (entry (c .before) .pre .0) (c .loop-test .left) (c .before .loop .inv) in
     (same-join (cleared (c .before) .clear-set .ensures .0) (filled .same), λ round. set-last (entry (c .before) .pre .0) round _ _ filled)))

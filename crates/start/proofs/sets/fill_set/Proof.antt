@@ -13,7 +13,7 @@ few c = table-modest (c .args .table .now) (c .args .t) (c .pre .0 .1 .holds) .p
 
 add-groups-requires : tie.Need-add-groups-requires
 add-groups-requires c κs =
-    let at-clear-set = c .before .before .before .before .before in
+    let at-clear-set = c .before .before .before .before in
     let start = at-clear-set .before .before .before .before .before .before in (
       linked-same (omega (arith, start .pre .2, few start)) (at-clear-set .clear-set .ensures .0) (start .pre .1),
       omega
@@ -24,13 +24,13 @@ add-groups-requires c κs =
 returns : tie.Need-returns
 returns c =
     let at-frame-of = c .before .before .before .before in
-    let at-clear-set = at-frame-of .before .before .before .before in
+    let at-clear-set = at-frame-of .before .before .before in
     let at-letter-at = at-clear-set .before .before in
-    set-filled (at-letter-at .before .before .before .before .pre) (at-letter-at .letter-at .ensures) (at-clear-set .clear-set .ensures)
-    (at-frame-of .before .last-states .ensures) (at-frame-of .frame-of .ensures)
+    let p = at-letter-at .before .before .before .before .pre in
+    set-filled (p .0, p .1, p .2, p .3) (at-letter-at .letter-at .ensures) (at-clear-set .clear-set .ensures) (p .4) (at-frame-of .frame-of .ensures)
     (c .before .before .add-groups .ensures)
 
 pub fill-set-spec : {M : Type 1} → statement M
 fill-set-spec = tie.close (tie.spec (λ c κs. search needs)
     (λ c κs. let start = c .before .before .before .before .before in (omega (arith, start .pre .2, few start), omega (arith, start .pre .1 .room .room)))
-    (λ c κs. search needs) (λ c κs. search needs) add-groups-requires (λ c. search needs) returns)
+    (λ c κs. search needs) add-groups-requires (λ c. search needs) returns)

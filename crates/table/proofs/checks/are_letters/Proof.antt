@@ -18,7 +18,7 @@ abbrev μ-loop : tie.MeasureT-loop
 
 pub are-letters-spec : {M : Type 1} → statement M
 are-letters-spec = tie.close (tie.spec Inv-loop μ-loop (λ c. record { within = omega arith; passed = refl }) (λ c. omega arith) (λ c κs. search needs)
-    (λ c. tested-fails (c .before .before .before .before .loop .inv) (c .before .before .before .loop-test .taken) (rw (← (c .before .wide .ensures .0)) (le-ltb _ _ (c .if1 .left))))
+    (λ c. tested-fails (c .before .before .before .before .loop .inv) 0 (c .before .before .before .loop-test .taken) (rw (← (c .before .wide .ensures .0)) (le-ltb _ _ (c .if1 .left))))
     (λ c. omega arith) (λ c. omega arith)
-    (λ c. tested-more (c .before .before .before .before .loop .inv) (c .before .before .before .loop-test .taken) (rw (← (c .before .wide .ensures .0)) (lt-ltb _ _ (c .if1 .taken))))
+    (λ c. tested-more (c .before .before .before .before .loop .inv) 0 (c .before .before .before .loop-test .taken) (rw (← (c .before .wide .ensures .0)) (lt-ltb _ _ (c .if1 .taken))))
     (λ c. tested-end (c .before .loop .inv) (c .loop-test .left)))

@@ -17,6 +17,6 @@ abbrev μ-loop : tie.MeasureT-loop
 
 pub are-spare-spec : {M : Type 1} → statement M
 are-spare-spec = tie.close (tie.spec Inv-loop μ-loop (λ c. record { within = omega arith; passed = refl }) (λ c. omega arith)
-    (λ c. tested-fails (c .before .before .before .loop .inv) (c .before .before .loop-test .taken) (ne-eqb _ _ (c .if1 .left))) (λ c. omega arith)
-    (λ c. omega arith) (λ c. tested-more (c .before .before .before .loop .inv) (c .before .before .loop-test .taken) (eq-eqb _ _ (c .if1 .taken)))
+    (λ c. tested-fails (c .before .before .before .loop .inv) 0 (c .before .before .loop-test .taken) (ne-eqb _ _ (c .if1 .left))) (λ c. omega arith)
+    (λ c. omega arith) (λ c. tested-more (c .before .before .before .loop .inv) 0 (c .before .before .loop-test .taken) (eq-eqb _ _ (c .if1 .taken)))
     (λ c. tested-end (c .before .loop .inv) (c .loop-test .left)))

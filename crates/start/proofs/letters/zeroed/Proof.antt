@@ -1,8 +1,8 @@
 -- A group with 0 at the processes that the table lacks.
 use Rattle.model.specs.Groups.{merge}
 use borrow.Author.Needs.{needs}
-use Rattle.start.proofs.letters.plain.Statement.{statement}
-use Rattle.start.proofs.letters.plain.Tie as tie
+use Rattle.start.proofs.letters.zeroed.Statement.{statement}
+use Rattle.start.proofs.letters.zeroed.Tie as tie
 
 returns : tie.Need-returns
 unfolding merge
@@ -11,5 +11,5 @@ returns c =
     let at-chosen2 = at-chosen3 .before .before in
     λ i. record { s0 = at-chosen2 .before .before .chosen .ensures i; s1 = at-chosen2 .chosen2 .ensures i; s2 = at-chosen3 .chosen3 .ensures i; s3 = c .chosen4 .ensures i }
 
-pub plain-spec : {M : Type 1} → statement M
-plain-spec = tie.close (tie.spec (λ c κs. search needs) (λ c κs. search needs) (λ c κs. search needs) (λ c κs. search needs) returns)
+pub zeroed-spec : {M : Type 1} → statement M
+zeroed-spec = tie.close (tie.spec (λ c κs. search needs) (λ c κs. search needs) (λ c κs. search needs) (λ c κs. search needs) returns)

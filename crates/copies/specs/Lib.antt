@@ -1,0 +1,2 @@
+pub mod CopyingOf
+pub mod Mixing
