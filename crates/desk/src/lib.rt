@@ -3,13 +3,13 @@
 use firing::Placed;
 use model::Group;
 use model::Told;
+use reading::read;
 use steps::Taken;
 use steps::place_start;
 use steps::settle;
 use steps::take_step;
 use table::Parsed;
 use table::Table;
-use table::read;
 ghost use mathlib.Core.Path.{_≡_};
 ghost use Prim.Native.Nat.{_≤_};
 ghost use lib.ListN.{length, take};

@@ -1,20 +1,18 @@
-// Reading a table: document 01, "Table bytes" and refusals 1 to 9. The table stays in the caller's bytes; what is kept of it are its counts.
+// A table: document 01, "Table bytes". It stays in the caller's bytes; what is kept of it are its counts, by which its parts are found there.
 ghost use mathlib.Core.Path.{_≡_};
 ghost use mathlib.Core.List.{[]};
-ghost use Rattle.model.specs.Tables as Tables;
-ghost use Rattle.table.specs.Places.{Passed};
-ghost use Rattle.table.specs.Reading.{countsOf, parsed, Stepped};
+ghost use Prim.Native.Nat.{_<_};
+ghost use Rattle.model.specs.Tables.{ceiling};
+ghost use Rattle.table.specs.Reading.{countsOf};
 
-mod checks;
 mod fields;
-mod items;
+mod groups;
 
-use crate::items::advance;
-use crate::items::body_length;
-use crate::items::check_item;
-pub use checks::is_within;
-pub use checks::leaves_control;
+pub use fields::RULE_BODY;
 pub use fields::accepting_group;
+pub use fields::bits_of;
+pub use fields::body_at;
+pub use fields::bound_of;
 pub use fields::letter_bits;
 pub use fields::local_states;
 pub use fields::pile_letter;
@@ -27,7 +25,10 @@ pub use fields::transition_before;
 pub use fields::transition_letter;
 pub use fields::written_count;
 pub use fields::written_letter;
+pub use groups::is_within;
+pub use groups::leaves_control;
 use model::WRITTEN_PLACES;
+use numbers::wide;
 
 // What an accepted table holds, besides one start: the number of items of each kind.
 #[repr(C)]
@@ -79,6 +80,25 @@ impl Table {
     }
 }
 
+// How many items of a kind a table may have.
+pub fn ceiling_of(kind: u8) -> usize
+    requires { ⌜ kind < 9 ⌝ }
+    ensures { λ r. ⌜ r ≡ ceiling kind ⌝ }
+{
+    let ceilings: [usize; 9] = [
+        0,
+        Table::PROCESSES,
+        Table::LETTERS,
+        Table::RULES,
+        Table::TRANSITIONS,
+        Table::ACCEPTING,
+        1,
+        Table::PILE,
+        1,
+    ];
+    ceilings[wide(kind)]
+}
+
 // What reading gives: the counts, or the number and the place of the refusal.
 pub enum Parsed {
     Accepted(Table),
@@ -97,57 +117,4 @@ pub struct Cursor {
 pub enum Step {
     Next(Cursor),
     Done(Parsed),
-}
-
-// The item at the cursor: what comes behind it, or the end of the reading.
-fn next_item(bytes: &[u8], c: Cursor) -> Step
-    requires { ⌜ Passed (now bytes) c ⌝ }
-    ensures { λ r. ⌜ Stepped (now (bytes .entry)) c r ⌝ }
-{
-    let at = c.at;
-    if bytes.len() <= at {
-        return Step::Done(Parsed::Refused {
-            number: 1,
-            place: at,
-        });
-    }
-    let kind = bytes[at];
-    let number = check_item(bytes, c, kind);
-    if number != 0 {
-        return Step::Done(Parsed::Refused { number, place: at });
-    }
-    if kind != 8 {
-        let next = at + 1 + body_length(kind);
-        return Step::Next(advance(c, kind, next));
-    }
-    if at + 1 < bytes.len() {
-        return Step::Done(Parsed::Refused {
-            number: 9,
-            place: at + 1,
-        });
-    }
-    let table = c.table;
-    Step::Done(Parsed::Accepted(table))
-}
-
-// Reads a table: its counts, or the first refusal of 1 to 9 with its place.
-pub fn read(bytes: &[u8]) -> Parsed
-    ensures { λ r. ⌜ r ≡ parsed (Tables.read (now (bytes .entry))) ⌝ }
-{
-    let mut c = Cursor {
-        at: 0,
-        last: 0,
-        starts: 0,
-        table: Table::empty(),
-    };
-    loop {
-        match next_item(bytes, c) {
-            Step::Next(n) => {
-                c = n;
-            }
-            Step::Done(p) => {
-                return p;
-            }
-        }
-    }
 }

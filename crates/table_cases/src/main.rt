@@ -146,7 +146,7 @@ fn print_parsed(p: Parsed) {
 }
 
 fn show(bytes: &[u8]) {
-    print_parsed(table::read(bytes));
+    print_parsed(reading::read(bytes));
 }
 
 // The first n bytes.
