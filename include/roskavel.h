@@ -2,11 +2,12 @@
  * Roskavel: reachability of cooperating multi-pushdown systems, for C and C++.
  *
  * A table is a string of bytes. It lists processes, letters, rules, an automaton for the set of
- * configurations to watch, and a start. Three calls work on it:
+ * configurations to watch, and a start. Four calls work on it:
  *
  *   roskavel_answer  says whether some run leads from the start into the watched set,
  *   roskavel_run     gives such a run as well,
- *   roskavel_walk    follows a list of rules from the start and says where it ends.
+ *   roskavel_walk    follows a list of rules from the start and says where it ends,
+ *   roskavel_plan    lays a list of rules on the week, by the processes' opening hours.
  *
  * At a desk, which roskavel_desk_open opens on a table, rules are fired one by one, and
  * configurations are saved under names to return to.
@@ -19,9 +20,9 @@
  * address of any object then. The arrays of one call, the figures among them, must not overlap.
  *
  * Refusals. Any bytes may be given as a table and any length as a buffer: what does not serve is
- * refused with a number and a place. Refusals 1 to 9 and 15 change no buffer; every other return
- * leaves the scratch zero. At an open desk any rule and any name may be given: a refused call
- * changes nothing.
+ * refused with a number and a place. Refusals 1 to 9, 15, 19 and 20 change no buffer; every other
+ * return leaves the scratch of a call that has one zero. At an open desk any rule and any name may
+ * be given: a refused call changes nothing.
  */
 #ifndef ROSKAVEL_H
 #define ROSKAVEL_H
@@ -33,7 +34,7 @@
 extern "C" {
 #endif
 
-/* How many figures each call gives. */
+/* How many figures answer, run and walk give. */
 #define ROSKAVEL_FIGURES 16
 /* The bytes of one record of the log. */
 #define ROSKAVEL_RECORD_BYTES 28
@@ -45,7 +46,8 @@ extern "C" {
 #define ROSKAVEL_SCRATCH_PER_RECORD 10
 /* The bytes of scratch that a walk needs. */
 #define ROSKAVEL_WALK_SCRATCH 2048
-/* The most steps of a run that is written; a count above it is given as one more than it. */
+/* The most steps of a run that is written or planned; a count above it is given as one more than
+   it. */
 #define ROSKAVEL_STEP_CEILING 1000000
 /* How many names a desk has, from 0. */
 #define ROSKAVEL_NAMES 8
@@ -53,6 +55,14 @@ extern "C" {
 #define ROSKAVEL_DESK_PILE 256
 /* Where a desk's count of steps stops. */
 #define ROSKAVEL_COUNT_CEILING 4294967295u
+/* The most windows of a process. */
+#define ROSKAVEL_WINDOWS 14
+/* The minutes of a week: no window closes later. */
+#define ROSKAVEL_WEEK_MINUTES 10080
+/* The most minutes that a rule takes; the least is 1. */
+#define ROSKAVEL_LONGEST_STEP 1440
+/* How far a plan's start may be from minute 0, before or after it. */
+#define ROSKAVEL_START_BOUND 1000000
 
 /*
  * What stands at each place of the figures. A place that the call or its outcome does not name
@@ -109,7 +119,9 @@ enum roskavel_refusal {
     ROSKAVEL_SHORT_SCRATCH = 15, /* see roskavel_scratch_bytes, ROSKAVEL_WALK_SCRATCH; 0 */
     ROSKAVEL_NO_RUN = 16,        /* a run is asked for, but none leads there; 0 */
     ROSKAVEL_EMPTY_NAME = 17,    /* the desk holds nothing under this name; 0 */
-    ROSKAVEL_BAD_NAME = 18       /* the name is not below ROSKAVEL_NAMES; 0 */
+    ROSKAVEL_BAD_NAME = 18,      /* the name is not below ROSKAVEL_NAMES; 0 */
+    ROSKAVEL_BAD_HOURS = 19,     /* a figure of a plan outside its bounds, see roskavel_plan; 0 */
+    ROSKAVEL_NEVER_OPEN = 20     /* a step that fits no minute of any week; the first such */
 };
 
 /* How many records a log of this many bytes has room for. */
@@ -173,6 +185,57 @@ void roskavel_walk(const uint8_t *table, size_t table_length,
                    uint8_t *pile, size_t pile_length,
                    uint8_t *scratch, size_t scratch_length,
                    uint64_t figures[ROSKAVEL_FIGURES]);
+
+/* A window of minutes of the week, Monday 00:00 being 0. The minute of closing is not in it. */
+typedef struct roskavel_window {
+    uint16_t opens;
+    uint16_t closes;
+} roskavel_window;
+
+/* The opening hours of a process: it is open in the minutes of its first `count` windows. */
+typedef struct roskavel_hours {
+    roskavel_window windows[ROSKAVEL_WINDOWS];
+    uint8_t count;
+} roskavel_hours;
+
+/* The opening hours of each process. */
+typedef struct roskavel_week {
+    roskavel_hours processes[4];
+} roskavel_week;
+
+/* What planning gives. */
+typedef struct roskavel_planned {
+    uint8_t number; /* the number of the refusal, or 0 */
+    size_t place;   /* its place, or 0 */
+} roskavel_planned;
+
+/*
+ * Lays a run on the week. In its order each step begins at the first minute, not before the start
+ * nor before the processes of its letter have ended their earlier steps, from which all of them
+ * are open for its whole length. Whether the rules fire is not asked.
+ *
+ * Minute 0 is Monday 00:00 of the plan's week, the minutes before it are negative, and all weeks
+ * are alike: minute -1 is minute 10,079 of a week. Windows that touch or overlap run on, also from
+ * Sunday into Monday. A process without windows is never open.
+ *
+ * run      the run, numbers of the table's rules from 0; at most ROSKAVEL_STEP_CEILING steps.
+ * week     at most ROSKAVEL_WINDOWS windows for each process, each of which opens before it closes
+ *          and closes at ROSKAVEL_WEEK_MINUTES or before.
+ * lengths  the minutes that each rule takes, by number: from 1 to ROSKAVEL_LONGEST_STEP.
+ * start    a minute from -ROSKAVEL_START_BOUND to ROSKAVEL_START_BOUND.
+ * begins   holds the minute in which each step begins, then what it held before; at least as long
+ *          as the run. A later step may begin earlier. Unchanged if refused.
+ *
+ * Refused by 1 to 9, then by 19 if one of these does not hold, then by 20. Every process and every
+ * rule of the table is looked at for 19, whether the run has it or not. Windows past the count, and
+ * what is given for processes or rules that the table lacks, are not looked at.
+ */
+roskavel_planned roskavel_plan(const uint8_t *table, size_t table_length,
+                               const uint16_t *run, size_t run_length,
+                               roskavel_week week,
+                               const uint16_t *lengths, size_t lengths_length,
+                               int64_t start,
+                               int64_t *begins, size_t begins_length);
 
 /*
  * A desk on a table. It stands in a configuration, at first the start, and holds up to

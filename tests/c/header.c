@@ -1,14 +1,16 @@
 /*
- * The three calls from C: table T, the empty table, and a walk refused at a step and at its start.
- * Every figure and every byte of every buffer is checked. Then a desk: every call and each of its
- * refusals, with all that it shows and counts, and counts that stop. Argument: the path of table T.
+ * The calls from C: table T, the empty table, and a walk refused at a step and at its start. Every
+ * figure and every byte of every buffer is checked. Plans: the layout of the hours, given and
+ * refused ones with every place of the list. Then a desk: every call and each of its refusals, with
+ * all that it shows and counts, and counts that stop. Argument: the path of table T.
  */
 #include "roskavel.h"
 
+#include <stddef.h>
 #include <stdio.h>
 #include <string.h>
 
-enum { TABLE = 76, LOG = 100, SCRATCH = 34100, PAGE = 5, PILE = 4, DIRT = 0xA5 };
+enum { TABLE = 76, LOG = 100, SCRATCH = 34100, PAGE = 5, PILE = 4, BEGINS = 5, DIRT = 0xA5 };
 
 typedef uint64_t figure_list[ROSKAVEL_FIGURES];
 typedef uint64_t count_list[4];
@@ -16,6 +18,7 @@ typedef uint64_t count_list[4];
 static uint8_t table[TABLE];
 static uint8_t log_buffer[LOG], scratch[SCRATCH], pile[PILE];
 static uint16_t page[PAGE];
+static int64_t begins[BEGINS];
 static figure_list figures;
 static int passed, failed;
 
@@ -45,6 +48,7 @@ static void make_dirty(void)
     memset(scratch, DIRT, sizeof scratch);
     memset(page, DIRT, sizeof page);
     memset(pile, DIRT, sizeof pile);
+    memset(begins, DIRT, sizeof begins);
     memset(figures, DIRT, sizeof figures);
 }
 
@@ -158,6 +162,150 @@ static void test_empty(void)
     check_figures((figure_list){[ROSKAVEL_REFUSAL] = ROSKAVEL_CUT, [ROSKAVEL_REST] = 2},
                   "figures of the empty table's walk");
     check_untouched("buffers of the empty table's walk");
+}
+
+static void test_layout(void)
+{
+    check(sizeof(roskavel_window) == 4, "size of a window");
+    check(sizeof(roskavel_hours) == 58, "size of a process's hours");
+    check(offsetof(roskavel_hours, count) == 56, "place of the count of windows");
+    check(sizeof(roskavel_week) == 232, "size of the week");
+    check(sizeof(roskavel_planned) == 16, "size of what planning gives");
+    check(offsetof(roskavel_planned, place) == 8, "place of a plan's refusal");
+}
+
+/* The arguments of a plan on table T beside the table; the lengths of its arrays may be less. */
+typedef struct order {
+    uint16_t run[3];
+    size_t run_length;
+    roskavel_week week;
+    uint16_t lengths[3];
+    size_t lengths_length;
+    int64_t start;
+    size_t begins_length;
+} order;
+
+/*
+ * Process 0 is open on Monday from 8:00 to 12:00 and from 13:00 to 17:00; process 1 from Sunday
+ * 22:00 to Monday 1:00, which are two windows, and from 10:00 to 24:00. The other windows and
+ * processes are not looked at.
+ */
+static const order sound = {
+    .run = {0, 1, 2},
+    .run_length = 3,
+    .week = {{{{{480, 720}, {780, 1020}, {9, 8}}, 2},
+              {{{9960, 10080}, {600, 1440}, {0, 60}, {0, 10081}}, 3},
+              {{{0, 0}}, 255},
+              {{{65535, 65535}}, 14}}},
+    .lengths = {60, 90, 30},
+    .lengths_length = 3,
+    .begins_length = BEGINS,
+};
+
+static roskavel_planned plan_with(const order *order)
+{
+    make_dirty();
+    return roskavel_plan(table, TABLE, order->run, order->run_length, order->week, order->lengths,
+                         order->lengths_length, order->start, begins, order->begins_length);
+}
+
+/* The plan is given, with as many begins as the run has steps. */
+static void check_given(const order *order, const int64_t *expected, const char *what)
+{
+    const roskavel_planned planned = plan_with(order);
+    check(planned.number == 0 && planned.place == 0, what);
+    check_bytes(begins, sizeof begins, expected, order->run_length * sizeof *begins, DIRT, what);
+}
+
+/* The plan is refused, and the list is left as it was. */
+static void check_refused(const order *order, uint8_t number, size_t place, const char *what)
+{
+    const roskavel_planned planned = plan_with(order);
+    check(planned.number == number && planned.place == place, what);
+    check_all(begins, sizeof begins, DIRT, what);
+}
+
+/*
+ * Both processes are open from 600 on. Process 0 is free at 660, but open for 60 minutes more only;
+ * process 1 goes on at once. Over Sunday midnight process 1 is open for 180 minutes.
+ */
+static void test_plans(void)
+{
+    order plan = sound;
+    check_given(&plan, (int64_t[]){600, 780, 660}, "plan");
+    plan.begins_length = 3;
+    check_given(&plan, (int64_t[]){600, 780, 660}, "plan in a list as long as the run");
+    plan = (order){.run = {2, 2}, .run_length = 2, .week = sound.week, .lengths = {1, 1440, 90},
+                   .lengths_length = 3, .start = -60, .begins_length = BEGINS};
+    check_given(&plan, (int64_t[]){-60, 600}, "plan from before minute 0");
+    plan.start = -ROSKAVEL_START_BOUND;
+    check_given(&plan, (int64_t[]){-998040, -997950}, "plan from the first start");
+    plan.start = ROSKAVEL_START_BOUND;
+    check_given(&plan, (int64_t[]){1007880, 1007970}, "plan from the last start");
+    plan.run_length = plan.begins_length = 0;
+    check_given(&plan, begins, "plan without a step");
+}
+
+/* Rule 1 is longer than process 0 is ever open. */
+static void test_never_open(void)
+{
+    order plan = sound;
+    plan.lengths[1] = 241;
+    check_refused(&plan, ROSKAVEL_NEVER_OPEN, 1, "plan with a step too long");
+    plan.run[1] = 2;
+    plan.run[2] = 1;
+    check_refused(&plan, ROSKAVEL_NEVER_OPEN, 2, "plan with a last step too long");
+    plan.week.processes[1].count = 0;
+    check_refused(&plan, ROSKAVEL_NEVER_OPEN, 0, "plan with a process that is never open");
+    plan.run[0] = 3;
+    check_refused(&plan, ROSKAVEL_BAD_HOURS, 0, "plan with bad hours and a step too long");
+}
+
+/* A plan that is sound but for one figure. */
+static void test_bad_hours(void)
+{
+    const roskavel_window bad[] = {{480, 480}, {481, 480}, {0, ROSKAVEL_WEEK_MINUTES + 1}};
+    order plan = sound;
+    for (size_t number = 0; number < sizeof bad / sizeof bad[0]; number++) {
+        plan.week.processes[1].windows[2] = bad[number];
+        check_refused(&plan, ROSKAVEL_BAD_HOURS, 0, "plan with a bad window");
+    }
+    plan = sound;
+    plan.week.processes[0].count = ROSKAVEL_WINDOWS + 1;
+    check_refused(&plan, ROSKAVEL_BAD_HOURS, 0, "plan with too many windows");
+    plan = sound;
+    plan.lengths[2] = 0;
+    check_refused(&plan, ROSKAVEL_BAD_HOURS, 0, "plan with a rule of no minute");
+    plan.lengths[2] = ROSKAVEL_LONGEST_STEP + 1;
+    check_refused(&plan, ROSKAVEL_BAD_HOURS, 0, "plan with a rule of too many minutes");
+    plan = sound;
+    plan.lengths_length = 2;
+    check_refused(&plan, ROSKAVEL_BAD_HOURS, 0, "plan with a rule without a length");
+    plan = sound;
+    plan.start = ROSKAVEL_START_BOUND + 1;
+    check_refused(&plan, ROSKAVEL_BAD_HOURS, 0, "plan from a start too late");
+    plan.start = -ROSKAVEL_START_BOUND - 1;
+    check_refused(&plan, ROSKAVEL_BAD_HOURS, 0, "plan from a start too early");
+    plan = sound;
+    plan.run[2] = 3;
+    check_refused(&plan, ROSKAVEL_BAD_HOURS, 0, "plan with a rule that the table lacks");
+    plan = sound;
+    plan.begins_length = 2;
+    check_refused(&plan, ROSKAVEL_BAD_HOURS, 0, "plan in a list shorter than the run");
+}
+
+/* The table is judged first. */
+static void test_plans_without_table(void)
+{
+    const order none = {.start = INT64_MAX};
+    for (size_t length = 0; length < TABLE; length += TABLE - 1) {
+        make_dirty();
+        const roskavel_planned planned =
+            roskavel_plan(table, length, none.run, 3, none.week, none.lengths, 0, none.start,
+                          begins, 0);
+        check(planned.number == ROSKAVEL_CUT && planned.place == length, "plan on a cut table");
+        check_all(begins, sizeof begins, DIRT, "list of a plan on a cut table");
+    }
 }
 
 /* The desk shows these states of two processes and this pile, then zeros. */
@@ -379,6 +527,11 @@ int main(int count, char **arguments)
     test_run();
     test_walk();
     test_empty();
+    test_layout();
+    test_plans();
+    test_never_open();
+    test_bad_hours();
+    test_plans_without_table();
     test_openings();
     test_fires();
     test_names();

@@ -40,7 +40,7 @@ pub enum Firing {
 }
 
 // The processes of the letter of rule k, as bits.
-fn rule_bits(table: &[u8], t: Table, k: usize) -> u8
+pub fn rule_bits(table: &[u8], t: Table, k: usize) -> u8
     requires { ⌜ Holds (now table) t × (k < t .rules) ⌝ }
     ensures { λ r. ⌜ BitsOf (systemIn (now (table .entry)) .loc (ruleIn (now (table .entry)) k .letter)) r ⌝ }
 {

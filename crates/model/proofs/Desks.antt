@@ -6,15 +6,16 @@ use mathlib.Core.List.{List, [], _∷_, _++_, map}
 use Prim.Native.Nat.{ℕ, zero, suc, _+_, _<_, _≤_, min}
 use native.Mathlib.Omega.{arith}
 use lib.Dec.{eqb, leb}
-use lib.ListN.{length, getD, getElem?, set, length-map, length-set, replicate}
+use lib.ListN.{length, getD, getElem?, set, length-map, length-set}
 use lib.Seq.{getD-set-same, getD-set-other}
 use borrow.Author.Tests.{eqb-true, eqb-false, le-ltb, ltb-false, leb-false, lt-leb}
 use Rattle.model.specs.Calls.{Halt, filled, haltAt, haltEnd, scratchAfter, stepBy, stepTo, walkCall, walkCounts, walkFrom, walkGiven, walkScratch, zeros}
-use Rattle.model.specs.Desks.{Call, fires, saves, returns, forgets, Contents, Histories, Leads, Noted, HistoriesLead, after, checks, countCeiling, countsAfter, deskCall, deskCalls, deskPile, firstStop, isHigh, isMissing, movedTo, nameCount, named, note, noteCall, noteCalls, opened, outcome, renamed, tells, uncounted, unwritten}
-use Rattle.model.specs.Lists.{valueOr}
+use Rattle.model.specs.Desks.{Call, fires, saves, returns, forgets, Contents, Histories, Leads, Noted, HistoriesLead, after, checks, countCeiling, countsAfter, deskCall, deskCalls, deskPile, firstStop, isHigh, movedTo, nameCount, named, note, noteCall, noteCalls, opened, outcome, renamed, tells, uncounted, unwritten}
+use Rattle.model.specs.Lists.{isMissing, valueOr}
 use Rattle.model.specs.Participation.{ruleProcesses, stepCounts, withStep}
 use Rattle.model.specs.Systems.{System, Rule, Configuration, fire, walk}
 use Rattle.model.specs.Tables.{Item, Reading, accepted, bodies, byteOf, read, systemOf}
+use Rattle.model.proofs.Lists.{all-alike}
 use Rattle.model.proofs.CheckedItems.{read-complete, count-ceiling}
 use Rattle.model.proofs.Participation.{counts-snoc}
 use Rattle.model.proofs.Steps.{WalkStep, walk-inv, walk-cons}
@@ -170,11 +171,6 @@ module _ (sys : System) where
   calls-keep (c ∷ cs) h s k = calls-keep cs (note (deskCall sys s c .told) h c) (deskCall sys s c .contents) (call-keeps h s k c)
 
   -- ---- opened
-  all-alike : {A : Type 0} (n a : ℕ) (x : A) → getD (replicate n x) a x ≡ x
-  all-alike zero a x = refl
-  all-alike (suc n) zero x = refl
-  all-alike (suc n) (suc a) x = all-alike n a x
-
   opened-kept : Kept unwritten (opened sys)
   opened-kept = record {
     stands = record { here = record { run = refl; steps = refl }; names = λ a. rw (all-alike {A = Option (List ℕ)} nameCount a none, all-alike {A = Option Configuration} nameCount a none) tt; counts = refl };

@@ -37,6 +37,10 @@ pub mod Prefixes
 pub mod Demands
 pub mod DeskChecks
 pub mod Desks
+pub mod Weeks
+pub mod MinuteOrder
+pub mod FirstMinutes
+pub mod Plans
 pub mod Meanings
 pub mod Theorems
 pub mod LogDemand

@@ -8,7 +8,7 @@ use Prim.Native.Nat.{_+_, _<_, _≤_, suc, zero, ℕ}
 use native.Mathlib.Omega.{arith}
 use native.Mathlib.Nat.{not-suc-le-zero}
 use lib.Dec.{eqb}
-use lib.ListN.{drop, drop-of-length-le, getD, getElem?, length}
+use lib.ListN.{drop, drop-of-length-le, getD, getElem?, length, replicate}
 use lib.Seq.{drop-cons}
 use borrow.Author.Tests.{eqb-false, eqb-true, ne-eqb}
 use Rattle.model.specs.Groups.{at}
@@ -19,6 +19,16 @@ use Rattle.model.proofs.Tests.{and-left, and-right, by-test}
 pub andThen-inv : {A B : Type 0} (o : Option A) (f : A → Option B) (b : B) → andThen o f ≡ some b → (a : A) × (o ≡ some a) × (f a ≡ some b)
 andThen-inv none f b e = absurd (let z : _≡_ {A = ℕ} 0 1 = cc in omega arith)
 andThen-inv (some a) f b e = (a, refl, e)
+
+pub all-alike : {A : Type 0} (n k : ℕ) (x : A) → getD (replicate n x) k x ≡ x
+all-alike zero k x = refl
+all-alike (suc n) zero x = refl
+all-alike (suc n) (suc k) x = all-alike n k x
+
+pub elem-some : {A : Type 0} (l : List A) (k : ℕ) (d : A) → k < length l → getElem? l k ≡ some (getD l k d)
+elem-some [] k d h = absurd (not-suc-le-zero h)
+elem-some (x ∷ l) zero d h = refl
+elem-some (x ∷ l) (suc k) d h = elem-some l k d (omega arith)
 
 -- ---- candidates
 pub getElem-at : {A : Type 0} (pre : List A) (x : A) (xs : List A) (n : ℕ) → length pre ≡ n → getElem? (pre ++ x ∷ xs) n ≡ some x

@@ -5,14 +5,17 @@ use mathlib.Core.Logic.{_↔_}
 use mathlib.Core.Option.{some}
 use mathlib.Core.List.{List, []}
 use Prim.Native.Nat.{_<_, _≤_, ℕ}
+use lib.IntN.{ℤ}
 use lib.ListN.{getD}
 use Rattle.model.specs.declared.Group.{Group}
+use Rattle.model.specs.declared.Window.{Window}
 use Rattle.model.specs.Automata.{Transition}
 use Rattle.model.specs.Calls.{answerCall, answerRefusal, changesNothing, runCall, runRefusal, walkCall, walkFigures, walkRefusal, zeros}
 use Rattle.model.specs.Copies.{mixed, reenters}
 use Rattle.model.specs.Demands.{Demand2Walk, Demand3, LogHolds, Tells, TookPart, Writes}
 use Rattle.model.specs.Desks.{Call, Leads, HistoriesLead, deskCalls, noteCalls, opened, unwritten}
 use Rattle.model.specs.Groups.{Process, Processes, Within, at, has}
+use Rattle.model.specs.Hours.{PlanMeans, PlannedStep, fits, neverFits, planCall, plannedPlace, plannedRefusal}
 use Rattle.model.specs.Systems.{Accepted, Accepting, Configuration, InAutomaton, PeakIs, System, peak, walk}
 use Rattle.model.specs.Tables.{Item, accepted, bodies, present, read, saturatedOf, systemOf}
 use Rattle.model.specs.Words.{project}
@@ -27,7 +30,9 @@ use Rattle.model.proofs.Desks.{desk-walks}
 use Rattle.model.proofs.LogDemand.{answer-log, run-log}
 use Rattle.model.proofs.Meanings.{answer-tells, run-writes}
 use Rattle.model.proofs.Peak.{peak-is}
+use Rattle.model.proofs.Plans.{plan-means}
 use Rattle.model.proofs.WalkDemand.{walk-counts, walk-demand}
+use Rattle.model.proofs.Weeks.{never-true, never-where-none}
 
 -- ---- demand 1: what a call gives and leaves is its definition in Calls, whole. Of its buffers: refusals 1 to 9 and 15 change none; later the scratch is
 -- left zero.
@@ -108,3 +113,14 @@ accepts-as-plain table items e y M g w low = rw y (mixed-accepts (systemOf items
 -- where no transition of the table enters a control state, the automaton that is saturated is its own
 pub no-copy : (items : List Item) → reenters (systemOf items) ≡ false → saturatedOf items ≡ systemOf items
 no-copy items = own-automaton (systemOf items)
+
+-- ---- request 2.7: each step of a plan that is given begins at its first minute, and a plan that the table and check 19 let through is refused, by 20, exactly where
+-- a step fits no minute of any week
+pub plan-holds : (table run : List ℕ) (hours : List (List Window)) (counts lengths : List ℕ) (start : ℤ) (begins : List ℤ)
+    → let o = planCall table run hours counts lengths start begins in
+    PlanMeans table run hours counts lengths start (plannedRefusal (o .answer)) (plannedPlace (o .answer)) (o .begins)
+plan-holds = plan-means
+
+-- of one step, for every minute of the integers
+pub never-exact : (week : Process → List Window) (s : PlannedStep) → (neverFits week s ≡ true) ↔ ((t : ℤ) → fits week s t ≡ false)
+never-exact week s = (never-true week s, never-where-none week s)

@@ -8,7 +8,7 @@ use Prim.Native.Nat.{ℕ, zero, suc, _≤_, min}
 use lib.Dec.{ltb, leb}
 use lib.ListN.{length, getD, getElem?, set, replicate}
 use Rattle.model.specs.declared.Told.{Told}
-use Rattle.model.specs.Lists.{valueOr}
+use Rattle.model.specs.Lists.{isMissing, valueOr}
 use Rattle.model.specs.Groups.{atEach, processBits}
 use Rattle.model.specs.Systems.{System, Configuration, walk}
 use Rattle.model.specs.Participation.{ruleProcesses, stepCounts, withStep}
@@ -84,10 +84,6 @@ named s a = getD (s .names) a none
 pub record Check : Type 0 where
   pub number : ℕ
   pub stops : Bool
-
-abbrev pub isMissing : {A : Type 0} → Option A → Bool
-isMissing none = true
-isMissing (some x) = false
 
 abbrev pub isHigh : Configuration → Bool
 isHigh c = ltb deskPile (length (c .word))

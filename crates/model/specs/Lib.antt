@@ -17,4 +17,6 @@ pub mod Participation
 pub mod Calls
 pub mod Demands
 pub mod Desks
+pub mod Hours
 pub mod SmallTables
+pub mod SmallPlans

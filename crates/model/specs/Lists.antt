@@ -45,3 +45,8 @@ andThen (some a) f = f a
 abbrev pub valueOr : {A B : Type 0} → B → (A → B) → Option A → B
 valueOr d f none = d
 valueOr d f (some a) = f a
+
+-- there is no value
+abbrev pub isMissing : {A : Type 0} → Option A → Bool
+isMissing none = true
+isMissing (some a) = false

@@ -1,7 +1,10 @@
-// The types that the definitions of specs/ and the crates above share, and the one constant. There is no code here.
+// The types that the definitions of specs/ and the crates above share, and two constants. There is no code here.
 
 // The places of a rule's written letters, and of a record's path.
 pub const WRITTEN_PLACES: usize = 6;
+
+// The places for the windows of a process.
+pub const WINDOW_PLACES: usize = 14;
 
 // Document 01: a state group. One local state for each of the four processes, 255 where a process has no part.
 #[repr(C)]
@@ -66,5 +69,18 @@ pub enum Walked {
 pub enum Told {
     Done,
     Fired { processes: u8 },
+    Refused { number: u8, place: usize },
+}
+
+// Request 2.7: a window of minutes in the week. The closing minute is not included.
+#[repr(C)]
+pub struct Window {
+    pub opens: u16,
+    pub closes: u16,
+}
+
+// What the plan call gives: the plan is laid, or a refusal.
+pub enum Planned {
+    Given,
     Refused { number: u8, place: usize },
 }

@@ -5,19 +5,19 @@ use mathlib.Core.List.{List, [], _∷_}
 use Prim.Native.Nat.{ℕ, zero, suc, _+_, _<_, _≤_}
 use native.Mathlib.Nat.{not-suc-le-zero}
 use native.Mathlib.Omega.{arith}
-use lib.ListN.{length, getD, getElem?, drop}
+use lib.ListN.{length, getElem?, drop}
 use borrow.Author.Tests.{lt-ltb, le-ltb}
 use Rattle.model.specs.Calls.{Halt, stepBy, stepTo, walkFrom}
-use Rattle.model.specs.Groups.{processBits, processesOf}
-use Rattle.model.specs.Lists.{Each, valueOr}
-use Rattle.model.specs.Participation.{ruleProcesses}
-use Rattle.model.specs.Systems.{System, Rule, Configuration, fire, fired}
+use Rattle.model.specs.Groups.{processBits}
+use Rattle.model.specs.Lists.{Each}
+use Rattle.model.specs.Systems.{System, Configuration, fire, fired}
 use Rattle.model.specs.Tables.{ruleOf}
+use Rattle.model.proofs.Lists.{elem-some}
 use Rattle.model.proofs.Steps.{fire-inv}
 use Rattle.automaton.specs.StateNumbers.{Over}
 use Rattle.table.specs.declared.Table.{Table}
 use Rattle.table.specs.Reading.{Holds, systemIn, ruleIn}
-use Rattle.table.proofs.Layouts.{rules-count}
+use Rattle.table.proofs.Layouts.{rule-processes, rules-count}
 use Rattle.shapes.specs.Shapes.{presentIn}
 use Rattle.shapes.proofs.Shapes.{fired-over, fired-lettered}
 use Rattle.firing.specs.declared.Fired.{Fired}
@@ -32,11 +32,6 @@ elem-none : {A : Type 0} (l : List A) (k : ℕ) → length l ≤ k → getElem? 
 elem-none [] k h = refl
 elem-none (x ∷ l) zero h = absurd (not-suc-le-zero h)
 elem-none (x ∷ l) (suc k) h = elem-none l k (omega arith)
-
-elem-some : {A : Type 0} (l : List A) (k : ℕ) (d : A) → k < length l → getElem? l k ≡ some (getD l k d)
-elem-some [] k d h = absurd (not-suc-le-zero h)
-elem-some (x ∷ l) zero d h = refl
-elem-some (x ∷ l) (suc k) d h = elem-some l k d (omega arith)
 
 -- ---- one step
 module _ (table : List ℕ) (t : Table) (h : Holds table t) (n : ℕ) (pile : List ℕ) (c : Placed) where
@@ -60,10 +55,6 @@ module _ (table : List ℕ) (t : Table) (h : Holds table t) (n : ℕ) (pile : Li
   }
 
   module _ (l : n < t .rules) where
-    -- the processes that take part
-    rule-is : ruleProcesses (systemIn table) n ≡ systemIn table .loc (ruleIn table n .letter)
-    rule-is = ap (valueOr (processesOf 0) (λ (r : Rule). systemIn table .loc (r .letter))) (elem-some (sys .rules) n (ruleOf []) (omega (arith, rules-count table t h)))
-
     -- the rule that the number names, and what it comes to
     by-rule : (step : ℕ) (ns : List ℕ) (o : Option Configuration) → fire (systemIn table .loc) (ruleIn table n) (configuration pile c) ≡ o
         → walkFrom (systemIn table) (length pile) step (n ∷ ns) (configuration pile c) ≡ stepTo (λ d. walkFrom (systemIn table) (length pile) (step + 1) ns d) (length pile) step (n ∷ ns) (configuration pile c) o
@@ -105,5 +96,5 @@ module _ (table : List ℕ) (t : Table) (h : Holds table t) (n : ℕ) (pile : Li
           };
           size = x .size;
           onward = λ step ns. by-rule step ns (some (configuration pile′ (f .placed))) (x .gives) ∙ rw (le-ltb (length pile) (length (drop (f .placed .top) pile′)) (x .fits)) refl;
-          tells = x .tells ∙ ap processBits (sym rule-is);
+          tells = x .tells ∙ ap processBits (sym (rule-processes table t h n l));
         }

@@ -9,9 +9,12 @@ use native.Mathlib.Omega.{arith}
 use lib.Dec.{ltb, leb}
 use lib.ListN.{length, getD, take, drop, length-map, length-take, length-drop, List·getD-map}
 use borrow.Author.Tests.{ltb-true, leb-true}
+use Rattle.model.proofs.Lists.{elem-some}
 use Rattle.model.proofs.Tests.{and-left, and-right}
 use Rattle.model.specs.Automata.{Transition}
-use Rattle.model.specs.Groups.{Processes, processesOf}
+use Rattle.model.specs.Groups.{processesOf}
+use Rattle.model.specs.Lists.{valueOr}
+use Rattle.model.specs.Participation.{ruleProcesses}
 use Rattle.model.specs.Systems.{Rule}
 use Rattle.model.specs.Tables.{locOf, controlsOf, statesOf, writtenPlaces, bodyLength, bodies, byteOf, groupOf, numberOf, absent, ruleOf, transitionOf, valueFits, systemOf, longest}
 use Rattle.table.specs.Places.{boundIn, bodyAt, bodiesAt, offset, placeOf, bodyOf, counts, processesIn, lettersIn, Modest, Heads}
@@ -48,7 +51,7 @@ pub places : (t : Table) → (3 * t .processes + 2 * t .letters ≡ offset (coun
 unfolding offset
 places t = omega arith
 
-number-at : (i : ℕ) → i < 4 → numberOf (processAt i) ≡ i
+pub number-at : (i : ℕ) → i < 4 → numberOf (processAt i) ≡ i
 number-at i h = up-to-4 (λ n. n < 4 → numberOf (processAt n) ≡ n) (λ _. refl) (λ _. refl) (λ _. refl) (λ _. refl) (λ l. absurd (omega arith)) i (omega arith) h
 
 module _ (bytes : List ℕ) (t : Table) (h : Holds bytes t) where
@@ -132,6 +135,11 @@ module _ (bytes : List ℕ) (t : Table) (h : Holds bytes t) where
   pub rule-in : (k : ℕ) → k < t .rules → ruleIn bytes k ≡ ruleOf (bodyOf bytes (counts t 1) 3 k)
   unfolding systemIn systemOf
   rule-in k l = List·getD-map ruleOf (bodies 3 (itemsIn bytes)) k [] ∙ ap ruleOf (body-in 3 k [] (omega arith) l)
+
+  -- the processes of a rule's letter
+  pub rule-processes : (k : ℕ) → k < t .rules → ruleProcesses (systemIn bytes) k ≡ systemIn bytes .loc (ruleIn bytes k .letter)
+  rule-processes k l =
+      ap (valueOr (processesOf 0) (λ (r : Rule). systemIn bytes .loc (r .letter))) (elem-some (systemIn bytes .rules) k (ruleOf []) (omega (arith, rules-count)))
 
   -- ---- transitions, accepting groups, start
   pub transitions-count : length (systemIn bytes .transitions) ≡ t .transitions

@@ -7,10 +7,12 @@
 //! - `walk`: the walk call of both engines over a high pile, its median time.
 //! - `line PROGRAM TABLE..`: the program `line` on tables from files, its instructions.
 //! - `desk`: the calls at a desk of the proved engine, their time and their instructions.
+//! - `plan`: the plan call of both engines, its time, and the instructions of the proved one.
 
 mod desk;
 mod line;
 mod measure;
+mod plan;
 
 use measure::{
     ANSWER, Bench, Both, CALLS, COUNT, LENT, RUN, be_counted, instructions_of_both, median_of,
@@ -34,10 +36,12 @@ fn main() -> ExitCode {
         ["walk"] => print_walks(),
         ["line", program, ref tables @ ..] => line::print_tables(program, tables),
         ["desk"] => desk::print_calls(),
+        ["plan"] => plan::print_calls(),
         [COUNT, desk::NAME, ref numbers @ ..] => desk::be_counted(numbers),
+        [COUNT, plan::NAME, ref numbers @ ..] => plan::be_counted(numbers),
         [COUNT, call, ref numbers @ ..] => be_counted(call, numbers),
         _ => {
-            eprintln!("usage: benchmarks [run | answer | growth | walk | desk]");
+            eprintln!("usage: benchmarks [run | answer | growth | walk | desk | plan]");
             eprintln!("       benchmarks line PROGRAM TABLE..");
             return ExitCode::from(2);
         }

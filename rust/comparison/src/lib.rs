@@ -39,6 +39,27 @@ struct Findings {
     differences: Vec<Difference>,
 }
 
+/// How many comparisons passed, and how many failed.
+pub struct Tally {
+    pub passed: usize,
+    pub failed: usize,
+}
+
+impl Tally {
+    pub fn and(self, other: Tally) -> Tally {
+        Tally {
+            passed: self.passed + other.passed,
+            failed: self.failed + other.failed,
+        }
+    }
+
+    /// Prints the last line; true if none failed.
+    pub fn print(&self) -> bool {
+        println!("{} passed, {} failed", self.passed, self.failed);
+        self.failed == 0
+    }
+}
+
 /// A comparison by a program: its name, its seed, and the situations that it is for.
 pub struct Program {
     pub name: &'static str,
@@ -53,14 +74,23 @@ impl Program {
     where
         C: FnMut(&Case, &mut Counts) -> io::Result<Option<String>>,
     {
+        Ok(self.tally(cases, comparer)?.print())
+    }
+
+    /// The same without the last line, for a program that compares more than cases.
+    pub fn tally<C>(&self, cases: &Cases, comparer: impl Fn() -> C + Sync) -> io::Result<Tally>
+    where
+        C: FnMut(&Case, &mut Counts) -> io::Result<Option<String>>,
+    {
         println!("seed {}", self.seed);
         let findings = compare(cases, comparer)?;
         self.report(&findings.differences)?;
         let missing = findings.counts.demand(&self.situations);
         let differing = findings.differences.len();
-        let failed = differing + missing;
-        println!("{} passed, {failed} failed", cases.count() - differing);
-        Ok(failed == 0)
+        Ok(Tally {
+            passed: cases.count() - differing,
+            failed: differing + missing,
+        })
     }
 
     /// Prints the first differences, and writes each with its table to files.

@@ -1,6 +1,7 @@
 //! Small tables, accepted and refused, and the calls that are made of them.
 
 use crate::equations::Equation;
+use crate::plans::{self, Order, coded};
 use crate::sequences::{self, Counts, DeskCall, wide_counts};
 use second_engine::{
     Answer, RECORD_BYTES, Refusal, Run, WALK_SCRATCH, Walk, answer, run, scratch_needed, walk,
@@ -41,6 +42,7 @@ pub enum Call {
         counts: Counts,
         calls: Vec<DeskCall>,
     },
+    Plan(Order),
 }
 
 pub struct Case {
@@ -49,7 +51,7 @@ pub struct Case {
 }
 
 /// The small tables of documents 01 and 02, random ones and damaged ones, each with one of the
-/// calls; then the chosen runs, a log that is too short, walks and desks.
+/// calls; then the chosen runs, a log that is too short, walks and desks; then plans.
 pub fn all(seed: u64) -> Vec<Case> {
     let mut rng = Rng::new(seed);
     let calls = small_tables(&mut rng).into_iter().enumerate();
@@ -63,6 +65,7 @@ pub fn all(seed: u64) -> Vec<Case> {
     cases.push(short_log());
     cases.extend(chosen_walks());
     cases.extend(chosen_desks());
+    cases.extend(plans(&mut rng));
     cases
 }
 
@@ -148,6 +151,14 @@ fn chosen_desks() -> impl Iterator<Item = Case> {
     desks.into_iter().map(|(table, counts, calls)| Case {
         table: table.bytes(),
         call: Call::Desk { counts, calls },
+    })
+}
+
+fn plans(rng: &mut Rng) -> impl Iterator<Item = Case> {
+    let orders = plans::all(rng).into_iter();
+    orders.map(|(table, order)| Case {
+        table,
+        call: Call::Plan(order),
     })
 }
 
@@ -287,6 +298,13 @@ impl Case {
                 let left = format!("(trace (read {table}) {before} {made})");
                 Equation::new(left, sequences::trace(&self.table, *counts, calls))
             }
+            Call::Plan(order) => {
+                let mut begins = vec![i64::from(DIRT); order.places];
+                let left = format!("(planned {table} {})", order.text());
+                let figures = plan_figures(order.lay(&self.table, &mut begins));
+                let begins = begins.into_iter().map(coded).collect();
+                Equation::new(left, vec![figures, begins])
+            }
         }
     }
 }
@@ -339,6 +357,13 @@ fn walk_figures(walk: Walk) -> (Vec<u64>, Vec<u64>, usize) {
         } => (refused(refusal, 8), counts, rest),
     };
     (figures, wide_counts(counts).to_vec(), rest)
+}
+
+fn plan_figures(plan: Result<(), Refusal>) -> Vec<u64> {
+    match plan {
+        Ok(()) => vec![0; 2],
+        Err(refusal) => refused(refusal, 2),
+    }
 }
 
 /// A refusal's figures: its number, its place, and zeros.

@@ -1,12 +1,16 @@
 //! Equations between what the definitions give and lists of numbers, as text for the checker.
 
+use std::fmt::Display;
+
 /// What stands before the equations: the calls' outcomes as lists of numbers.
 const HEAD: &str = "\
 -- What the definitions give for small tables, beside what the second engine gives.
 use mathlib.Core.Path.{_≡_, refl}
-use mathlib.Core.List.{List, [], _∷_}
-use Prim.Native.Nat.{ℕ}
+use mathlib.Core.List.{List, [], _∷_, map}
+use Prim.Native.Nat.{ℕ, suc, _+_}
+use lib.IntN.{ℤ, pos, negsuc}
 use lib.ListN.{take}
+use Rattle.model.specs.declared.Window.{Window}
 use Rattle.model.specs.Groups.{greatest, sameGroup, processBits, restrict, merge}
 use Rattle.model.specs.Words.{tops}
 use Rattle.model.specs.Systems.{enabled, fire}
@@ -18,7 +22,9 @@ use Rattle.model.specs.Records.{recordBytes}
 use Rattle.model.specs.Participation.{withStep}
 use Rattle.model.specs.Calls.{recordsOf, runOf, scratchAfter, logAfter, pageAfter, answerGiven, answerCall, runCall, walkCall, answerFigures, runGiven, runFigures, walkCounts, walkGiven, walkFigures}
 use Rattle.model.specs.Desks.{fires, saves, returns, forgets, checks, deskCall}
+use Rattle.model.specs.Hours.{beginOf, beginsFrom, boundOf, delay, endedAt, firstFrom, firstNever, fits, hoursFit, lengthsFit, neverFits, planBegins, planCall, planFits, planGiven, plannedPlace, plannedRefusal, runFits, startFits}
 use Rattle.model.specs.SmallTables.{trace, used}
+use Rattle.model.specs.SmallPlans.{from-to}
 
 abbrev answered : List ℕ → ℕ → ℕ → List (List ℕ)
 answered table log scratch =
@@ -31,10 +37,20 @@ ran table log scratch page =
 abbrev walked : List ℕ → List ℕ → ℕ → ℕ → List (List ℕ)
 walked table list pile scratch =
     let o = walkCall table list (used pile) (used scratch) in walkFigures (o .answer) ∷ o .counts ∷ o .rest ∷ o .pile ∷ take 3 (o .scratch) ∷ []
+
+-- a minute as a natural number
+abbrev coded : ℤ → ℕ
+coded (pos n) = n + n
+coded (negsuc n) = suc (n + n)
+
+abbrev planned : List ℕ → List ℕ → List (List Window) → List ℕ → List ℕ → ℤ → ℕ → List (List ℕ)
+planned table run hours counts lengths start places =
+    let o = planCall table run hours counts lengths start (map pos (used places)) in
+    (plannedRefusal (o .answer) ∷ plannedPlace (o .answer) ∷ []) ∷ map coded (o .begins) ∷ []
 ";
 
 /// The definitions that an equation may unfold.
-const UNFOLDING: &str = "unfolding greatest sameGroup processBits restrict merge tops enabled fire leavesControl reenters copies subsets mixed mixtures copied isOutOfTurn groupFits transitionFits writtenFit valueFits cooperates isNarrow isReentry isTwin refusal readFrom read systemOf readsAt keyLess sameKey additions logAt firstSaturated saturatedAt acceptingPath emittedBy recordBytes recordsOf runOf scratchAfter logAfter pageAfter answerGiven answerCall runGiven runCall walkCounts walkGiven withStep walkCall checks deskCall";
+const UNFOLDING: &str = "unfolding greatest sameGroup processBits restrict merge tops enabled fire leavesControl reenters copies subsets mixed mixtures copied isOutOfTurn groupFits transitionFits writtenFit valueFits cooperates isNarrow isReentry isTwin refusal readFrom read systemOf readsAt keyLess sameKey additions logAt firstSaturated saturatedAt acceptingPath emittedBy recordBytes recordsOf runOf scratchAfter logAfter pageAfter answerGiven answerCall runGiven runCall walkCounts walkGiven withStep walkCall checks deskCall fits firstFrom delay boundOf endedAt beginOf beginsFrom neverFits firstNever hoursFit lengthsFit startFits runFits planFits planGiven planBegins planCall";
 
 /// A call's outcome by the definitions, and the lists that it shall be.
 pub struct Equation {
@@ -66,11 +82,8 @@ pub fn module(equations: &[Equation]) -> String {
     text
 }
 
-/// A list of numbers, in brackets.
-pub fn list(numbers: &[u64]) -> String {
-    let items: String = numbers
-        .iter()
-        .map(|number| format!("{number} ∷ "))
-        .collect();
+/// A list of numbers or of other texts, in brackets.
+pub fn list<T: Display>(items: &[T]) -> String {
+    let items: String = items.iter().map(|item| format!("{item} ∷ ")).collect();
     format!("({items}[])")
 }

@@ -4,6 +4,7 @@
 
 mod cases;
 mod equations;
+mod plans;
 mod sequences;
 
 use cases::Case;

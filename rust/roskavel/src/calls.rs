@@ -5,7 +5,7 @@
 //! It reads and writes within the slices, the figures and the desk alone, keeps no pointer and
 //! has no state.
 
-use crate::{Refusal, Sight};
+use crate::{Refusal, Sight, Week};
 
 /// What a call gives, by places; a place that the call or its outcome does not name is 0.
 pub type Figures = [u64; 16];
@@ -54,6 +54,13 @@ struct Counts {
     steps: [u64; 4],
 }
 
+/// What planning gives: the number of the refusal and its place, or 0 and 0.
+#[repr(C)]
+struct Planned {
+    number: u8,
+    place: usize,
+}
+
 unsafe extern "C" {
     fn roskavel_answer(
         table: *const u8,
@@ -86,6 +93,18 @@ unsafe extern "C" {
         scratch_length: usize,
         figures: *mut Figures,
     );
+    fn roskavel_plan(
+        table: *const u8,
+        table_length: usize,
+        run: *const u16,
+        run_length: usize,
+        week: Week,
+        lengths: *const u16,
+        lengths_length: usize,
+        start: i64,
+        begins: *mut i64,
+        begins_length: usize,
+    ) -> Planned;
     fn roskavel_desk_open(table: *const u8, table_length: usize) -> Opening;
     fn roskavel_desk_fire(desk: *mut RawDesk, rule: u16) -> Fire;
     fn roskavel_desk_save(desk: *mut RawDesk, name: u8) -> u8;
@@ -157,6 +176,33 @@ pub fn walk(
             figures,
         );
     }
+}
+
+/// What [`crate::plan`] does.
+pub fn plan(
+    table: &[u8],
+    run: &[u16],
+    week: &Week,
+    lengths: &[u16],
+    start: i64,
+    begins: &mut [i64],
+) -> Result<(), Refusal> {
+    // SAFETY: as for answer; only the list of begins is written.
+    let planned = unsafe {
+        roskavel_plan(
+            table.as_ptr(),
+            table.len(),
+            run.as_ptr(),
+            run.len(),
+            *week,
+            lengths.as_ptr(),
+            lengths.len(),
+            start,
+            begins.as_mut_ptr(),
+            begins.len(),
+        )
+    };
+    Refusal::check(usize::from(planned.number), planned.place)
 }
 
 pub fn open(table: &[u8]) -> Result<RawDesk, Refusal> {

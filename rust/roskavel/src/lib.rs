@@ -2,13 +2,14 @@
 //!
 //! A table is a string of bytes. It lists processes, letters, rules, an automaton for the set of
 //! configurations to watch, and a start. [`answer`] says whether some run leads from the start
-//! into the watched set, [`run`] gives such a run, and [`walk`] follows a list of rules. At a
-//! [`Desk`] rules are fired one by one, with configurations saved under names to return to.
+//! into the watched set, [`run`] gives such a run, and [`walk`] follows a list of rules. [`plan`]
+//! lays one on the week, by the opening hours of the processes. At a [`Desk`] rules are fired one
+//! by one, with configurations saved under names to return to.
 //!
-//! The three calls work in buffers that the caller lends, of any length and with anything in
-//! them; nothing allocates. What does not serve is refused, with a cause and a place. Refusals
-//! by the table (causes 1 to 9) or by [`Cause::ShortScratch`] change no buffer; every other
-//! return leaves the scratch zero.
+//! The four calls work in buffers that the caller lends, of any length and with anything in them;
+//! nothing allocates. What does not serve is refused, with a cause and a place. Refusals by the
+//! table (causes 1 to 9) or by [`Cause::ShortScratch`] change no buffer; every other return of the
+//! first three calls leaves the scratch zero. A refused plan changes nothing.
 //!
 //! # Example
 //!
@@ -50,16 +51,18 @@
 
 mod calls;
 mod desk;
+mod plan;
 
 pub use desk::{COUNT_CEILING, DESK_PILE, Desk, NAMES, Sight};
+pub use plan::{LONGEST_STEP, START_BOUND, WEEK_MINUTES, WINDOWS, Week, plan};
 
 use calls::Figures;
 use std::error::Error;
 use std::fmt::{self, Display, Formatter};
 
-/// The three calls with figures as C has them: `include/roskavel.h` says what stands at each place,
-/// and [`Answer::of`], [`Run::of`] and [`Walk::of`] tell it. What the figures are before a call is
-/// of no account.
+/// The calls that give figures, with these as C has them: `include/roskavel.h` says what stands at
+/// each place, and [`Answer::of`], [`Run::of`] and [`Walk::of`] tell it. What the figures are
+/// before a call is of no account.
 pub mod figures {
     pub use crate::calls::{Figures, answer, run, walk};
 }
@@ -70,7 +73,8 @@ pub const WRITTEN_PLACES: usize = 6;
 pub const RECORD_BYTES: usize = 16 + 2 * WRITTEN_PLACES;
 /// The most records that a log is used for.
 pub const RECORD_CEILING: usize = 65_535;
-/// The most steps of a run that is written; a count above it is given as one more than it.
+/// The most steps of a run that is written or planned; a count above it is given as one more than
+/// it.
 pub const STEP_CEILING: usize = 1_000_000;
 /// The scratch that answer and run need beside an empty log, and for each record that a log has room
 /// for.
@@ -140,11 +144,15 @@ pub enum Cause {
     EmptyName = 17,
     /// The name is not below [`NAMES`]; 0.
     BadName = 18,
+    /// A figure of a [`plan`] is outside its bounds; 0.
+    BadHours = 19,
+    /// A step of a plan fits no minute of any week; the first such step.
+    NeverOpen = 20,
 }
 
 impl Cause {
     /// All causes by number, from 1.
-    pub const ALL: [Cause; 18] = [
+    pub const ALL: [Cause; 20] = [
         Cause::Cut,
         Cause::Stranger,
         Cause::Turn,
@@ -163,9 +171,11 @@ impl Cause {
         Cause::NoRun,
         Cause::EmptyName,
         Cause::BadName,
+        Cause::BadHours,
+        Cause::NeverOpen,
     ];
 
-    /// The number of the cause, from 1 to 18.
+    /// The number of the cause, from 1 to 20.
     pub const fn number(self) -> u8 {
         self as u8
     }

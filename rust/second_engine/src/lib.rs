@@ -1,18 +1,21 @@
 //! A second engine for document 01, of independent make: reachability of cooperating
 //! multi-pushdown systems by saturation of a watch automaton, with the desk of request 2.1, the
-//! peak of request 2.2, the written places of request 2.4, the counts of request 2.5 and the copied
-//! automaton of request 2.6. Every call works on tables of any bytes and on buffers of any length.
+//! peak of request 2.2, the written places of request 2.4, the counts of request 2.5, the copied
+//! automaton of request 2.6 and the opening hours of request 2.7. Every call works on tables of any
+//! bytes and on buffers of any length.
 
 mod copy;
 mod desk;
 mod group;
 mod participation;
 mod peak;
+mod plan;
 mod saturation;
 mod table;
 mod walk;
 
 pub use desk::{COUNT_CEILING, DESK_PILE, Desk, NAMES};
+pub use plan::{Hours, LENGTHS, PLAN_STEPS, STARTS, WEEK, WINDOWS, Window, plan};
 pub use table::WRITTEN_PLACES;
 
 use group::PROCESSES;

@@ -130,9 +130,7 @@ fn vary(rng: &mut Rng, table: Table) -> Table {
         grower.add_rule();
     }
     let mut table = grower.table;
-    for last in (1..table.rules.len()).rev() {
-        table.rules.swap(rng.below(last + 1), last);
-    }
+    rng.shuffle(&mut table.rules);
     if rng.chance(1, 3) {
         table.rules.pop();
     }

@@ -7,6 +7,7 @@ mod copies;
 mod desk;
 mod large;
 mod naive;
+mod plans;
 mod reader;
 mod refusals;
 mod small_tables;
