@@ -11,10 +11,10 @@ use Rattle.model.specs.Calls.{zeros}
 use Rattle.model.specs.Groups.{Processes}
 use Rattle.model.specs.Systems.{System}
 use Rattle.model.specs.declared.Group.{Group}
-use Rattle.automaton.specs.StateNumbers.{stateNumber, Over}
-use Rattle.automaton.specs.StateSets.{setLength, inserted}
-use Rattle.automaton.proofs.StateSets.{length-inserted}
-use Rattle.shapes.specs.Shapes.{fronted}
+use Rattle.states.specs.StateNumbers.{stateNumber, Over}
+use Rattle.states.specs.StateSets.{setLength, inserted}
+use Rattle.states.proofs.StateSets.{length-inserted}
+use Rattle.buffers.specs.Buffers.{fronted}
 use Rattle.acceptance.specs.Sets.{acceptsFrom, someAccepts, Extends, here, there}
 use Rattle.acceptance.proofs.Sets.{zeros-accept, start-accepts}
 

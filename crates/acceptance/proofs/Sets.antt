@@ -15,20 +15,17 @@ use Rattle.model.specs.Automata.{Transition, move}
 use Rattle.model.specs.Groups.{Processes, restrict, sameGroup}
 use Rattle.model.specs.Lists.{anyOf}
 use Rattle.model.specs.Systems.{System, isAccepting}
-use Rattle.model.proofs.Tests.{same-test, and-left, and-right, and-both}
-use Rattle.automaton.specs.StateNumbers.{stateCount, stateNumber, groupNumbered, Over}
-use Rattle.automaton.specs.StateSets.{setLength, member, inserted, nextMember}
-use Rattle.automaton.proofs.StateNumbers.{numbered-number, stateNumber-below}
-use Rattle.automaton.proofs.StateSets.{member-inserted, member-zeros, next-at}
+use Rattle.model.proofs.Tests.{same-test, and-left, and-right, and-both, or-true-left}
+use Rattle.states.specs.StateNumbers.{stateCount, stateNumber, groupNumbered, Over}
+use Rattle.states.specs.StateSets.{setLength, member, inserted, nextMember}
+use Rattle.states.proofs.StateNumbers.{numbered-number, stateNumber-below}
+use Rattle.states.proofs.StateSets.{member-inserted, member-zeros, next-at}
 use Rattle.acceptance.specs.Sets.{someBelow, acceptsFrom, memberAccepts, someAccepts, leads, Extends}
 
 -- ---- some number below a bound
 by-either : (a b : Bool) {C : Type 0} → (a ≡ true → C) → (b ≡ true → C) → (a || b) ≡ true → C
 by-either true b f g e = f refl
 by-either false b f g e = g e
-
-or-left : (a b : Bool) → a ≡ true → (a || b) ≡ true
-or-left a b e = rw e refl
 
 or-of-right : (a b : Bool) → b ≡ true → (a || b) ≡ true
 or-of-right true b e = refl
@@ -44,7 +41,7 @@ unfolding someBelow
 some-of f zero m h e = absurd (omega arith)
 some-of f (suc n) m h e = elim (ℕ-discrete m n) [
   | yes q ↦ or-of-right (someBelow f n) (f n) (subst (λ (k : ℕ). f k ≡ true) q e)
-  | no q ↦ or-left (someBelow f n) (f n) (some-of f n m (omega arith) e)
+  | no q ↦ or-true-left (someBelow f n) (f n) (some-of f n m (omega arith) e)
 ]
 
 -- no number between passes
@@ -94,7 +91,7 @@ module _ (sys : System) (L : Processes) where
           let i : (eqb (r .0) k || member members (r .0)) ≡ true = sym (held (r .0)) ∙ and-left (member (inserted members k) (r .0)) (acceptsFrom sys w (groupNumbered L (r .0))) (r .2) in
           by-either (eqb (r .0) k) (member members (r .0))
           (λ y. or-of-right (someBelow (memberAccepts sys L members w) stateCount) (acceptsFrom sys w (groupNumbered L k)) (subst (λ (j : ℕ). acceptsFrom sys w (groupNumbered L j) ≡ true) (eqb-true (r .0) k y) a))
-          (λ y. or-left (someBelow (memberAccepts sys L members w) stateCount) (acceptsFrom sys w (groupNumbered L k))
+          (λ y. or-true-left (someBelow (memberAccepts sys L members w) stateCount) (acceptsFrom sys w (groupNumbered L k))
           (some-of (memberAccepts sys L members w) stateCount (r .0) (r .1) (and-both (member members (r .0)) (acceptsFrom sys w (groupNumbered L (r .0))) y a))) i
 
       back : (someBelow (memberAccepts sys L members w) stateCount || acceptsFrom sys w (groupNumbered L k)) ≡ true → someBelow (memberAccepts sys L (inserted members k) w) stateCount ≡ true
@@ -105,7 +102,7 @@ module _ (sys : System) (L : Processes) where
           (held (r .0) ∙ or-of-right (eqb (r .0) k) (member members (r .0)) (and-left (member members (r .0)) (acceptsFrom sys w (groupNumbered L (r .0))) (r .2)))
           (and-right (member members (r .0)) (acceptsFrom sys w (groupNumbered L (r .0))) (r .2))))
           (λ y. some-of (memberAccepts sys L (inserted members k) w) stateCount k h
-          (and-both (member (inserted members k) k) (acceptsFrom sys w (groupNumbered L k)) (held k ∙ or-left (eqb k k) (member members k) (eq-eqb k k refl)) y)) e
+          (and-both (member (inserted members k) k) (acceptsFrom sys w (groupNumbered L k)) (held k ∙ or-true-left (eqb k k) (member members k) (eq-eqb k k refl)) y)) e
 
   -- no state
   pub zeros-accept : (n : ℕ) (w : List ℕ) → someAccepts sys L (replicate n 0) w ≡ false

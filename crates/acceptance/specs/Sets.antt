@@ -9,8 +9,8 @@ use Rattle.model.specs.declared.Group.{Group}
 use Rattle.model.specs.Automata.{Transition, move}
 use Rattle.model.specs.Groups.{Processes, restrict, sameGroup}
 use Rattle.model.specs.Systems.{System, accepts}
-use Rattle.automaton.specs.StateNumbers.{stateCount, groupNumbered}
-use Rattle.automaton.specs.StateSets.{setLength, member}
+use Rattle.states.specs.StateNumbers.{stateCount, groupNumbered}
+use Rattle.states.specs.StateSets.{setLength, member}
 
 -- some number below n passes the test
 unfoldable pub someBelow : (ℕ → Bool) → ℕ → Bool
@@ -31,7 +31,8 @@ someAccepts sys L members w = someBelow (memberAccepts sys L members w) stateCou
 
 -- the transition reads the letter a in g and leads to a state that accepts w
 unfoldable pub leads : System → ℕ → Group → List ℕ → Transition → Bool
-leads sys a g w t = eqb (t .letter) a && sameGroup (restrict (sys .loc a) g) (t .before) && acceptsFrom sys w (move (sys .loc) t g)
+leads sys a g w t =
+    eqb (t .letter) a && sameGroup (restrict (sys .loc a) g) (t .before) && acceptsFrom sys w (move (sys .loc) t g)
 
 -- members′ accepts what `members` does, and the words that pass the test
 pub record Extends (sys : System) (L : Processes) (members members′ : List ℕ) (test : List ℕ → Bool) : Type 0 where

@@ -1,20 +1,21 @@
 // The accepted test (document 01: watched). The word is read letter by letter with the set of the states that the letters so far lead
 // to; those that one letter more leads to are collected in a second set.
-use automaton::groups;
-use automaton::sets;
-use automaton::states;
-use automaton::states::STATES;
+use buffers::clear;
+use buffers::move_front;
 use model::Group;
 use numbers::wide;
 use scratch::HERE;
 use scratch::SET_BYTES;
 use scratch::THERE;
 use scratch::THERE_END;
-use shapes::move_front;
-use shapes::present;
+use states::groups;
+use states::numbering;
+use states::numbering::STATES;
+use states::sets;
 use table::Table;
 use table::accepting_group;
 use table::letter_bits;
+use table::present;
 use table::transition_after;
 use table::transition_before;
 use table::transition_letter;
@@ -28,10 +29,10 @@ ghost use Rattle.model.specs.Automata.{move};
 ghost use Rattle.model.specs.Calls.{zeros};
 ghost use Rattle.model.specs.Groups.{restrict, sameGroup};
 ghost use Rattle.model.specs.Systems.{isAccepting};
-ghost use Rattle.automaton.specs.StateNumbers.{stateCount, stateNumber, groupNumbered, Over};
-ghost use Rattle.automaton.specs.StateSets.{setLength, inserted, nextMember};
+ghost use Rattle.states.specs.StateNumbers.{stateCount, stateNumber, groupNumbered, Over};
+ghost use Rattle.states.specs.StateSets.{setLength, inserted, nextMember};
 ghost use Rattle.table.specs.Reading.{Holds, systemIn, transitionIn};
-ghost use Rattle.shapes.specs.Shapes.{presentIn};
+ghost use Rattle.table.specs.Present.{presentIn};
 ghost use Rattle.acceptance.specs.Sets.{acceptsFrom, someAccepts, leads, Extends, here, there};
 
 // Transition k reads the letter in g.
@@ -55,7 +56,7 @@ fn target(table: &[u8], t: Table, g: Group, k: usize) -> usize
     let a = transition_letter(table, t, k);
     let bits = letter_bits(table, t, wide(a));
     let after = transition_after(table, t, k);
-    states::number(groups::merged(bits, after, g))
+    numbering::number(groups::merged(bits, after, g))
 }
 
 // Puts in the state that transition k leads to, if it reads the letter in g.
@@ -85,7 +86,7 @@ fn state_at(t: Table, n: usize) -> Group
     requires { ⌜ (t .processes ≤ 4) × (n < stateCount) ⌝ }
     ensures { λ r. ⌜ r ≡ groupNumbered (presentIn t) n ⌝ }
 {
-    states::numbered(present(t), n)
+    numbering::numbered(present(t), n)
 }
 
 // Puts in the states that the letter leads to from state n, and gives the next state of the set.
@@ -119,7 +120,7 @@ fn read_letter(table: &[u8], t: Table, letter: u8, scratch: &mut [u8])
     requires { ⌜ Holds (now table) t × (1024 ≤ length (now scratch)) ⌝ }
     ensures { λ _. ⌜ ((w : List ℕ) → someAccepts (systemIn (now (table .entry))) (presentIn t) (here (now (scratch .exit))) w ≡ someAccepts (systemIn (now (table .entry))) (presentIn t) (here (now (scratch .entry))) (letter ∷ w)) ⌝ }
 {
-    sets::clear(&mut scratch[THERE..THERE_END]);
+    clear(&mut scratch[THERE..THERE_END]);
     read_members(table, t, letter, scratch);
     move_front(scratch, THERE, SET_BYTES);
 }
@@ -171,8 +172,8 @@ fn put_start(g: Group, members: &mut [u8])
     requires { ⌜ length (now members) ≡ setLength ⌝ }
     ensures { λ _. ⌜ now (members .exit) ≡ inserted (zeros (now (members .entry))) (stateNumber g) ⌝ }
 {
-    sets::clear(members);
-    sets::insert(members, states::number(g));
+    clear(members);
+    sets::insert(members, numbering::number(g));
 }
 
 // The table's automaton accepts the word from these states. The scratch is left zero.
@@ -183,6 +184,6 @@ pub fn is_accepted(table: &[u8], t: Table, word: &[u8], states: Group, scratch: 
     put_start(states, &mut scratch[HERE..THERE]);
     read_word(table, t, word, scratch);
     let accepted = has_accepting(table, t, &scratch[HERE..THERE]);
-    sets::clear(scratch);
+    clear(scratch);
     accepted
 }

@@ -14,10 +14,9 @@ use Rattle.model.specs.Groups.{Process, Processes, Within, at, every, has, merg
 use Rattle.model.specs.Tables.{systemOf}
 use Rattle.model.proofs.Groups.{at-restrict, ext}
 use Rattle.model.proofs.Mixtures.{at-copies, mixed-merge}
-use Rattle.model.proofs.Tests.{by-test, each-process}
-use Rattle.shapes.specs.Shapes.{presentIn, processesBelow}
-use Rattle.shapes.proofs.Ranges.{all-below}
-use Rattle.shapes.proofs.Shapes.{bound-at}
+use Rattle.model.proofs.Tests.{by-test, each-process, allBelow-at}
+use Rattle.table.specs.Present.{presentIn, processesBelow}
+use Rattle.table.proofs.Configurations.{bound-at}
 use Rattle.table.specs.declared.Table.{Table}
 use Rattle.table.specs.Places.{boundIn}
 use Rattle.table.specs.Reading.{BitsOf, Holds, processAt, systemIn}
@@ -41,7 +40,7 @@ unfolding subsets
 counted bits l =
     let same : ℕ → Bool = λ b. eqb (getD counts b 0) (length (subsets (processesOf b))) in
     let few : ℕ → Bool = λ b. leb (getD counts b 0) 16 in
-    (eqb-true _ _ (all-below 16 same bits refl (omega arith)), leb-true _ _ (all-below 16 few bits refl (omega arith)))
+    (eqb-true _ _ (allBelow-at 16 same refl bits (omega arith)), leb-true _ _ (allBelow-at 16 few refl bits (omega arith)))
 
 -- ---- what the code knows
 abbrev StatesOf : List ℕ → Table → ℕ → ℕ → Type 0

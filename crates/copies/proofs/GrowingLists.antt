@@ -6,8 +6,7 @@ use Prim.Native.Nat.{ℕ, zero, suc, _+_, _-_, _<_, _≤_}
 use native.Mathlib.Omega.{arith}
 use lib.ListN.{getD, length, length-append}
 use Rattle.model.specs.Lists.{concatMap, filter}
-use Rattle.model.proofs.FreshPaths.{filter-append}
-use Rattle.model.proofs.Lists.{map-append}
+use Rattle.model.proofs.Lists.{filter-append, map-append}
 use Rattle.model.proofs.Tests.{by-test}
 
 pub concat-append : {A B : Type 0} (f : A → List B) (xs ys : List A) → concatMap f (xs ++ ys) ≡ concatMap f xs ++ concatMap f ys

@@ -12,7 +12,7 @@ use Rattle.model.specs.Lists.{concatMap, filter}
 use Rattle.model.proofs.Lists.{map-append}
 use Rattle.model.proofs.Mixtures.{merge-nowhere, nowhere, nowhere-within, test-within, within-test}
 use Rattle.model.proofs.Tests.{by-test}
-use Rattle.shapes.specs.Shapes.{presentIn}
+use Rattle.table.specs.Present.{presentIn}
 use Rattle.table.specs.declared.Table.{Table}
 use Rattle.table.specs.Reading.{Holds, saturatedIn, systemIn}
 use Rattle.copies.specs.declared.Copying.{Copying}

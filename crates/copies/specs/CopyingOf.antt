@@ -5,7 +5,7 @@ use mathlib.Core.List.{List}
 use Prim.Native.Nat.{ℕ}
 use Rattle.model.specs.Copies.{reenters}
 use Rattle.model.specs.Groups.{Process, at, has}
-use Rattle.shapes.specs.Shapes.{presentIn}
+use Rattle.table.specs.Present.{presentIn}
 use Rattle.table.specs.declared.Table.{Table}
 use Rattle.table.specs.Reading.{systemIn}
 use Rattle.copies.specs.declared.Copying.{Copying}

@@ -1,4 +1,5 @@
--- The mixtures of a group as the code makes them: its plain states and their copies, set of processes by set of processes.
+-- The mixtures of a group as the code makes them: its plain states and their copies, set of processes by set of
+-- processes.
 use mathlib.Core.Path.{_≡_}
 use mathlib.Core.Bool.{cond, false, true}
 use mathlib.Core.List.{List, [], _∷_, map}
@@ -11,7 +12,8 @@ use Rattle.table.specs.Reading.{systemIn}
 use Rattle.copies.specs.declared.Copying.{Copying}
 use Rattle.copies.specs.declared.Mixed.{Mixed}
 
--- x has the group g and the copies of its states at the processes in bits; where the copy is not made, the group stands for them
+-- x has the group g and the copies of its states at the processes in bits; where the copy is not made, the group stands
+-- for them
 pub record MixedOf (c : Copying) (bits : ℕ) (g : Group) (x : Mixed) : Type 0 where
   pub processes : x .bits ≡ bits
   pub plain : x .plain ≡ g

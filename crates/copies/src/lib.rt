@@ -1,8 +1,8 @@
 // The copy of Lemma 10 (request 2.6), as the code makes it: whether a table's automaton is copied, how many states each process has, and the copies of a
 // group's states.
-use automaton::groups::merged;
 use model::Group;
 use numbers::wide;
+use states::groups::merged;
 use table::Table;
 use table::leaves_control;
 use table::letter_bits;

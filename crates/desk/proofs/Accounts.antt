@@ -2,9 +2,9 @@
 use mathlib.Core.Path.{_≡_, refl, ap₂, sym, subst, _∙_}
 use mathlib.Core.List.{List}
 use Prim.Native.Nat.{ℕ}
-use Rattle.model.specs.Desks.{Call, Contents, Leads, HistoriesLead, deskCalls, noteCalls, opened, unwritten}
+use Rattle.desk_model.specs.Desks.{Call, Contents, Leads, HistoriesLead, deskCalls, noteCalls, opened, unwritten}
 use Rattle.model.specs.Tables.{accepted, read}
-use Rattle.model.proofs.Main.{desk-stands}
+use Rattle.desk_model.proofs.Main.{desk-stands}
 use Rattle.table.specs.Reading.{Holds, itemsIn, systemIn}
 use Rattle.table.proofs.Readings.{holds-read}
 use Rattle.desk.specs.declared.Desk.{Desk}

@@ -1,30 +1,35 @@
 -- What the calls of a desk come to: refused, fired, saved, returned, forgotten; and what a look shows.
 use mathlib.Core.Path.{_≡_, refl, ap, ap₂, sym, subst, _∙_}
-use mathlib.Core.Bool.{true, false, false≢true, not}
+use mathlib.Core.Bool.{Bool, true, false, false≢true, not}
 use mathlib.Core.Option.{Option, none, some}
 use mathlib.Core.List.{List, [], _∷_, _++_, map}
 use Prim.Native.Nat.{ℕ, zero, suc, _-_, _<_, _≤_}
 use native.Mathlib.Omega.{arith}
 use lib.ListN.{length, getD, set, drop, replicate, length-set, length-drop, length-replicate, List·getD-map}
-use borrow.Author.Tests.{eqb-false, not-false, not-true}
-use Rattle.model.specs.declared.Told.{Told}
+use lib.Dec.{leb}
+use borrow.Author.Tests.{leb-false, lt-leb}
+use Rattle.desk_model.specs.declared.Told.{Told}
 use Rattle.model.specs.Calls.{filled, haltAt, haltEnd, walkFrom}
-use Rattle.model.specs.Desks.{Call, fires, saves, returns, forgets, Contents, DeskOutcome, after, checks, countCeiling, countsAfter, deskCall, deskPile, firstStop, heldAsked, movedTo, nameAsked, nameCount, named, outcome, ruleAsked, tells, toldRefusal, uncounted}
-use Rattle.model.specs.Desks as Desks
-use Rattle.model.specs.Lists.{Each, valueOr}
+use Rattle.desk_model.specs.Desks.{Call, fires, saves, returns, forgets, Contents, DeskOutcome, after, checks, countCeiling, countsAfter, deskCall, deskPile, findings, firedTo, firstStop, movedTo, nameCount, named, outcome, stopOf, tells, toldRefusal, uncounted}
+use Rattle.desk_model.specs.Desks as Desks
+use Rattle.model.specs.Lists.{Each, isMissing, valueOr}
 use Rattle.model.specs.Groups.{Processes, processesOf}
 use Rattle.model.specs.Participation.{ruleProcesses, withStep}
 use Rattle.model.specs.Systems.{Configuration, System}
 use Rattle.model.proofs.Groups.{bits-back}
-use Rattle.model.proofs.DeskChecks.{bad-name, empty-name, fire-passes, fire-stops, held-passes, name-passes}
-use Rattle.shapes.proofs.Ranges.{each-place}
+use Rattle.desk_model.proofs.DeskChecks.{fire-number, fire-passes, fire-stops, not-beyond, not-empty}
+use Rattle.model.proofs.Lists.{each-place}
+use Rattle.model.proofs.Tests.{by-test}
 use Rattle.firing.specs.declared.Fired.{Fired}
-use Rattle.firing.specs.declared.Placed.{Placed}
+use Rattle.model.specs.declared.Placed.{Placed}
 use Rattle.firing.specs.Piles.{configuration}
-use Rattle.steps.specs.Stepping.{StepRefused, StepTaken}
+use Rattle.steps.specs.declared.Taken.{Taken}
+use Rattle.steps.specs.declared.Taken.the-variants.{Refused, Onward}
+use Rattle.steps.specs.Stepping.{StepTaken, StepTo}
 use Rattle.desk.specs.declared.Desk.{Desk}
 use Rattle.desk.specs.declared.Named.{Named}
 use Rattle.desk.specs.declared.Next.{Next}
+use Rattle.desk.specs.Checking.{nameFindings, namePlace, stepFindings, stepRefusal}
 use Rattle.desk.specs.Promises.{Good, GoodName, Moves, nowhere, outcomeOf, savedIn, shown, sightOf, systemOn, tableOf}
 
 -- ---- lists
@@ -70,17 +75,17 @@ module _ (d : Desk) (g : Good d) where
   abbrev passed : Call → DeskOutcome
   passed c = record { told = tells (systemOn d) c; contents = after (systemOn d) (shown d) c }
 
-  pub moves-refused : (c : Call) (number : ℕ) → firstStop (checks (systemOn d) (shown d) c) ≡ number → (number ≡ 0 → ⊥) → (r : Next) → (r .told ≡ Told.Refused number 0) × (r .desk ≡ d) → Moves c d (r .told) (r .desk)
+  pub moves-refused : (c : Call) (number : ℕ) → number ≡ stopOf (systemOn d) (shown d) c → (number ≡ 0 → ⊥) → (r : Next) → (r .told ≡ Told.Refused number 0) × (r .desk ≡ d) → Moves c d (r .told) (r .desk)
   unfolding deskCall
   moves-refused c number e z r (t, q) =
       let o : outcomeOf c d ≡ record { told = Told.Refused number 0; contents = shown d } =
-      ap (λ (k : ℕ). outcome k (shown d) (passed c)) e ∙ outcome-refused number (shown d) (passed c) z in
+      ap (λ (k : ℕ). outcome k (shown d) (passed c)) (sym e) ∙ outcome-refused number (shown d) (passed c) z in
       record {
         answer = t ∙ sym (ap (λ (x : DeskOutcome). x .told) o);
         leaves = record { contents = ap shown q ∙ sym (ap (λ (x : DeskOutcome). x .contents) o); table = ap tableOf q; unchanged = λ x. q; good = subst Good (sym q) g };
       }
 
-  moves-done : (c : Call) (d′ : Desk) → firstStop (checks (systemOn d) (shown d) c) ≡ 0 → shown d′ ≡ after (systemOn d) (shown d) c → tableOf d′ ≡ tableOf d → Good d′ → Moves c d (tells (systemOn d) c) d′
+  moves-done : (c : Call) (d′ : Desk) → stopOf (systemOn d) (shown d) c ≡ 0 → shown d′ ≡ after (systemOn d) (shown d) c → tableOf d′ ≡ tableOf d → Good d′ → Moves c d (tells (systemOn d) c) d′
   unfolding deskCall
   moves-done c d′ e s q h =
       let o : outcomeOf c d ≡ passed c = ap (λ (k : ℕ). outcome k (shown d) (passed c)) e in
@@ -96,12 +101,21 @@ module _ (d : Desk) (g : Good d) where
 
   -- ---- firing
   module _ (n : ℕ) (pile′ : List ℕ) where
-    pub fire-refused : (number : ℕ) → StepRefused (systemOn d) n (d .placed) (d .pile) pile′ number → (r : Next) → (r .told ≡ Told.Refused number 0) × (r .desk ≡ d) → Moves (fires n) d (r .told) (r .desk)
-    fire-refused number s =
-        moves-refused (fires n) number
-        (fire-stops (systemOn d) (shown d) n number
+    -- a step is refused by the number of the check that stops the fire, 0 where it is taken
+    pub step-stop : (taken : Taken) → StepTo (tableOf d) (d .table) n (d .placed) (d .pile) pile′ taken → stepRefusal taken ≡ stopOf (systemOn d) (shown d) (fires n)
+    step-stop (Refused number) s =
+        sym (fire-stops (systemOn d) (shown d) n number
         (subst (λ (k : ℕ). walkFrom (systemOn d) k 0 (n ∷ []) (shown d .here) ≡ haltAt number 0 (n ∷ []) (shown d .here)) (g .size) (s .halt 0 [])))
-        (eqb-false number 0 (s .numbered))
+    step-stop (Onward f) t = sym (passes f t .0)
+      where
+        passes : (f : Fired) → StepTaken (tableOf d) (d .table) n (d .placed) f (d .pile) pile′ → (stopOf (systemOn d) (shown d) (fires n) ≡ 0) × (firedTo (systemOn d) (shown d) n ≡ some (configuration pile′ (f .placed)))
+        passes f t = fire-passes (systemOn d) (shown d) n (configuration pile′ (f .placed)) (subst (λ (k : ℕ). walkFrom (systemOn d) k 0 (n ∷ []) (shown d .here) ≡ haltEnd (systemOn d) (configuration pile′ (f .placed))) (g .size) (t .onward 0 []))
+
+    -- so its findings stop the fire as the definition does
+    pub rule-stop : (taken : Taken) → StepTo (tableOf d) (d .table) n (d .placed) (d .pile) pile′ taken → firstStop (checks (stepFindings (stepRefusal taken))) ≡ stopOf (systemOn d) (shown d) (fires n)
+    rule-stop taken s =
+        ap (λ (k : ℕ). firstStop (checks (stepFindings k))) (step-stop taken s)
+        ∙ fire-number (systemOn d) (shown d) n (λ (k : ℕ). firstStop (checks (stepFindings k)) ≡ k) refl refl refl refl
 
     pub moves-fired : (f : Fired) (counts : List ℕ) → StepTaken (tableOf d) (d .table) n (d .placed) f (d .pile) pile′ → counts ≡ withStep countCeiling (processesOf (f .processes)) (d .counts)
         → Moves (fires n) d (Told.Fired (f .processes)) (moved d (f .placed) counts pile′)
@@ -115,8 +129,9 @@ module _ (d : Desk) (g : Good d) where
         (record { inside = g .inside; holds = g .holds; shape = t .shape; size = t .size ∙ g .size; count = g .count; counts = ap length q ∙ four-counts (processesOf (f .processes)) (d .counts); names = g .names }))
 
   -- ---- names
-  pub bad-refused : (c : Call) (a : ℕ) → ruleAsked c ≡ none → nameAsked c ≡ some a → nameCount ≤ a → (r : Next) → (r .told ≡ Told.Refused 18 0) × (r .desk ≡ d) → Moves c d (r .told) (r .desk)
-  bad-refused c a n k h = moves-refused c 18 (bad-name (systemOn d) (shown d) c a n k h) (λ z. omega arith)
+  pub save-stop : (a number : ℕ) → number ≡ firstStop (checks (nameFindings a false)) → number ≡ stopOf (systemOn d) (shown d) (saves a)
+  unfolding findings
+  save-stop a number e = e
 
   module _ (a : ℕ) (h : a < nameCount) where
     good-renamed : (v : Named) → GoodName (d .table) v → Good (renamed d (set (d .names) a v))
@@ -140,35 +155,67 @@ module _ (d : Desk) (g : Good d) where
     named-is : (x : Option Configuration) → savedIn (getD (d .names) a past) ≡ x → named (shown d) a ≡ x
     named-is x e = List·getD-map savedIn (d .names) a past ∙ e
 
-    held-is : not (getD (d .names) a past .held) ≡ false → named (shown d) a ≡ some (configuration (getD (d .names) a past .pile) (getD (d .names) a past .placed))
-    held-is e = let held : s .held ≡ true = not-false (s .held) e in named-is (some (configuration (s .pile) (s .placed))) (rw held refl)
+    held-is : getD (d .names) a past .held ≡ true → named (shown d) a ≡ some (configuration (getD (d .names) a past .pile) (getD (d .names) a past .placed))
+    held-is held = named-is (some (configuration (s .pile) (s .placed))) (rw held refl)
+
+    -- whether the name is held, as code reads it
+    empty-is : not (getD (d .names) a past .held) ≡ isMissing (named (shown d) a)
+    empty-is = by-test (s .held) (λ y. rw y (sym (ap isMissing (held-is y)))) (λ y. rw y (sym (ap isMissing (named-is none (rw y refl)))))
+
+    held-of : firstStop (checks (nameFindings a (isMissing (named (shown d) a)))) ≡ 0 → getD (d .names) a past .held ≡ true
+    held-of z = by-test (s .held) (λ y. y) (λ y. absurd (not-empty a (isMissing (named (shown d) a)) z (sym empty-is ∙ rw y refl)))
 
     good-name : GoodName (d .table) (getD (d .names) a past)
     good-name = each-place (GoodName (d .table)) (d .names) past a (g .names) (omega (arith, g .count))
 
-    pub empty-refused : (c : Call) → ruleAsked c ≡ none → nameAsked c ≡ some a → heldAsked c ≡ some a → not (getD (d .names) a past .held) ≡ true → (r : Next) → (r .told ≡ Told.Refused 17 0) × (r .desk ≡ d) → Moves c d (r .told) (r .desk)
-    empty-refused c n k held e =
-        let free : s .held ≡ false = not-true (s .held) e in
-        moves-refused c 17 (empty-name (systemOn d) (shown d) c a n k h held (named-is none (rw free refl))) (λ z. omega arith)
-
-    pub moves-saved : Moves (saves a) d Told.Done (renamed d (set (d .names) a (record { held = true; placed = d .placed; pile = d .pile })))
-    moves-saved =
+    pub moves-saved : stopOf (systemOn d) (shown d) (saves a) ≡ 0 → Moves (saves a) d Told.Done (renamed d (set (d .names) a (record { held = true; placed = d .placed; pile = d .pile })))
+    moves-saved z =
         let v : Named = record { held = true; placed = d .placed; pile = d .pile } in
-        moves-done (saves a) (renamed d (set (d .names) a v)) (name-passes (systemOn d) (shown d) (saves a) a refl refl h refl) (names-are v) refl
+        moves-done (saves a) (renamed d (set (d .names) a v)) z (names-are v) refl
         (good-renamed v (record { size = g .size; shape = λ e. g .shape }))
 
-    pub moves-returned : not (getD (d .names) a past .held) ≡ false → Moves (returns a) d Told.Done (moved d (getD (d .names) a past .placed) uncounted (getD (d .names) a past .pile))
-    moves-returned e =
-        moves-done (returns a) (moved d (s .placed) uncounted (s .pile)) (held-passes (systemOn d) (shown d) (returns a) a refl refl h refl (configuration (s .pile) (s .placed)) (held-is e))
-        (sym (ap (valueOr (shown d) (movedTo (shown d) uncounted)) (held-is e))) refl
-        (record { inside = g .inside; holds = g .holds; shape = good-name .shape (not-false (s .held) e); size = good-name .size; count = g .count; counts = refl; names = g .names })
+    moves-returned : stopOf (systemOn d) (shown d) (returns a) ≡ 0 → Moves (returns a) d Told.Done (moved d (getD (d .names) a past .placed) uncounted (getD (d .names) a past .pile))
+    unfolding findings
+    moves-returned z =
+        moves-done (returns a) (moved d (s .placed) uncounted (s .pile)) z
+        (sym (ap (valueOr (shown d) (movedTo (shown d) uncounted)) (held-is (held-of z)))) refl
+        (record { inside = g .inside; holds = g .holds; shape = good-name .shape (held-of z); size = good-name .size; count = g .count; counts = refl; names = g .names })
 
-    pub moves-forgotten : not (getD (d .names) a past .held) ≡ false
+    moves-forgotten : stopOf (systemOn d) (shown d) (forgets a) ≡ 0
         → Moves (forgets a) d Told.Done (renamed d (set (d .names) a (record { held = false; placed = getD (d .names) a past .placed; pile = getD (d .names) a past .pile })))
-    moves-forgotten e =
+    moves-forgotten z =
         let v : Named = record { held = false; placed = s .placed; pile = s .pile } in
-        moves-done (forgets a) (renamed d (set (d .names) a v)) (held-passes (systemOn d) (shown d) (forgets a) a refl refl h refl (configuration (s .pile) (s .placed)) (held-is e)) (names-are v) refl
+        moves-done (forgets a) (renamed d (set (d .names) a v)) z (names-are v) refl
         (good-renamed v (record { size = good-name .size; shape = λ f. absurd (false≢true f) }))
+
+-- ---- a return and a forget ask for a name that is held; `at` is where it is looked up
+module _ (d : Desk) (g : Good d) (a at number : ℕ) (is : at ≡ namePlace a) (e : number ≡ firstStop (checks (nameFindings a (not (getD (d .names) at past .held))))) where
+  place-is : a < nameCount → a ≡ at
+  place-is h = sym (is ∙ rw (lt-leb nameCount a h) refl)
+
+  held-stop : number ≡ firstStop (checks (nameFindings a (isMissing (named (shown d) a))))
+  held-stop = e ∙ by-test (leb nameCount a) (λ y. rw y refl) (λ y. let h : a < nameCount = leb-false nameCount a y in
+      ap (λ (b : Bool). firstStop (checks (nameFindings a b))) (ap (λ (k : ℕ). not (getD (d .names) k past .held)) (sym (place-is h)) ∙ empty-is d g a h))
+
+  pub return-stop : number ≡ stopOf (systemOn d) (shown d) (returns a)
+  unfolding findings
+  return-stop = held-stop
+
+  pub forget-stop : number ≡ stopOf (systemOn d) (shown d) (forgets a)
+  unfolding findings
+  forget-stop = held-stop
+
+  -- where no check stops the call
+  module _ (z : number ≡ 0) where
+    inside : a < nameCount
+    inside = not-beyond a _ (sym e ∙ z)
+
+    pub returned : Moves (returns a) d Told.Done (moved d (getD (d .names) at past .placed) uncounted (getD (d .names) at past .pile))
+    returned = subst (λ (k : ℕ). Moves (returns a) d Told.Done (moved d (getD (d .names) k past .placed) uncounted (getD (d .names) k past .pile))) (place-is inside) (moves-returned d g a inside (sym return-stop ∙ z))
+
+    pub forgotten : Moves (forgets a) d Told.Done (renamed d (set (d .names) at (record { held = false; placed = getD (d .names) at past .placed; pile = getD (d .names) at past .pile })))
+    forgotten = subst (λ (k : ℕ). Moves (forgets a) d Told.Done (renamed d (set (d .names) k (record { held = false; placed = getD (d .names) k past .placed; pile = getD (d .names) k past .pile })))) (place-is inside)
+        (moves-forgotten d g a inside (sym forget-stop ∙ z))
 
 -- ---- looking
 pub sight-is : (d : Desk) (pile : List ℕ) → Good d → pile ≡ filled (drop (d .placed .top) (d .pile)) (d .pile)

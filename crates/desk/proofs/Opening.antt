@@ -8,19 +8,19 @@ use native.Mathlib.Nat.{le-refl}
 use native.Mathlib.Omega.{arith}
 use lib.ListN.{length, take, drop, replicate, length-replicate}
 use lib.Seq.{paste, length-paste, length-take-le, take-all, take-at}
-use Rattle.model.specs.declared.Told.{Told}
-use Rattle.model.specs.Desks.{deskPile, nameCount, openTold, uncounted}
+use Rattle.desk_model.specs.declared.Told.{Told}
+use Rattle.desk_model.specs.Desks.{deskPile, nameCount, openTold, uncounted}
 use Rattle.model.specs.Lists.{Each}
 use Rattle.model.specs.Systems.{Configuration}
 use Rattle.model.specs.Tables.{Reading, accepted, longest, read, readFrom, refused}
-use Rattle.automaton.specs.StateNumbers.{Over}
+use Rattle.states.specs.StateNumbers.{Over}
 use Rattle.table.specs.declared.Parsed.the-variants.{Accepted, Refused}
 use Rattle.table.specs.declared.Table.{Table}
 use Rattle.table.specs.Reading.{Holds, countsOf, parsed, systemIn}
 use Rattle.table.proofs.Layouts.{table-length}
-use Rattle.shapes.specs.Shapes.{presentIn}
-use Rattle.shapes.proofs.Shapes.{start-over, start-lettered}
-use Rattle.firing.specs.declared.Placed.{Placed}
+use Rattle.table.specs.Present.{presentIn}
+use Rattle.table.proofs.Configurations.{start-over, start-lettered}
+use Rattle.model.specs.declared.Placed.{Placed}
 use Rattle.firing.specs.Piles.{configuration}
 use Rattle.desk.specs.declared.Desk.{Desk}
 use Rattle.desk.specs.Promises.{Good, GoodName, Opened, Opens, noDesk}

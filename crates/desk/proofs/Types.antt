@@ -3,8 +3,8 @@ use mathlib.Core.Path.{refl}
 use mathlib.Core.List.{[], _∷_}
 use denote.Struct.Laws as LL
 use Rattle.lent.proofs.Types as L
-use Rattle.model.proofs.Told as A
-use Rattle.model.proofs.Told.Laws as A′
+use Rattle.desk_model.proofs.Told as A
+use Rattle.desk_model.proofs.Told.Laws as A′
 use Rattle.desk.proofs.Counts as C
 use Rattle.desk.proofs.Counts.Laws as C′
 use Rattle.desk.proofs.Desk as D

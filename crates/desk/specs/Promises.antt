@@ -5,16 +5,16 @@ use mathlib.Core.Option.{Option, none, some}
 use mathlib.Core.List.{List, [], _∷_, map}
 use Prim.Native.Nat.{ℕ, _≤_}
 use lib.ListN.{length, take, replicate}
-use Rattle.model.specs.declared.Told.{Told}
+use Rattle.desk_model.specs.declared.Told.{Told}
 use Rattle.model.specs.Calls.{filled}
-use Rattle.model.specs.Desks.{Call, Contents, DeskOutcome, HistoriesLead, Leads, deskCall, deskPile, nameCount, noteCalls, openTold, opened, toldRefusal, uncounted, unwritten}
+use Rattle.desk_model.specs.Desks.{Call, Contents, DeskOutcome, HistoriesLead, Leads, deskCall, deskPile, nameCount, noteCalls, openTold, opened, toldRefusal, uncounted, unwritten}
 use Rattle.model.specs.Lists.{Each}
 use Rattle.model.specs.Systems.{System, Configuration}
 use Rattle.model.specs.Tables.{longest, read}
 use Rattle.table.specs.declared.Table.{Table}
 use Rattle.table.specs.Reading.{Holds, systemIn}
 use Rattle.table.specs.Reading as Reading
-use Rattle.firing.specs.declared.Placed.{Placed}
+use Rattle.model.specs.declared.Placed.{Placed}
 use Rattle.firing.specs.Piles.{configuration}
 use Rattle.steps.specs.Stepping.{InShape}
 use Rattle.desk.specs.declared.Counts.{Counts}
@@ -56,7 +56,8 @@ pub record Good (d : Desk) : Type 0 where
 abbrev pub outcomeOf : Call → Desk → DeskOutcome
 outcomeOf c d = deskCall (systemOn d) (shown d) c
 
--- what it leaves: the desk shows what the definition says, on the same table; refused, it is the same desk in every byte
+-- what it leaves: the desk shows what the definition says, on the same table; refused, it is the same desk in every
+-- byte
 pub record Leaves (c : Call) (d d′ : Desk) : Type 0 where
   pub contents : shown d′ ≡ outcomeOf c d .contents
   pub table : tableOf d′ ≡ tableOf d
@@ -97,7 +98,8 @@ noDesk = record {
   names = replicate nameCount (record { held = false; placed = nowhere; pile = replicate deskPile 0 });
 }
 
--- "one that meets 1 to 9 is refused so, and there is then no desk to call": none for which a call's `requires` can be met
+-- "one that meets 1 to 9 is refused so, and there is then no desk to call": none for which a call's `requires` can be
+-- met
 pub record Opens (bytes : List ℕ) (told : Told) (d : Desk) : Type 0 where
   pub answer : told ≡ openTold (read bytes)
   pub desk : told ≡ Told.Done → Opened bytes d
@@ -108,8 +110,10 @@ pub data Called : Desk → List Call → Desk → Type 0 where
   uncalled : {d : Desk} → Called d [] d
   called : {d d′ e : Desk} {c : Call} {cs : List Call} → Leaves c d d′ → Called d′ cs e → Called d (c ∷ cs) e
 
--- After these calls on a desk opened on these bytes: its copy of the table is still those bytes, it stands where a walk of its current history on them stands,
--- and each name where a walk of its own does, and its counts are those of the fires since it was opened or last returned.
+-- After these calls on a desk opened on these bytes: its copy of the table is still those bytes, it stands where a walk
+-- of its current history on them stands, and each name where a walk of its own does, and its counts are those of the
+-- fires since it was opened or last returned.
 pub record Accounted (bytes : List ℕ) (cs : List Call) (d : Desk) : Type 0 where
   pub table : tableOf d ≡ bytes
-  pub stands : HistoriesLead (systemIn bytes) (Leads bytes (systemIn bytes)) (noteCalls (systemIn bytes) (opened (systemIn bytes)) unwritten cs) (shown d)
+  pub stands : HistoriesLead (systemIn bytes) (Leads bytes (systemIn bytes))
+      (noteCalls (systemIn bytes) (opened (systemIn bytes)) unwritten cs) (shown d)

@@ -1,37 +1,34 @@
 // Requests 2.1 and 2.5, named situations at the desk, and who took part: opened once on a table, changed only by its calls. Its owner lends it: each call over
 // `&mut Desk` or `&Desk` is a thin one over a function that takes the desk by value.
-use firing::Placed;
+use buffers::copy;
+use desk_model::BAD_NAME;
+use desk_model::COUNT_CEILING;
+use desk_model::EMPTY_NAME;
+use desk_model::Findings;
+use desk_model::NAMES;
+use desk_model::PILE;
+use desk_model::Told;
+use model::FULL_PILE;
 use model::Group;
-use model::Told;
+use model::IDLE_RULE;
+use model::NO_RULE;
+use model::Placed;
 use reading::read;
 use steps::Taken;
+use steps::bring_front;
 use steps::place_start;
-use steps::settle;
 use steps::take_step;
 use table::Parsed;
 use table::Table;
 ghost use mathlib.Core.Path.{_≡_};
-ghost use Prim.Native.Nat.{_≤_};
+ghost use Prim.Native.Nat.{_<_, _≤_};
 ghost use lib.ListN.{length, take};
-ghost use lib.Seq.{paste};
-ghost use Rattle.model.specs.declared.Told.{Told};
-ghost use Rattle.model.specs.Desks.{countCeiling, fires, saves, returns, forgets};
+ghost use Rattle.desk_model.specs.declared.Told.{Told};
+ghost use Rattle.desk_model.specs.Desks.{checks, countCeiling, firstStop, fires, saves, returns, forgets, nameCount};
 ghost use Rattle.table.specs.Reading.{Holds};
 ghost use Rattle.steps.specs.Stepping.{InShape, StepTo, countsBy};
+ghost use Rattle.desk.specs.Checking.{nameFindings, namePlace, stepFindings, stepRefusal};
 ghost use Rattle.desk.specs.Promises.{Good, Moves, Opens, Opened, countsOf, noDesk, sightOf, shown};
-
-// The most letters of a desk's pile, and the number of its names.
-pub const PILE: usize = 256;
-
-pub const NAMES: usize = 8;
-
-// Where a count of steps stops.
-pub const COUNT_CEILING: u64 = 4294967295;
-
-// Refusals of a name: not held; above the last.
-const EMPTY_NAME: u8 = 17;
-
-const BAD_NAME: u8 = 18;
 
 // A name: whether it is held, and what is saved under it, the states, and a word at the end of its buffer.
 #[repr(C)]
@@ -83,6 +80,65 @@ fn refused(d: Desk, number: u8) -> Next
     }
 }
 
+// ---- the checks
+// The number of the first check that stops a call, in their order, or 0.
+fn first_stop(f: Findings) -> u8
+    ensures { λ r. ⌜ r ≡ firstStop (checks f) ⌝ }
+{
+    if f.missing {
+        return NO_RULE;
+    }
+    if f.beyond {
+        return BAD_NAME;
+    }
+    if f.empty {
+        return EMPTY_NAME;
+    }
+    if f.idle {
+        return IDLE_RULE;
+    }
+    if f.full {
+        return FULL_PILE;
+    }
+    0
+}
+
+// What they find of a fire, by the refusal of its step, 0 where it is taken.
+fn rule_stop(number: u8) -> u8
+    ensures { λ r. ⌜ r ≡ firstStop (checks (stepFindings number)) ⌝ }
+{
+    first_stop(Findings {
+        missing: number == NO_RULE,
+        beyond: false,
+        empty: false,
+        idle: number == IDLE_RULE,
+        full: number == FULL_PILE,
+    })
+}
+
+// What they find of a name; `empty` where the call asks for one that is held and it is not.
+fn name_stop(i: usize, empty: bool) -> u8
+    ensures { λ r. ⌜ r ≡ firstStop (checks (nameFindings i empty)) ⌝ }
+{
+    first_stop(Findings {
+        missing: false,
+        beyond: NAMES <= i,
+        empty,
+        idle: false,
+        full: false,
+    })
+}
+
+// Where a name stands; the first place for one above the last.
+fn name_place(i: usize) -> usize
+    ensures { λ r. ⌜ (r ≡ namePlace i) × (r < nameCount) ⌝ }
+{
+    if NAMES <= i {
+        return 0;
+    }
+    i
+}
+
 // ---- firing
 // Fires rule n of the table that the first bytes are, as many as `size`: a step of a walk.
 fn step_on(
@@ -100,6 +156,16 @@ fn step_on(
     take_step(&bytes[..size], t, n, pile, c, counts, COUNT_CEILING)
 }
 
+// The refusal of a step, 0 where it is taken.
+fn refusal_of(taken: Taken) -> u8
+    ensures { λ r. ⌜ r ≡ stepRefusal taken ⌝ }
+{
+    match taken {
+        Taken::Refused(number) => number,
+        Taken::Onward(f) => 0,
+    }
+}
+
 pub fn fired(d: Desk, rule: u16) -> Next
     requires { ⌜ Good d ⌝ }
     ensures { λ r. ⌜ Moves (fires rule) d (r .told) (r .desk) ⌝ }
@@ -110,9 +176,14 @@ pub fn fired(d: Desk, rule: u16) -> Next
     let placed = d.placed;
     let mut counts = d.counts;
     let mut pile = d.pile;
-    match step_on(&d.bytes, size, t, n, &mut pile, placed, &mut counts) {
-        Taken::Refused(number) => {
-            return refused(d, number);
+    let taken = step_on(&d.bytes, size, t, n, &mut pile, placed, &mut counts);
+    let number = rule_stop(refusal_of(taken));
+    if number != 0 {
+        return refused(d, number);
+    }
+    match taken {
+        Taken::Refused(k) => {
+            return refused(d, k);
         }
         Taken::Onward(f) => {
             let after = f.placed;
@@ -133,8 +204,9 @@ pub fn saved(d: Desk, name: u8) -> Next
     ensures { λ r. ⌜ Moves (saves name) d (r .told) (r .desk) ⌝ }
 {
     let i = name as usize;
-    if NAMES <= i {
-        return refused(d, BAD_NAME);
+    let number = name_stop(i, false);
+    if number != 0 {
+        return refused(d, number);
     }
     let placed = d.placed;
     let pile = d.pile;
@@ -156,12 +228,11 @@ pub fn returned(d: Desk, name: u8) -> Next
     ensures { λ r. ⌜ Moves (returns name) d (r .told) (r .desk) ⌝ }
 {
     let i = name as usize;
-    if NAMES <= i {
-        return refused(d, BAD_NAME);
-    }
-    let s = d.names[i];
-    if !s.held {
-        return refused(d, EMPTY_NAME);
+    let at = name_place(i);
+    let s = d.names[at];
+    let number = name_stop(i, !s.held);
+    if number != 0 {
+        return refused(d, number);
     }
     let placed = s.placed;
     let pile = s.pile;
@@ -181,16 +252,15 @@ pub fn forgotten(d: Desk, name: u8) -> Next
     ensures { λ r. ⌜ Moves (forgets name) d (r .told) (r .desk) ⌝ }
 {
     let i = name as usize;
-    if NAMES <= i {
-        return refused(d, BAD_NAME);
-    }
-    let mut s = d.names[i];
-    if !s.held {
-        return refused(d, EMPTY_NAME);
+    let at = name_place(i);
+    let mut s = d.names[at];
+    let number = name_stop(i, !s.held);
+    if number != 0 {
+        return refused(d, number);
     }
     s.held = false;
     let mut next = d;
-    next.names[i] = s;
+    next.names[at] = s;
     Next {
         desk: next,
         told: Told::Done,
@@ -198,18 +268,6 @@ pub fn forgotten(d: Desk, name: u8) -> Next
 }
 
 // ---- opening
-// Copies the bytes to the front of a buffer.
-fn copy(from: &[u8], to: &mut [u8])
-    requires { ⌜ length (now from) ≤ length (now to) ⌝ }
-    ensures { λ _. ⌜ now (to .exit) ≡ paste (now (to .entry)) 0 (now (from .entry)) (length (now (from .entry))) ⌝ }
-{
-    let mut i = 0;
-    while i < from.len() {
-        to[i] = from[i];
-        i += 1;
-    }
-}
-
 // A desk on an accepted table.
 fn set_up(table: &[u8], t: Table) -> Desk
     requires { ⌜ Holds (now table) t ⌝ }
@@ -298,7 +356,7 @@ pub fn looked(d: Desk) -> Sight
     let states = placed.states;
     let top = placed.top;
     let mut pile = d.pile;
-    settle(&mut pile, top);
+    bring_front(&mut pile, top);
     Sight {
         states,
         length: PILE - top,

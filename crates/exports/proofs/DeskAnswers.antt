@@ -3,8 +3,8 @@ use mathlib.Core.Path.{_≡_, ap, refl, sym, _∙_}
 use mathlib.Core.List.{List}
 use Prim.Native.Nat.{ℕ}
 use native.Mathlib.Omega.{arith}
-use Rattle.model.specs.declared.Told.{Told}
-use Rattle.model.specs.Desks.{Call, fires, openTold, toldPlace, toldRefusal}
+use Rattle.desk_model.specs.declared.Told.{Told}
+use Rattle.desk_model.specs.Desks.{Call, fires, openTold, toldPlace, toldRefusal}
 use Rattle.model.specs.Tables.{Reading, accepted, read, refused}
 use Rattle.model.proofs.RefusalNumbers.{Numbered9, read-numbered}
 use Rattle.desk.specs.declared.Desk.{Desk}

@@ -3,9 +3,9 @@ use mathlib.Core.Path.{_≡_, ap, _∙_}
 use mathlib.Core.List.{List}
 use Prim.Native.Nat.{ℕ}
 use lib.IntN.{ℤ}
-use Rattle.model.specs.declared.Planned.{Planned}
-use Rattle.model.specs.declared.Window.{Window}
-use Rattle.model.specs.Hours.{PlanMeans, planCall, plannedPlace, plannedRefusal}
+use Rattle.plan_model.specs.declared.Planned.{Planned}
+use Rattle.plan_model.specs.declared.Window.{Window}
+use Rattle.plan_model.specs.Hours.{PlanMeans, planCall, plannedPlace, plannedRefusal}
 use Rattle.plans.specs.Planning.{Plans}
 use Rattle.plans.proofs.Outcomes.{plans-mean}
 use Rattle.exports.specs.PlanCalls.{PlanAnswers, countsOf, hoursOf}

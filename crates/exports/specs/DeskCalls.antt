@@ -2,8 +2,8 @@
 use mathlib.Core.Path.{_≡_}
 use mathlib.Core.List.{List}
 use Prim.Native.Nat.{ℕ}
-use Rattle.model.specs.declared.Told.{Told}
-use Rattle.model.specs.Desks.{Call, fires, openTold, toldPlace, toldProcesses, toldRefusal}
+use Rattle.desk_model.specs.declared.Told.{Told}
+use Rattle.desk_model.specs.Desks.{Call, fires, openTold, toldPlace, toldProcesses, toldRefusal}
 use Rattle.model.specs.Tables.{read}
 use Rattle.desk.specs.declared.Desk.{Desk}
 use Rattle.desk.specs.Promises.{Good, Leaves, Opened, noDesk, outcomeOf}

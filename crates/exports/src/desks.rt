@@ -10,9 +10,9 @@ use desk::looked;
 use desk::open;
 use desk::returned;
 use desk::saved;
-use model::Told;
+use desk_model::Told;
 ghost use mathlib.Core.Path.{_≡_};
-ghost use Rattle.model.specs.Desks.{saves, returns, forgets, toldRefusal, toldPlace, toldProcesses};
+ghost use Rattle.desk_model.specs.Desks.{saves, returns, forgets, toldRefusal, toldPlace, toldProcesses};
 ghost use Rattle.desk.specs.Promises.{Good, countsOf, shown, sightOf};
 ghost use Rattle.exports.specs.DeskCalls.{DeskAnswers, DeskFires, DeskOpens, fireTold};
 

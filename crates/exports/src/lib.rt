@@ -1,6 +1,9 @@
 // The calls for C and Rust. Here the three of document 01: slices as pointer and length, the answer as 16 numbers. The clauses of each are the mission's
 // demands, in figures; `word` is demand 3 without its premises. The desk's calls are in
 // desks.rt, the plan in planning.rt.
+mod desks;
+mod planning;
+
 use model::Answered;
 use model::Ran;
 use walk::FIGURES;
@@ -10,9 +13,6 @@ ghost use lib.ListN.{length, getD, take, drop};
 ghost use Rattle.model.specs.Calls.{answerCall, runCall, walkCall, answerFigures, runFigures};
 ghost use Rattle.model.specs.Demands.{LogHolds, Demand2Walk, TookPart};
 ghost use Rattle.exports.specs.Figures.{sixteen, AnswerLeaves, RunLeaves, WalkLeaves, Word, RunWord, AnswerDemand, RunDemand};
-
-mod desks;
-mod planning;
 
 // The figures of an answer or a run; a place that a case does not name is 0.
 fn put(

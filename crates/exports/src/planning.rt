@@ -1,11 +1,11 @@
 // The plan for C and Rust: the hours come as one struct, by value, and the answer is the number and the place of the refusal.
-use model::Planned;
-use model::WINDOW_PLACES;
-use model::Window;
+use plan_model::Planned;
+use plan_model::WINDOW_PLACES;
+use plan_model::Window;
 use plans::plan;
 use table::Table;
 ghost use mathlib.Core.Path.{_≡_};
-ghost use Rattle.model.specs.Hours.{PlanMeans, planCall, plannedPlace, plannedRefusal};
+ghost use Rattle.plan_model.specs.Hours.{PlanMeans, planCall, plannedPlace, plannedRefusal};
 ghost use Rattle.exports.specs.PlanCalls.{PlanAnswers, countsOf, hoursOf};
 
 // The windows of one process, and how many of them count.

@@ -12,10 +12,10 @@ use borrow.Author.Tests.{lt-ltb, le-ltb, ltb-true, ltb-false}
 use Rattle.model.specs.declared.Group.{Group}
 use Rattle.model.specs.Groups.{Processes, merge, processBits, processesOf, restrict, sameGroup}
 use Rattle.model.specs.Systems.{Rule, Configuration, fire, fired}
-use Rattle.model.specs.Words.{Located}
+use Rattle.model.proofs.Words.{Located}
 use Rattle.model.proofs.Groups.{bits-same}
 use Rattle.model.proofs.Tests.{by-test}
-use Rattle.firing.specs.declared.Placed.{Placed}
+use Rattle.model.specs.declared.Placed.{Placed}
 use Rattle.firing.specs.declared.Fired.{Fired}
 use Rattle.firing.specs.declared.Firing.the-variants.{Idle, Full, Done}
 use Rattle.firing.specs.Piles.{configuration, firing, firedPile, Fires}

@@ -1,3 +1,4 @@
 pub mod Piles
 pub mod Scans
 pub mod Firings
+pub mod CodeTests

@@ -12,11 +12,12 @@ use lib.Seq.{drop-cons, drop-drop}
 use borrow.Author.Tests.{eq-eqb, ne-eqb, lt-ltb, le-ltb, ltb-true, ltb-false}
 use Rattle.model.specs.Groups.{Processes, apartTest, processesOf, restrict, sameGroup}
 use Rattle.model.specs.Systems.{Rule, enabled}
-use Rattle.model.specs.Words.{Located, removeFirst}
-use Rattle.model.proofs.CodeTests.{topsScan, scan-is}
-use Rattle.model.proofs.Tests.{by-test}
-use Rattle.shapes.proofs.Ranges.{allBelow, all-below, sameBool, same-bool}
-use Rattle.firing.specs.declared.Placed.{Placed}
+use Rattle.model.proofs.Words.{Located}
+use Rattle.model.specs.Words.{removeFirst}
+use Rattle.firing.proofs.CodeTests.{topsScan, scan-is}
+use Rattle.model.proofs.Tests.{by-test, allBelow-at, sameBool, same-bool}
+use Rattle.model.specs.Lists.{allBelow}
+use Rattle.model.specs.declared.Placed.{Placed}
 use Rattle.firing.specs.Piles.{configuration}
 use Rattle.firing.specs.Places.{place, firingPlace}
 
@@ -25,8 +26,8 @@ use Rattle.firing.specs.Places.{place, firingPlace}
 pub apart-bits : (x y : ℕ) → x ≤ 15 → y ≤ 15 → eqb (bitAnd x y) 0 ≡ apartTest (processesOf x) (processesOf y)
 apart-bits x y h q =
     same-bool (eqb (bitAnd x y) 0) (apartTest (processesOf x) (processesOf y))
-    (all-below 16 (λ j. sameBool (eqb (bitAnd x j) 0) (apartTest (processesOf x) (processesOf j))) y
-    (all-below 16 (λ i. allBelow 16 (λ j. sameBool (eqb (bitAnd i j) 0) (apartTest (processesOf i) (processesOf j)))) x refl (omega arith)) (omega arith))
+    (allBelow-at 16 (λ j. sameBool (eqb (bitAnd x j) 0) (apartTest (processesOf x) (processesOf j)))
+    (allBelow-at 16 (λ i. allBelow 16 (λ j. sameBool (eqb (bitAnd i j) 0) (apartTest (processesOf i) (processesOf j)))) refl x (omega arith)) y (omega arith))
 
 -- ---- the scan, letter by letter
 ltb-suc : (m n : ℕ) → ltb m n ≡ ltb (suc m) (suc n)

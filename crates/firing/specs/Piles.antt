@@ -9,7 +9,7 @@ use lib.ListN.{length, take, drop}
 use Rattle.model.specs.Groups.{Processes, processBits}
 use Rattle.model.specs.Lists.{Each}
 use Rattle.model.specs.Systems.{Configuration}
-use Rattle.firing.specs.declared.Placed.{Placed}
+use Rattle.model.specs.declared.Placed.{Placed}
 use Rattle.firing.specs.declared.Firing.{Firing}
 use Rattle.firing.specs.declared.Firing.the-variants.{Idle, Full, Done}
 
@@ -26,12 +26,16 @@ pub record Stands (n : ℕ) (pile : List ℕ) (c : Placed) : Type 0 where
 -- L are the processes of the rule's letter; request 2.5: a fired rule tells them as bits
 unfoldable pub firing : ℕ → Processes → Option Configuration → Firing
 firing n L none = Idle
-firing n L (some d) = cond (ltb n (length (d .word))) Full (Done (record { placed = record { states = d .states; top = n - length (d .word) }; processes = processBits L }))
+firing n L (some d) =
+    cond (ltb n (length (d .word))) Full
+    (Done (record { placed = record { states = d .states; top = n - length (d .word) }; processes = processBits L }))
 
--- the new word at the buffer's end, what lies before it unchanged; nothing changes where the rule does not fire or the word does not fit
+-- the new word at the buffer's end, what lies before it unchanged; nothing changes where the rule does not fire or the
+-- word does not fit
 unfoldable pub firedPile : List ℕ → Option Configuration → List ℕ
 firedPile pile none = pile
-firedPile pile (some d) = cond (ltb (length pile) (length (d .word))) pile (take (length pile - length (d .word)) pile ++ d .word)
+firedPile pile (some d) =
+    cond (ltb (length pile) (length (d .word))) pile (take (length pile - length (d .word)) pile ++ d .word)
 
 pub record Fires (L : Processes) (o : Option Configuration) (pile pile′ : List ℕ) (r : Firing) : Type 0 where
   pub answer : r ≡ firing (length pile) L o

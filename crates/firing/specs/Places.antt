@@ -6,9 +6,10 @@ use lib.Dec.{eqb}
 use lib.ListN.{length, take, drop}
 use Rattle.model.specs.Groups.{Processes, apartTest, restrict, sameGroup}
 use Rattle.model.specs.Systems.{Rule}
-use Rattle.firing.specs.declared.Placed.{Placed}
+use Rattle.model.specs.declared.Placed.{Placed}
 
--- from the top: the place in the word of a, which no letter above it shares a process with; the word's length where there is none
+-- from the top: the place in the word of a, which no letter above it shares a process with; the word's length where
+-- there is none
 unfoldable pub place : (ℕ → Processes) → ℕ → List ℕ → ℕ
 place loc a [] = 0
 place loc a (b ∷ w) = cond (eqb b a) 0 (cond (apartTest (loc a) (loc b)) (suc (place loc a w)) (suc (length w)))
@@ -16,7 +17,8 @@ place loc a (b ∷ w) = cond (eqb b a) 0 (cond (apartTest (loc a) (loc b)) (suc 
 -- the place in the buffer of the letter at which the rule fires; the buffer's length where it does not fire
 unfoldable pub firingPlace : (ℕ → Processes) → Rule → List ℕ → Placed → ℕ
 firingPlace loc r pile c =
-    cond (sameGroup (restrict (loc (r .letter)) (c .states)) (r .before)) (c .top + place loc (r .letter) (drop (c .top) pile)) (length pile)
+    cond (sameGroup (restrict (loc (r .letter)) (c .states)) (r .before))
+    (c .top + place loc (r .letter) (drop (c .top) pile)) (length pile)
 
 -- the letters from `top` up to p one place on, over the one at p
 unfoldable pub closed : List ℕ → ℕ → ℕ → List ℕ

@@ -1,11 +1,12 @@
 // Firing a rule on a word that stands at the end of its buffer: only what lies above the letter that fires is moved, by one place.
-use automaton::groups;
-use model::Group;
+use model::Placed;
 use numbers::wide;
+use states::groups;
 use table::Table;
 use table::letter_bits;
 use table::rule_after;
 use table::rule_before;
+use table::rule_bits;
 use table::rule_letter;
 use table::written_count;
 use table::written_letter;
@@ -15,16 +16,9 @@ ghost use lib.ListN.{length, drop, getD};
 ghost use lib.Seq.{paste};
 ghost use Rattle.model.specs.Groups.{apartTest, processesOf};
 ghost use Rattle.model.specs.Systems as Systems;
-ghost use Rattle.table.specs.Reading.{BitsOf, Holds, systemIn, ruleIn};
+ghost use Rattle.table.specs.Reading.{Holds, systemIn, ruleIn};
 ghost use Rattle.firing.specs.Piles.{configuration, Stands, Fires};
 ghost use Rattle.firing.specs.Places.{place, firingPlace, closed, rewritten};
-
-// A configuration whose word stands at the end of a buffer: its states, and the place of the word's first letter.
-#[repr(C)]
-pub struct Placed {
-    pub states: Group,
-    pub top: usize,
-}
 
 // A rule that fired: the configuration after it, and the processes of its letter as bits.
 pub struct Fired {
@@ -37,15 +31,6 @@ pub enum Firing {
     Idle,
     Full,
     Done(Fired),
-}
-
-// The processes of the letter of rule k, as bits.
-pub fn rule_bits(table: &[u8], t: Table, k: usize) -> u8
-    requires { ⌜ Holds (now table) t × (k < t .rules) ⌝ }
-    ensures { λ r. ⌜ BitsOf (systemIn (now (table .entry)) .loc (ruleIn (now (table .entry)) k .letter)) r ⌝ }
-{
-    let a = rule_letter(table, t, k);
-    letter_bits(table, t, wide(a))
 }
 
 // Letter b shares no process with those in bits.

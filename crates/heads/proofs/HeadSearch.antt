@@ -15,14 +15,13 @@ use Rattle.model.specs.Records.{recordLength}
 use Rattle.model.specs.Systems.{Rule}
 use Rattle.model.specs.Tables.{ruleOf}
 use Rattle.model.specs.Lists.{filter}
-use Rattle.model.specs.Searches.{isHead}
-use Rattle.model.proofs.FreshPaths.{filter-append}
+use Rattle.searches.specs.Searches.{isHead}
+use Rattle.model.proofs.Lists.{filter-append, map-append}
 use Rattle.model.proofs.Groups.{sameGroup-true}
-use Rattle.model.proofs.Lists.{map-append}
-use Rattle.model.proofs.RoundHeads.{isHead-of, isHead-true}
+use Rattle.searches.proofs.RoundHeads.{isHead-of, isHead-true}
 use Rattle.model.proofs.Tests.{and-left, and-right}
-use Rattle.automaton.specs.StateSets.{firstFrom}
-use Rattle.automaton.proofs.StateSets.{First, first-at}
+use Rattle.states.specs.StateSets.{firstFrom}
+use Rattle.states.proofs.StateSets.{First, first-at}
 use Rattle.scratch.specs.Regions.{activeAt, keysAt}
 use Rattle.packs.specs.Packs.{Bytes, packed}
 use Rattle.packs.proofs.Packs.{same-bits}
@@ -32,7 +31,7 @@ use Rattle.table.specs.Reading.{BitsOf, Holds, ruleIn, systemIn}
 use Rattle.table.proofs.Layouts.{table-modest}
 use Rattle.logs.proofs.Rules.{rule-over}
 use Rattle.logs.proofs.Logs.{over-byte}
-use Rattle.rules.specs.Regions.{inSet, positionCeiling}
+use Rattle.rules.specs.Regions.{hasPosition, positionCeiling}
 use Rattle.rules.specs.Rules.{orderedRule}
 use Rattle.rules.proofs.HeadRuns.{head-candidates, offersOf, runOffers}
 use Rattle.rules.proofs.RuleOrder.{same-between}
@@ -152,13 +151,13 @@ pub record Searching (table : List ℕ) (t : Table) (round : Round) (head : Head
   pub begins : m ≡ 0 → position ≡ from
   pub ruled : from + m ≤ t .rules
   pub same : (q : ℕ) → from ≤ q → q < from + m → headAt table s₀ q ≡ headAt table s₀ from
-  pub idle : (q : ℕ) → from + m ≤ q → q < position → inSet s₀ activeAt q ≡ false
-  pub active : position < positionCeiling → inSet s₀ activeAt position ≡ true
+  pub idle : (q : ℕ) → from + m ≤ q → q < position → hasPosition s₀ activeAt q ≡ false
+  pub active : position < positionCeiling → hasPosition s₀ activeAt position ≡ true
   pub inside : position ≤ positionCeiling
   pub arrived : Arrived table round (headHeld table round log₀ s₀ from) (filter (isOffered round) (searchedAt table round s₀ from m)) count log₀ s₀ total log s
 
 pub searching-start : {table : List ℕ} {t : Table} {round : Round} {head : Head} {from count : ℕ} {log s : List ℕ}
-    → InRound table t round log s × (from < t .rules) × (inSet s activeAt from ≡ true) × Leading table s from
+    → InRound table t round log s × (from < t .rules) × (hasPosition s activeAt from ≡ true) × Leading table s from
     × HeadOf table (orderedRule s from) head × (round .base ≤ count) × (count ≤ round .n)
     → Searching table t round head from count log s log s from count
 searching-start {table} {t} {round} {from = from} {count = count} {log = log} {s = s} p = record {
@@ -210,13 +209,13 @@ module _ {table : List ℕ} {t : Table} {round : Round} {head : Head} {from coun
   ruled-at p l = here .prepared .ordered .below p l
 
   -- the rule at an active position is looked at if it has the head; at another position none is
-  active-rule : (p : ℕ) → p < t .rules → inSet s₀ activeAt p ≡ isActive round (ruleIn table (orderedRule s₀ p))
+  active-rule : (p : ℕ) → p < t .rules → hasPosition s₀ activeAt p ≡ isActive round (ruleIn table (orderedRule s₀ p))
   active-rule p l = here .active p (omega (arith, few)) ∙ rw (lt-ltb p (t .rules) l)
 
-  idle-none : (p : ℕ) → p < t .rules → inSet s₀ activeAt p ≡ false → offersAt p ≡ []
+  idle-none : (p : ℕ) → p < t .rules → hasPosition s₀ activeAt p ≡ false → offersAt p ≡ []
   idle-none p l f = rw (sym (active-rule p l) ∙ f)
 
-  looked-offers : (p : ℕ) → p < t .rules → inSet s₀ activeAt p ≡ true → headAt table s₀ p ≡ headAt table s₀ from → offersAt p ≡ ruleCandidates table (round .number) (orderedRule s₀ p)
+  looked-offers : (p : ℕ) → p < t .rules → hasPosition s₀ activeAt p ≡ true → headAt table s₀ p ≡ headAt table s₀ from → offersAt p ≡ ruleCandidates table (round .number) (orderedRule s₀ p)
   looked-offers p l y e = rw (sym (active-rule p l) ∙ y, isHead-of a g (ruleIn table (orderedRule s₀ p)) e)
 
   pub searching-round : InRound table t round log s
@@ -273,7 +272,7 @@ module _ {table : List ℕ} {t : Table} {round : Round} {head : Head} {from coun
     )
 
     pub searching-turn : {k total′ : ℕ} {log′ s′ : List ℕ} {next : ℕ} → k ≡ orderedRule s position → Arrived table round (heldBelow log (head .letter) (head .before) (round .base)) (ruleOffers table round k) total log s total′ log′ s′
-        → next ≡ firstFrom (inSet s′ activeAt) (position + 1) (positionCeiling - (position + 1)) → Searching table t round head from count log₀ s₀ log′ s′ next total′
+        → next ≡ firstFrom (hasPosition s′ activeAt) (position + 1) (positionCeiling - (position + 1)) → Searching table t round head from count log₀ s₀ log′ s′ next total′
     searching-turn {k} {total′} {log′} {s′} {next} is d e = record {
       here = here;
       within = o .within;
@@ -299,11 +298,11 @@ module _ {table : List ℕ} {t : Table} {round : Round} {head : Head} {from coun
         all-arrived : Arrived table round held (offered (o .m) ++ ruleOffers table round k) count log₀ s₀ total′ log′ s′
         all-arrived = arrived-both (o .arrived) (subst (λ (f : ℕ → Bool). Arrived table round f (ruleOffers table round k) total log s total′ log′ s′) held-is d)
 
-        active-now : (p : ℕ) → p < positionCeiling → inSet s′ activeAt p ≡ inSet s₀ activeAt p
+        active-now : (p : ℕ) → p < positionCeiling → hasPosition s′ activeAt p ≡ hasPosition s₀ activeAt p
         active-now p l = active-kept table t holds s₀ s′ (λ i a b. all-arrived .kept i (omega arith) b) p l
 
-        next-at : First (inSet s′ activeAt) (position + 1) (positionCeiling - (position + 1)) next
-        next-at = first-at (inSet s′ activeAt) (position + 1) (positionCeiling - (position + 1)) next e
+        next-at : First (hasPosition s′ activeAt) (position + 1) (positionCeiling - (position + 1)) next
+        next-at = first-at (hasPosition s′ activeAt) (position + 1) (positionCeiling - (position + 1)) next e
 
         candidates-are : offered (position + 1 - from) ≡ offered (o .m) ++ ruleOffers table round k
         candidates-are =
@@ -336,7 +335,7 @@ module _ {table : List ℕ} {t : Table} {round : Round} {head : Head} {from coun
       ],
     )
       where
-        lit : inSet s₀ activeAt q ≡ true
+        lit : hasPosition s₀ activeAt q ≡ true
         lit = active-rule q l ∙ and-left (isActive round (ruleIn table (orderedRule s₀ q))) (isHead a g (ruleIn table (orderedRule s₀ q))) y
 
         same : headAt table s₀ q ≡ headAt table s₀ from

@@ -11,13 +11,14 @@ use borrow.Author.Tests.{eqb-true, ne-eqb}
 use Rattle.model.specs.declared.Group.{Group}
 use Rattle.model.specs.Groups.{Processes, restrict, sameGroup}
 use Rattle.model.specs.Log.{Path, Record, candidate, paths, readsAt, recordAt}
-use Rattle.model.specs.Searches.{anyFrom, extendFresh, freshPaths}
+use Rattle.searches.specs.Searches.{anyFrom, extendFresh, freshPaths}
 use Rattle.model.specs.Systems.{Rule}
-use Rattle.model.proofs.FreshPaths.{filter-map, fresh-paths, pathFresh}
+use Rattle.model.proofs.Lists.{filter-map}
+use Rattle.searches.proofs.FreshPaths.{fresh-paths, pathFresh}
 use Rattle.model.proofs.Tests.{by-test}
-use Rattle.automaton.specs.StateSets.{firstFrom}
-use Rattle.automaton.proofs.StateSets.{first-at}
-use Rattle.packs.specs.Packs.{Bytes, maskOf, packNumber, packed, packedAfter, packedBefore, restrictedBits, unpacked}
+use Rattle.states.specs.StateSets.{firstFrom}
+use Rattle.states.proofs.StateSets.{first-at, first-cong}
+use Rattle.packs.specs.Packs.{Bytes, maskOf, packedNumber, packed, packedAfter, packedBefore, packedRestrict, unpacked}
 use Rattle.packs.proofs.Unpacked.{packed-below, restrict-below, restrict-unpacked, same-unpacked, unpacked-packed}
 use Rattle.rings.specs.Rings.{recordReads}
 use Rattle.keys.specs.Keys.{heldBelow}
@@ -26,7 +27,6 @@ use Rattle.table.specs.Reading.{ruleIn, systemIn}
 use Rattle.logs.proofs.Logs.{over-byte}
 use Rattle.logs.proofs.Rules.{rule-over}
 use Rattle.paths.proofs.Extending.{extend-end, extend-first, extend-late}
-use Rattle.paths.proofs.Turns.{first-cong}
 use Rattle.heads.specs.declared.Round.{Round}
 use Rattle.heads.specs.Rounds.{InRound, earlierLog, isOffered, ruleOffers}
 use Rattle.heads.proofs.InRounds.{round-bytes, round-fits}
@@ -36,7 +36,7 @@ use Rattle.heads.proofs.Matching.{before-is, groups-small, reads-at}
 unread-held : (log : List ℕ) (a g n : ℕ) → ((i : ℕ) → i < n → recordReads log a g i ≡ false) → (x : ℕ) → heldBelow log a g n x ≡ false
 unread-held log a g zero f x = refl
 unread-held log a g (suc n) f x =
-    ap₂ (λ (b r : Bool). b || (r && eqb x (packNumber (packedAfter log n)))) (unread-held log a g n (λ i l. f i (omega arith)) x) (f n (omega arith))
+    ap₂ (λ (b r : Bool). b || (r && eqb x (packedNumber (packedAfter log n)))) (unread-held log a g n (λ i l. f i (omega arith)) x) (f n (omega arith))
 
 pub none-held : (log : List ℕ) (a g base : ℕ) {r : ℕ} → r ≡ firstFrom (recordReads log a g) 0 base → base ≤ r → (x : ℕ) → heldBelow log a g base x ≡ false
 none-held log a g base {r} e h = unread-held log a g base (λ i l. first-at (recordReads log a g) 0 base r e .fails i (omega arith) (omega arith))
@@ -73,12 +73,12 @@ module _ {table : List ℕ} {t : Table} {round : Round} {log s : List ℕ} (here
 
   -- ---- no record reads its first letter
   module _ {a mask state g : ℕ} (some : 0 < length (rule .written)) (a-is : a ≡ getD (rule .written) 0 0) (mask-is : mask ≡ maskOf (loc a)) (state-is : state ≡ packed (rule .after))
-      (g-is : g ≡ restrictedBits mask state) where
+      (g-is : g ≡ packedRestrict mask state) where
     after-bytes : Bytes (rule .after)
     after-bytes = over-byte (loc (rule .letter)) (rule .after) (rule-over table t (here .holds) k below .1)
 
-    key-is : g ≡ restrictedBits (maskOf (loc a)) (packed (rule .after))
-    key-is = g-is ∙ ap₂ restrictedBits mask-is state-is
+    key-is : g ≡ packedRestrict (maskOf (loc a)) (packed (rule .after))
+    key-is = g-is ∙ ap₂ packedRestrict mask-is state-is
 
     unpacked-is : unpacked g ≡ restrict (loc a) (rule .after)
     unpacked-is = ap unpacked key-is ∙ restrict-unpacked (loc a) (packed (rule .after)) (packed-below (rule .after) after-bytes) ∙ ap (restrict (loc a)) (unpacked-packed (rule .after) after-bytes)

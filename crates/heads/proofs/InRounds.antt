@@ -11,7 +11,7 @@ use Rattle.model.specs.Lists.{Each}
 use Rattle.model.specs.Records.{logBytes, recordLength}
 use Rattle.model.specs.Systems.{Rule}
 use Rattle.model.proofs.Tests.{by-test}
-use Rattle.automaton.specs.StateSets.{setLength}
+use Rattle.states.specs.StateSets.{setLength}
 use Rattle.scratch.specs.Regions.{activeAt, countsEnd, keysAt, orderAt, passedAt, ringsAt}
 use Rattle.records.specs.Entries.{Fits}
 use Rattle.rings.proofs.Keeping.{freshened-log, freshened-scratch, ringed-log, ringed-scratch}
@@ -20,7 +20,7 @@ use Rattle.table.specs.declared.Table.{Table}
 use Rattle.table.specs.Reading.{Holds, ruleIn}
 use Rattle.table.proofs.Layouts.{table-modest}
 use Rattle.logs.proofs.Logs.{log-fits}
-use Rattle.rules.specs.Regions.{inSet, positionCeiling}
+use Rattle.rules.specs.Regions.{hasPosition, positionCeiling}
 use Rattle.rules.specs.Rules.{hasLetter, orderedRule, writersOf, writesLetter}
 use Rattle.rules.proofs.RegionLaws.{in-same}
 use Rattle.rules.proofs.RuleOrder.{ordered-same}
@@ -43,7 +43,7 @@ module _ (table : List ℕ) (t : Table) (holds : Holds table t) (s s′ : List �
       (λ y. rw y (ap (λ (k : ℕ). f (ruleIn table k)) (sym (order-kept p (ltb-true p (t .rules) y)))))
       (λ n. rw n)
 
-  pub active-kept : (p : ℕ) → p < positionCeiling → inSet s′ activeAt p ≡ inSet s activeAt p
+  pub active-kept : (p : ℕ) → p < positionCeiling → hasPosition s′ activeAt p ≡ hasPosition s activeAt p
   active-kept p l = in-same s s′ activeAt p (keeps (activeAt + p / 8) (omega arith) (omega arith))
 
   pub keep-prepared : Prepared table t s → Prepared table t s′

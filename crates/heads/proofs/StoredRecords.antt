@@ -9,10 +9,10 @@ use borrow.Author.Tests.{lt-ltb}
 use Rattle.model.specs.Log.{Record, recordAt}
 use Rattle.model.specs.Records.{afterAt, logBytes, recordBytes, recordLength}
 use Rattle.model.proofs.RecordBytes.{from-after, length-record, log-from}
-use Rattle.automaton.specs.StateNumbers.{stateNumber}
+use Rattle.states.specs.StateNumbers.{stateNumber}
 use Rattle.records.specs.Entries.{recordEntry, withEntry}
 use Rattle.records.proofs.Entries.{entry-bytes, length-with}
-use Rattle.packs.specs.Packs.{Bytes, packNumber, packed, packedAfter}
+use Rattle.packs.specs.Packs.{Bytes, packedNumber, packed, packedAfter}
 use Rattle.packs.proofs.Packs.{pack-group, pack-number}
 use Rattle.paths.specs.Arrivals.{stored}
 use Rattle.ranks.specs.Ranks.{SameRecord, afterNumber}
@@ -106,4 +106,4 @@ unfolding packedAfter afterAt
 own-number r = pack-group (recordBytes r) (0 * recordLength + 5) ∙ ap packed (from-after (recordBytes r) 0 r [] (sym (append-nil (recordBytes r))))
 
 pub holds-number : (log : List ℕ) (q : ℕ) (r : Record) → Bytes (r .key .after) → Holds log q r → afterNumber log q ≡ stateNumber (r .key .after)
-holds-number log q r b h = same-number (recordBytes r) log q 0 h ∙ ap packNumber (own-number r) ∙ pack-number (r .key .after) b
+holds-number log q r b h = same-number (recordBytes r) log q 0 h ∙ ap packedNumber (own-number r) ∙ pack-number (r .key .after) b

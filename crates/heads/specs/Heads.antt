@@ -9,19 +9,19 @@ use Rattle.model.specs.Groups.{Processes}
 use Rattle.model.specs.Log.{Candidate, addedRecord}
 use Rattle.model.specs.Records.{logBytes, recordLength}
 use Rattle.model.specs.Lists.{filter}
-use Rattle.automaton.specs.StateNumbers.{Over, stateCount, stateNumber}
-use Rattle.automaton.specs.StateSets.{member, setLength}
+use Rattle.states.specs.StateNumbers.{Over, stateCount, stateNumber}
+use Rattle.states.specs.StateSets.{member, setLength}
 use Rattle.scratch.specs.Regions.{activeAt, countsEnd, passedAt, passedBit, passedEnd, ringsAt, seenAt}
 use Rattle.packs.specs.Packs.{packed}
 use Rattle.keys.specs.Keys.{heldBelow}
 use Rattle.table.specs.declared.Table.{Table}
 use Rattle.table.specs.Reading.{ruleIn}
-use Rattle.rules.specs.Regions.{inSet}
+use Rattle.rules.specs.Regions.{hasPosition}
 use Rattle.rules.specs.Rules.{orderedRule}
 use Rattle.paths.specs.Arrivals.{hit, stored, taken}
 use Rattle.paths.specs.Jobs.{known, seenIn}
 use Rattle.ranks.specs.Ranks.{RanksOnly, Sorted}
-use Rattle.heads.specs.declared.Reached.{Reached}
+use Rattle.heads.specs.declared.Progress.{Progress}
 use Rattle.heads.specs.declared.Round.{Round}
 use Rattle.heads.specs.Rounds.{earlierLog, headAdditions, headAt, headCandidates, isOffered}
 
@@ -34,22 +34,28 @@ FirstByte L from = (from ≤ setLength) × ((g : Group) → Over L g → 8 * fro
 pub record DepthCleared (from depth : ℕ) (s s′ : List ℕ) : Type 0 where
   pub size : length s′ ≡ length s
   pub clear : (found : Bool) (m : ℕ) → 8 * from ≤ m → m < stateCount → member s′ (passedBit depth found m) ≡ false
-  pub others : (d : ℕ) (found : Bool) (m : ℕ) → (d ≡ depth → ⊥) → m < stateCount → member s′ (passedBit d found m) ≡ member s (passedBit d found m)
+  pub others : (d : ℕ) (found : Bool) (m : ℕ) → (d ≡ depth → ⊥) → m < stateCount
+      → member s′ (passedBit d found m) ≡ member s (passedBit d found m)
   pub before : (i : ℕ) → i < passedAt + 2 * setLength → getD s′ i 0 ≡ getD s i 0
   pub behind : (i : ℕ) → passedEnd ≤ i → getD s′ i 0 ≡ getD s i 0
 
 -- no state from a number on is passed at the depths behind the first and below `depth`
 pub record PassedCleared (from depth : ℕ) (s s′ : List ℕ) : Type 0 where
   pub size : length s′ ≡ length s
-  pub clear : (d : ℕ) (found : Bool) (m : ℕ) → 1 ≤ d → d < depth → 8 * from ≤ m → m < stateCount → member s′ (passedBit d found m) ≡ false
+  pub clear : (d : ℕ) (found : Bool) (m : ℕ) → 1 ≤ d → d < depth → 8 * from ≤ m → m < stateCount
+      → member s′ (passedBit d found m) ≡ false
   pub before : (i : ℕ) → i < passedAt + 2 * setLength → getD s′ i 0 ≡ getD s i 0
   pub behind : (i : ℕ) → passedEnd ≤ i → getD s′ i 0 ≡ getD s i 0
 
 -- ---- searches
--- candidates have arrived one after the other: the first for each end that was not seen before and is not held is written, as long as the log has room
-pub record Arrived (table : List ℕ) (round : Round) (held : ℕ → Bool) (cs : List Candidate) (count : ℕ) (log s : List ℕ) (count′ : ℕ) (log′ s′ : List ℕ) : Type 0 where
+-- candidates have arrived one after the other: the first for each end that was not seen before and is not held is
+-- written, as long as the log has room
+pub record Arrived (table : List ℕ) (round : Round) (held : ℕ → Bool) (cs : List Candidate) (count : ℕ) (log s : List ℕ)
+    (count′ : ℕ) (log′ s′ : List ℕ) : Type 0 where
   pub counted : count′ ≡ min (count + length (taken (known held s) cs)) (round .n + 1)
-  pub written : log′ ≡ stored (round .n) log count (map (addedRecord (round .number) (earlierLog table (round .number))) (taken (known held s) cs))
+  pub written : log′
+      ≡ stored (round .n) log count
+      (map (addedRecord (round .number) (earlierLog table (round .number))) (taken (known held s) cs))
   pub seen : (x : ℕ) → x < stateCount → seenIn s′ x ≡ (seenIn s x || hit cs x)
   pub scratch-length : length s′ ≡ length s
   pub kept : (i : ℕ) → seenAt + setLength ≤ i → i < passedAt + 2 * setLength → getD s′ i 0 ≡ getD s i 0
@@ -57,13 +63,14 @@ pub record Arrived (table : List ℕ) (round : Round) (held : ℕ → Bool) (cs 
 
 -- no active position before p has its head
 abbrev pub Leading : List ℕ → List ℕ → ℕ → Type 0
-Leading table s p = (q : ℕ) → q < p → inSet s activeAt q ≡ true → headAt table s q ≡ headAt table s p → ⊥
+Leading table s p = (q : ℕ) → q < p → hasPosition s activeAt q ≡ true → headAt table s q ≡ headAt table s p → ⊥
 
 -- q is the position of the first active rule behind p that has another head than the rule at p, or there is none
 pub record NextHead (table : List ℕ) (t : Table) (s : List ℕ) (p q : ℕ) : Type 0 where
   pub later : p < q
-  pub active : q < t .rules → inSet s activeAt q ≡ true
-  pub same : (r : ℕ) → p ≤ r → r < q → r < t .rules → inSet s activeAt r ≡ true → headAt table s r ≡ headAt table s p
+  pub active : q < t .rules → hasPosition s activeAt q ≡ true
+  pub same : (r : ℕ) → p ≤ r → r < q → r < t .rules → hasPosition s activeAt r ≡ true
+      → headAt table s r ≡ headAt table s p
   pub other : q < t .rules → headAt table s q ≡ headAt table s p → ⊥
 
 -- the letter and the states before of the rule at p
@@ -78,9 +85,12 @@ abbrev pub headHeld : List ℕ → Round → List ℕ → List ℕ → ℕ → �
 headHeld table round log s p = heldBelow log (letterOf table s p) (packed (beforeOf table s p)) (round .base)
 
 -- all active rules with the head of the rule at p have been searched
-pub record HeadSearched (table : List ℕ) (t : Table) (round : Round) (p count : ℕ) (log s : List ℕ) (r : Reached) (log′ s′ : List ℕ) : Type 0 where
+pub record HeadSearched (table : List ℕ) (t : Table) (round : Round) (p count : ℕ) (log s : List ℕ) (r : Progress)
+    (log′ s′ : List ℕ) : Type 0 where
   pub next : NextHead table t s p (r .position)
-  pub arrived : Arrived table round (headHeld table round log s p) (filter (isOffered round) (headCandidates table round (letterOf table s p) (beforeOf table s p))) count log s (r .count) log′ s′
+  pub arrived : Arrived table round (headHeld table round log s p)
+      (filter (isOffered round) (headCandidates table round (letterOf table s p) (beforeOf table s p))) count log s
+      (r .count) log′ s′
 
 -- the records from `from` on and below `to` are sorted, where the log can hold them
 pub record SortedNew (from to n : ℕ) (log s log′ s′ : List ℕ) : Type 0 where
@@ -89,11 +99,16 @@ pub record SortedNew (from to n : ℕ) (log s log′ s′ : List ℕ) : Type 0 w
   pub ranks : RanksOnly s s′
 
 -- the records of the head have been added behind `count` records, or there is no room for them
-pub record HeadAdded (table : List ℕ) (t : Table) (round : Round) (p count : ℕ) (log s : List ℕ) (r : Reached) (log′ s′ : List ℕ) : Type 0 where
+pub record HeadAdded (table : List ℕ) (t : Table) (round : Round) (p count : ℕ) (log s : List ℕ) (r : Progress)
+    (log′ s′ : List ℕ) : Type 0 where
   pub next : NextHead table t s p (r .position)
-  pub counted : r .count ≡ min (count + length (headAdditions table round (letterOf table s p) (beforeOf table s p))) (round .n + 1)
+  pub counted : r .count
+      ≡ min (count + length (headAdditions table round (letterOf table s p) (beforeOf table s p))) (round .n + 1)
   pub bytes : r .count ≤ round .n → take (r .count * recordLength) log′
-      ≡ take (count * recordLength) log ++ logBytes (map (addedRecord (round .number) (earlierLog table (round .number))) (headAdditions table round (letterOf table s p) (beforeOf table s p)))
+      ≡ take (count * recordLength) log
+      ++ logBytes
+      (map (addedRecord (round .number) (earlierLog table (round .number)))
+      (headAdditions table round (letterOf table s p) (beforeOf table s p)))
   pub front : take (round .base * recordLength) log′ ≡ take (round .base * recordLength) log
   pub log-length : length log′ ≡ length log
   pub scratch-length : length s′ ≡ length s

@@ -14,7 +14,8 @@ use Rattle.heads.specs.declared.Head.{Head}
 use Rattle.heads.specs.declared.Round.{Round}
 use Rattle.heads.specs.declared.jobs.Word.{Word}
 
--- the first m letters that rule k writes stand in their places with their masks, and those behind the last fresh one are not fresh
+-- the first m letters that rule k writes stand in their places with their masks, and those behind the last fresh one
+-- are not fresh
 pub record WordTo (table : List ℕ) (fresh k m : ℕ) (letters masks : List ℕ) (last : ℕ) : Type 0 where
   pub letters-size : length letters ≡ writtenPlaces
   pub masks-size : length masks ≡ writtenPlaces

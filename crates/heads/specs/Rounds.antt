@@ -1,4 +1,5 @@
--- A round of saturation, as the code holds it: the records of the earlier rounds stand in front and are in rings, and the rules are in order.
+-- A round of saturation, as the code holds it: the records of the earlier rounds stand in front and are in rings, and
+-- the rules are in order.
 use mathlib.Core.Path.{_≡_}
 use mathlib.Core.Bool.{Bool, true, _&&_, _||_}
 use mathlib.Core.List.{List, [], map}
@@ -10,14 +11,14 @@ use Rattle.model.specs.Lists.{anyOf, filter}
 use Rattle.model.specs.Log.{Record, Candidate, candidate, collect, logAt, paths}
 use Rattle.model.specs.Records.{letterAt, logBytes, recordLength}
 use Rattle.model.specs.Systems.{Rule}
-use Rattle.model.specs.Searches.{anyFrom, candidatesOf, isHead, ruleHead}
-use Rattle.automaton.specs.StateSets.{setLength}
+use Rattle.searches.specs.Searches.{anyFrom, candidatesOf, isHead, ruleHead}
+use Rattle.states.specs.StateSets.{setLength}
 use Rattle.scratch.specs.Regions.{activeAt, keysAt, linksEnd, passedAt, ringsAt}
 use Rattle.rings.specs.Rings.{Freshened, RingRoom, Ringed}
 use Rattle.keys.specs.Keys.{Indexed}
 use Rattle.table.specs.declared.Table.{Table}
 use Rattle.table.specs.Reading.{Holds, ruleIn, saturatedIn, systemIn}
-use Rattle.rules.specs.Regions.{inSet, positionCeiling}
+use Rattle.rules.specs.Regions.{hasPosition, positionCeiling}
 use Rattle.rules.specs.Rules.{Ordered, Writers, hasLetter, orderedRule}
 use Rattle.heads.specs.declared.Round.{Round}
 
@@ -25,7 +26,8 @@ use Rattle.heads.specs.declared.Round.{Round}
 abbrev pub earlierLog : List ℕ → ℕ → List Record
 earlierLog table number = logAt (saturatedIn table) (number - 1)
 
--- A round looks at a rule if one of its written letters is among those of the last round's records; the first round looks at all.
+-- A round looks at a rule if one of its written letters is among those of the last round's records; the first round
+-- looks at all.
 unfoldable pub isActive : Round → Rule → Bool
 isActive round r = eqb (round .number) 1 || anyOf (hasLetter (round .fresh)) (r .written)
 
@@ -55,10 +57,12 @@ pub record InRound (table : List ℕ) (t : Table) (round : Round) (log s : List 
   pub ringed : Ringed log (round .base) (round .n) ringsAt s
   pub freshened : Freshened log (round .lo) (round .base) (round .n) ringsAt s
   pub prepared : Prepared table t s
-  pub active : (p : ℕ) → p < positionCeiling → inSet s activeAt p ≡ (ltb p (t .rules) && isActive round (ruleIn table (orderedRule s p)))
+  pub active : (p : ℕ) → p < positionCeiling
+      → hasPosition s activeAt p ≡ (ltb p (t .rules) && isActive round (ruleIn table (orderedRule s p)))
   -- the keys of the records are indexed, unless the round looks at no rule
   pub links : linksEnd (round .n) ≤ length s
-  pub indexed : (p : ℕ) → p < t .rules → inSet s activeAt p ≡ true → Indexed log (round .base) (round .n) (keysAt (round .n)) s
+  pub indexed : (p : ℕ) → p < t .rules → hasPosition s activeAt p ≡ true
+      → Indexed log (round .base) (round .n) (keysAt (round .n)) s
 
 -- ---- what is searched
 -- a path without a record of the last round adds nothing, but the first round goes through all
@@ -68,7 +72,8 @@ isOffered round c = eqb (round .number) 1 || anyFrom (round .lo) (c .path)
 -- what rule k adds, and of it what is searched for
 abbrev pub ruleCandidates : List ℕ → ℕ → ℕ → List Candidate
 ruleCandidates table number k =
-    map (candidate (systemIn table .loc) (ruleIn table k) k) (paths (systemIn table .loc) (earlierLog table number) (ruleIn table k .written) (ruleIn table k .after))
+    map (candidate (systemIn table .loc) (ruleIn table k) k)
+    (paths (systemIn table .loc) (earlierLog table number) (ruleIn table k .written) (ruleIn table k .after))
 
 abbrev pub ruleOffers : List ℕ → Round → ℕ → List Candidate
 ruleOffers table round k = filter (isOffered round) (ruleCandidates table (round .number) k)
@@ -78,7 +83,8 @@ abbrev pub lookedAt : Round → ℕ → Group → Rule → Bool
 lookedAt round a g r = isActive round r && isHead a g r
 
 abbrev pub headCandidates : List ℕ → Round → ℕ → Group → List Candidate
-headCandidates table round a g = candidatesOf (systemIn table .loc) (earlierLog table (round .number)) (lookedAt round a g) (systemIn table .rules) 0
+headCandidates table round a g =
+    candidatesOf (systemIn table .loc) (earlierLog table (round .number)) (lookedAt round a g) (systemIn table .rules) 0
 
 unfoldable pub headAdditions : List ℕ → Round → ℕ → Group → List Candidate
 headAdditions table round a g = collect (earlierLog table (round .number)) (headCandidates table round a g) []

@@ -13,7 +13,7 @@ ghost use mathlib.Core.Bool.{cond, true, false};
 ghost use mathlib.Core.List.{[]};
 ghost use Prim.Native.Nat.{_-_, _<_, _≤_};
 ghost use lib.ListN.{length};
-ghost use Rattle.automaton.specs.StateSets.{firstFrom};
+ghost use Rattle.states.specs.StateSets.{firstFrom};
 ghost use Rattle.scratch.specs.Regions.{ringsAt};
 ghost use Rattle.rings.specs.Rings.{Freshened, RingRoom, Ringed, recordReads};
 ghost use Rattle.table.specs.Reading.{ruleIn};

@@ -10,13 +10,12 @@ use lib.Dec.{eqb, ltb, leb}
 use lib.IntN.{ℤ, pos}
 use lib.ListN.{getD, take}
 use borrow.Author.Tests.{leb-true, leb-false, ltb-true, ltb-false}
-use Rattle.model.specs.declared.Window.{Window}
-use Rattle.model.specs.Groups.{Process, p0, p1, p2, p3, has, processesOf}
+use Rattle.plan_model.specs.declared.Window.{Window}
+use Rattle.model.specs.Groups.{Process, p0, p1, p2, p3, has, processesOf, numberOf}
 use Rattle.model.specs.Lists.{anyOf, isMissing, valueOr}
-use Rattle.model.specs.Tables.{numberOf}
-use Rattle.model.specs.Hours.{PlannedStep, delay, fits, inWindow, isOpen, longestStep, minuteOfWeek, neverFits, weekMinutes, weekOf, windowPlaces, windowsOf}
+use Rattle.plan_model.specs.Hours.{PlannedStep, delay, fits, inWindow, isOpen, longestStep, minuteOfWeek, neverFits, weekMinutes, weekOf, windowPlaces, windowsOf}
 use Rattle.model.proofs.Tests.{by-test}
-use Rattle.model.proofs.Weeks.{delay-found, delay-in-week, delay-none, delay-some, fits-not, fits-of, fits-same}
+use Rattle.plan_model.proofs.Weeks.{delay-found, delay-in-week, delay-none, delay-some, fits-not, fits-of, fits-same}
 use Rattle.table.specs.Reading.{processAt}
 use Rattle.table.proofs.Layouts.{number-at}
 use Rattle.hours.specs.Searching.{OpenUntil, Passes, ProcessPasses, ShutFor, Skips, waited}

@@ -10,9 +10,9 @@ use lib.Dec.{ltb, leb}
 use lib.IntN.{pos}
 use lib.ListN.{take}
 use borrow.Author.Tests.{le-leb, lt-ltb, le-ltb, leb-true, ltb-true, ltb-false}
-use Rattle.model.specs.declared.Window.{Window}
+use Rattle.plan_model.specs.declared.Window.{Window}
 use Rattle.model.specs.Lists.{anyOf}
-use Rattle.model.specs.Hours.{inWindow, isOpen, weekMinutes, windowAt}
+use Rattle.plan_model.specs.Hours.{inWindow, isOpen, weekMinutes, windowAt}
 use Rattle.model.proofs.Tests.{by-test, or-left, or-right}
 use Rattle.hours.specs.Searching.{OpenUntil, ShutFor, untilOpening}
 

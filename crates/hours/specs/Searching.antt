@@ -6,9 +6,9 @@ use mathlib.Core.Path.{_≡_}
 use Prim.Native.Nat.{ℕ, _+_, _-_, _≤_, _<_}
 use lib.Dec.{ltb}
 use lib.IntN.{pos}
-use Rattle.model.specs.declared.Window.{Window}
+use Rattle.plan_model.specs.declared.Window.{Window}
 use Rattle.model.specs.Groups.{Process, has, processesOf}
-use Rattle.model.specs.Hours.{PlannedStep, fits, isOpen, longestStep, weekMinutes}
+use Rattle.plan_model.specs.Hours.{PlannedStep, fits, isOpen, longestStep, weekMinutes}
 use Rattle.hours.specs.declared.Waited.{Waited}
 
 -- a step of the processes in bits

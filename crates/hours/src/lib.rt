@@ -1,11 +1,11 @@
 // Request 2.7: when the processes of a step are open for its whole length. The windows are searched as they stand, in any order; a search passes from one
 // opening to the next, never minute by minute.
-use minutes::WEEK;
 use minutes::minute_of_week;
-use model::WINDOW_PLACES;
-use model::Window;
 use numbers::wide;
 use numbers::wide_two;
+use plan_model::WEEK;
+use plan_model::WINDOW_PLACES;
+use plan_model::Window;
 use table::Table;
 ghost use mathlib.Core.Bool.{cond, false, _&&_};
 ghost use mathlib.Core.Path.{_≡_};
@@ -15,7 +15,7 @@ ghost use lib.IntN.{pos};
 ghost use lib.ListN.{take};
 ghost use Rattle.model.specs.Groups.{has, processesOf};
 ghost use Rattle.model.specs.Lists.{valueOr};
-ghost use Rattle.model.specs.Hours.{delay, isOpen, longestStep, neverFits, weekMinutes, weekOf, windowPlaces};
+ghost use Rattle.plan_model.specs.Hours.{delay, isOpen, longestStep, neverFits, weekMinutes, weekOf, windowPlaces};
 ghost use Rattle.table.specs.Reading.{processAt};
 ghost use Rattle.hours.specs.Searching.{OpenUntil, Passes, ProcessPasses, ShutFor, Skips, stepBy, untilOpening, waited};
 

@@ -7,14 +7,14 @@ use lib.Dec.{eqb}
 use borrow.Author.Tests.{eq-eqb, eqb-true, ne-eqb}
 use Rattle.model.specs.Records.{letterAt}
 use Rattle.model.proofs.Tests.{and-left, and-right, by-test}
-use Rattle.packs.specs.Packs.{packNumber, packedAfter, packedBefore}
+use Rattle.packs.specs.Packs.{packedNumber, packedAfter, packedBefore}
 use Rattle.rings.specs.Rings.{mixer, recordReads, NoneIn}
 use Rattle.rings.proofs.Links.{reads-parts, scaled-below}
 use Rattle.keys.specs.Keys.{endMixer, keyBucketOf, keyBucketAt, inKeyBucket, hasKey}
 
 pub own-below : (log : List ℕ) (n r : ℕ) → 0 < n → keyBucketAt log n r < n
 unfolding keyBucketAt keyBucketOf
-own-below log n r h = scaled-below n ((packedBefore log r + 8 * letterAt log r) * mixer + packNumber (packedAfter log r) * endMixer) h
+own-below log n r h = scaled-below n ((packedBefore log r + 8 * letterAt log r) * mixer + packedNumber (packedAfter log r) * endMixer) h
 
 pub in-own : (log : List ℕ) (n r : ℕ) → inKeyBucket log n (keyBucketAt log n r) r ≡ true
 unfolding inKeyBucket
@@ -33,9 +33,9 @@ key-bucket : (log : List ℕ) (n letter g x i : ℕ) → hasKey log letter g x i
 unfolding keyBucketAt
 key-bucket log n letter g x i e =
     let reads = recordReads log letter g i in
-    let ends = eqb x (packNumber (packedAfter log i)) in
+    let ends = eqb x (packedNumber (packedAfter log i)) in
     let parts = reads-parts log letter g i (and-left reads ends e) in
-    rw (parts .0, parts .1, ← (eqb-true x (packNumber (packedAfter log i)) (and-right reads ends e)))
+    rw (parts .0, parts .1, ← (eqb-true x (packedNumber (packedAfter log i)) (and-right reads ends e)))
 
 -- where none is in the bucket, none has the key
 pub none-keyed : (log : List ℕ) (n letter g x from to : ℕ) → NoneIn (inKeyBucket log n (keyBucketOf n letter g x)) from to → NoneIn (hasKey log letter g x) from to

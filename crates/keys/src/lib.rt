@@ -16,7 +16,7 @@ use rings::unlink;
 ghost use mathlib.Core.Path.{_≡_};
 ghost use Prim.Native.Nat.{_+_, _*_, _<_, _≤_};
 ghost use lib.ListN.{length};
-ghost use Rattle.automaton.specs.StateNumbers.{stateCount};
+ghost use Rattle.states.specs.StateNumbers.{stateCount};
 ghost use Rattle.records.specs.Entries.{HasRecord};
 ghost use Rattle.rings.specs.Rings.{noLink, OutsideSame};
 ghost use Rattle.keys.specs.Keys.{keyBucketOf, keyBucketAt, hasKey, heldBelow, KeyRoom, Indexed, pushed};

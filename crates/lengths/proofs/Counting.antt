@@ -14,7 +14,7 @@ use Rattle.model.proofs.Peak.{append-length, project-length}
 use Rattle.model.proofs.Tests.{each-process}
 use Rattle.table.specs.Reading.{BitsOf}
 use Rattle.lengths.specs.declared.Lengths.{Lengths}
-use Rattle.lengths.specs.Projections.{Change, Joined, LengthsOf, Rest, Within, lengthAt}
+use Rattle.lengths.specs.Projections.{Change, Joined, LengthsOf, Rest, AtMost, lengthAt}
 
 bit-small : (b : Bool) → bit b ≤ 1
 bit-small true = omega arith
@@ -33,7 +33,7 @@ pub counting-start : (loc : ℕ → Processes) (w : List ℕ) (l : Lengths) → 
 counting-start loc w l = record { inside = omega arith; lengths = λ i. omega arith }
 
 module _ {loc : ℕ → Processes} {w : List ℕ} {l₀ l : Lengths} {k : ℕ} (c : Counting loc w l₀ l k) where
-  pub counting-within : {m n : ℕ} → Within m l₀ → m + length w ≤ n → Within n l
+  pub counting-within : {m n : ℕ} → AtMost m l₀ → m + length w ≤ n → AtMost n l
   counting-within first few i = omega (arith, c .inside, c .lengths i, first i, project-shorter loc i (take k w), length-take-le k w (c .inside))
 
   -- the letter a, whose processes are in bits, joins
@@ -59,14 +59,14 @@ module _ {loc : ℕ → Processes} {w : List ℕ} {l₀ l : Lengths} {k : ℕ} (
 abbrev pub none : Lengths
 none = record { s0 = 0; s1 = 0; s2 = 0; s3 = 0 }
 
-pub none-within : Within 0 none
+pub none-within : AtMost 0 none
 none-within = each-process _ (omega arith) (omega arith) (omega arith) (omega arith)
 
 pub counted-word : {loc : ℕ → Processes} {w : List ℕ} {l : Lengths} {k : ℕ} → Counting loc w none l k → length w ≤ k → LengthsOf loc w l
 counted-word c all i = omega (arith, counting-end c all i, none-within i)
 
 -- ---- from the letter that a rule reads on
-pub rest-within : (L : Processes) (l : Lengths) → Rest L l → Within 1 l
+pub rest-within : (L : Processes) (l : Lengths) → Rest L l → AtMost 1 l
 rest-within L l rest i = omega (arith, rest i)
 
 pub counted-change : {loc : ℕ → Processes} (r : Rule) {l₀ l : Lengths} {a bits k : ℕ} → a ≡ r .letter → BitsOf (loc a) bits → Rest (processesOf bits) l₀ → Counting loc (r .written) l₀ l k

@@ -10,13 +10,13 @@ use Rattle.model.specs.Groups.{Process, p0, p1, p2, p3}
 use Rattle.model.proofs.Tests.{each-process}
 use Rattle.table.specs.Reading.{ruleIn, systemIn}
 use Rattle.lengths.specs.declared.Lengths.{Lengths}
-use Rattle.lengths.specs.Projections.{Change, Noted, changePlace, changesLength, lengthAt, noted, ruleCeiling, withChange}
+use Rattle.lengths.specs.Projections.{Change, ChangesNoted, changePlace, changesLength, lengthAt, noted, ruleCeiling, withChange}
 
 change-size : (changes : List ℕ) (k : ℕ) (l : Lengths) → length (withChange changes k l) ≡ length changes
 unfolding withChange
 change-size changes k l = simp length-set refl
 
-module _ {table changes : List ℕ} {k : ℕ} (before : Noted table k changes) (inside : k < ruleCeiling) (l : Lengths) where
+module _ {table changes : List ℕ} {k : ℕ} (before : ChangesNoted table k changes) (inside : k < ruleCeiling) (l : Lengths) where
   size : length changes ≡ changesLength
   size = before .size
 
@@ -57,7 +57,7 @@ module _ {table changes : List ℕ} {k : ℕ} (before : Noted table k changes) (
       (place-kept (changePlace m p3) (each-process _ (λ e. omega arith) (λ e. omega arith) (λ e. omega arith) (λ e. n (omega arith))))
 
   -- one rule more
-  pub noted-more : Change (systemIn table .loc) (ruleIn table k) (lengthAt l) → Noted table (k + 1) (withChange changes k l)
+  pub noted-more : Change (systemIn table .loc) (ruleIn table k) (lengthAt l) → ChangesNoted table (k + 1) (withChange changes k l)
   noted-more change = record {
     size = change-size changes k l ∙ size;
     rule = λ m h i. elim (ℕ-discrete m k) [
@@ -66,5 +66,5 @@ module _ {table changes : List ℕ} {k : ℕ} (before : Noted table k changes) (
     ];
   }
 
-pub noted-none : (table changes : List ℕ) → length changes ≡ changesLength → Noted table 0 changes
+pub noted-none : (table changes : List ℕ) → length changes ≡ changesLength → ChangesNoted table 0 changes
 noted-none table changes size = record { size = size; rule = λ k h. absurd (omega arith) }

@@ -18,8 +18,8 @@ lengthAt l p2 = l .s2
 lengthAt l p3 = l .s3
 
 -- none is greater than k
-abbrev pub Within : ℕ → Lengths → Type 0
-Within k l = (i : Process) → lengthAt l i ≤ k
+abbrev pub AtMost : ℕ → Lengths → Type 0
+AtMost k l = (i : Process) → lengthAt l i ≤ k
 
 -- one at each process outside L
 abbrev pub Rest : Processes → Lengths → Type 0
@@ -43,8 +43,8 @@ Raised h l r = (i : Process) → lengthAt r i ≡ max (lengthAt h i + 1) (length
 abbrev pub LengthsOf : (ℕ → Processes) → List ℕ → Lengths → Type 0
 LengthsOf loc w l = (i : Process) → lengthAt l i ≡ length (project loc i w)
 
--- What rule r makes of each length, counted with the rule itself so that it is not negative: the letter read leaves the projections to its processes, and
--- each written letter joins those to its own.
+-- What rule r makes of each length, counted with the rule itself so that it is not negative: the letter read leaves the
+-- projections to its processes, and each written letter joins those to its own.
 abbrev pub Change : (ℕ → Processes) → Rule → (Process → ℕ) → Type 0
 Change loc r f = (i : Process) → f i + bit (has (loc (r .letter)) i) ≡ 1 + length (project loc i (r .written))
 
@@ -71,9 +71,10 @@ Addable changes k l = (i : Process) → lengthAt l i + noted changes k i < 2 ^ 3
 
 unfoldable pub withChange : List ℕ → ℕ → Lengths → List ℕ
 withChange changes k l =
-    set (set (set (set changes (changePlace k p0) (l .s0)) (changePlace k p1) (l .s1)) (changePlace k p2) (l .s2)) (changePlace k p3) (l .s3)
+    set (set (set (set changes (changePlace k p0) (l .s0)) (changePlace k p1) (l .s1)) (changePlace k p2) (l .s2))
+    (changePlace k p3) (l .s3)
 
 -- those of the rules below n
-pub record Noted (table : List ℕ) (n : ℕ) (changes : List ℕ) : Type 0 where
+pub record ChangesNoted (table : List ℕ) (n : ℕ) (changes : List ℕ) : Type 0 where
   pub size : length changes ≡ changesLength
   pub rule : (k : ℕ) → k < n → Change (systemIn table .loc) (ruleIn table k) (noted changes k)

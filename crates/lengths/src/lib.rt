@@ -13,7 +13,7 @@ ghost use Prim.Native.Nat.{_<_, max};
 ghost use lib.ListN.{length};
 ghost use Rattle.model.specs.Groups.{greatest, processesOf};
 ghost use Rattle.table.specs.Reading.{BitsOf, Holds, ruleIn, systemIn};
-ghost use Rattle.lengths.specs.Projections.{Addable, Added, Change, Countable, Joined, LengthsOf, Noted, Raised, Rest, Within, changesLength, lengthAt, noted, ruleCeiling, withChange};
+ghost use Rattle.lengths.specs.Projections.{Addable, Added, Change, Countable, Joined, LengthsOf, ChangesNoted, Raised, Rest, AtMost, changesLength, lengthAt, noted, ruleCeiling, withChange};
 
 // The number of changes that are noted.
 pub const CHANGES: usize = Table::PROCESSES * Table::RULES;
@@ -49,7 +49,7 @@ fn rest(bits: u8) -> Lengths
 
 // The lengths with one letter more, whose processes are in bits.
 fn joined(l: Lengths, bits: u8) -> Lengths
-    requires { ⌜ Within 64 l ⌝ }
+    requires { ⌜ AtMost 64 l ⌝ }
     ensures { λ r. ⌜ Joined l (processesOf bits) r ⌝ }
 {
     Lengths {
@@ -110,7 +110,7 @@ fn put_change(changes: &mut [u32], k: usize, l: Lengths)
 // Notes what each rule makes of the lengths. What it leaves at numbers that no rule has is not decided.
 pub fn note_changes(table: &[u8], t: Table, changes: &mut [u32])
     requires { ⌜ Holds (now table) t × (length (now changes) ≡ changesLength) ⌝ }
-    ensures { λ _. ⌜ Noted (now (table .entry)) (t .rules) (now (changes .exit)) ⌝ }
+    ensures { λ _. ⌜ ChangesNoted (now (table .entry)) (t .rules) (now (changes .exit)) ⌝ }
 {
     let mut k = 0;
     while k < t.rules {

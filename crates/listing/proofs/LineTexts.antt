@@ -1,6 +1,6 @@
 -- The text of the program `line` depends on its buffers by their lengths, and on no more of the input than its buffer holds.
 use mathlib.Core.Path.{_≡_, refl, ap, ap₂, sym, _∙_}
-use mathlib.Core.Bool.{Bool, true, false, cond, _||_}
+use mathlib.Core.Bool.{true, false, cond}
 use mathlib.Core.Option.{Option, none, some}
 use mathlib.Core.List.{List, [], _++_, append-nil}
 use Prim.Native.Nat.{ℕ, _-_, _*_, _≤_}
@@ -13,12 +13,12 @@ use Rattle.model.specs.declared.Ran.{Ran}
 use Rattle.model.specs.Calls.{answerCall, answerGiven, capacity, isLong, pageAfter, runCall, runGiven, runOf, runRefusal, runVerdict, scratchFor, scratchNeeded, startPath}
 use Rattle.model.specs.Records.{recordLength}
 use Rattle.model.specs.Copies.{withCopy}
-use Rattle.model.specs.Log.{Path, limit}
+use Rattle.model.specs.Log.{Path, limit, longestRun}
 use Rattle.model.specs.Systems.{System}
 use Rattle.model.specs.Tables.{Reading, accepted, refused, read, saturatedOf, systemOf}
 use Rattle.model.specs.Unfolding.{pathSteps}
 use Rattle.model.proofs.Prefixes.{answer-prefix, run-prefix, telling}
-use Rattle.model.proofs.Tests.{by-test}
+use Rattle.model.proofs.Tests.{by-test, or-left}
 use Rattle.listing.specs.LineText.{Lent, lineLog, linePage, lineRecords, lineScratch, lineText, textWith}
 use Rattle.listing.specs.Listing.{answerLines, isReachable, listed, listing, runLines}
 
@@ -82,15 +82,11 @@ pub line-buffer : (input : List ℕ) → lineText (take 65536 input) ≡ lineTex
 line-buffer input = line-prefix 65536 input (omega arith)
 
 -- ---- a run has no more rules than the page has places
-or-left : (a b : Bool) → (a || b) ≡ false → a ≡ false
-or-left true b e = e
-or-left false b e = refl
-
 verdict-fits : (sys : System) (room : ℕ) (path : Option Path) → listed (runVerdict sys room path) ≤ room
 verdict-fits sys room none = omega arith
 verdict-fits sys room (some p) =
     let steps = pathSteps (limit (withCopy sys)) (p .numbers) in
-    by-test (isLong steps room) (λ y. rw y (omega arith)) (λ n. rw n (ltb-false room steps (or-left (ltb room steps) (ltb 1000000 steps) n)))
+    by-test (isLong steps room) (λ y. rw y (omega arith)) (λ n. rw n (ltb-false room steps (or-left (ltb room steps) (ltb longestRun steps) n)))
 
 given-fits : (r : Reading) (log scratch room : ℕ) → listed (runGiven r log scratch room) ≤ room
 unfolding runGiven

@@ -9,7 +9,9 @@ use Rattle.listing.specs.Listing.{listing}
 
 -- the answer call's verdict, and the run call's figures and page, with buffers of these lengths
 unfoldable pub textWith : List ℕ → List ℕ → List ℕ → List ℕ → List ℕ
-textWith input log scratch page = listing (answerCall input log scratch .answer) (runCall input log scratch page .answer) (runCall input log scratch page .page)
+textWith input log scratch page =
+    listing (answerCall input log scratch .answer) (runCall input log scratch page .answer)
+    (runCall input log scratch page .page)
 
 -- "log 2,000 records, page 10,000", and the scratch that check 15 asks for
 abbrev pub lineRecords : ℕ

@@ -14,7 +14,8 @@ abbrev pub ascii : String → List ℕ
 ascii end = []
 ascii (c then s) = code c ∷ ascii s
 
--- the decimal digits of a number in ASCII, where 0 is 48, the last one last; the fuel is the number, which has at most one digit more
+-- the decimal digits of a number in ASCII, where 0 is 48, the last one last; the fuel is the number, which has at most
+-- one digit more
 abbrev pub digitsOf : ℕ → ℕ → List ℕ
 digitsOf zero n = (48 + n % 10) ∷ []
 digitsOf (suc fuel) n = cond (ltb n 10) ((48 + n) ∷ []) (digitsOf fuel (n / 10) ++ ((48 + n % 10) ∷ []))
@@ -36,7 +37,8 @@ refusedLine number place = ascii "refused " ++ decimal number ++ line (ascii " a
 
 -- "Unreachable ends after rounds"
 unfoldable pub answerLines : Answered → List ℕ
-answerLines (Answered.Reachable transitions rounds steps) = counted (ascii "answer reachable\n") transitions rounds ++ line (ascii "steps ") steps
+answerLines (Answered.Reachable transitions rounds steps) =
+    counted (ascii "answer reachable\n") transitions rounds ++ line (ascii "steps ") steps
 answerLines (Answered.Unreachable transitions rounds) = counted (ascii "answer unreachable\n") transitions rounds
 answerLines (Answered.Refused number place) = refusedLine number place
 
@@ -49,7 +51,8 @@ spaced (rule ∷ rules) = ascii " " ++ decimal rule ++ spaced rules
 unfoldable pub runLine : List ℕ → List ℕ
 runLine rules = ascii "run" ++ spaced rules ++ ascii "\n"
 
--- the peak and the rule numbers, which stand first on the page, as many as steps; "on refusal 11 `run refused 11` follows steps"
+-- the peak and the rule numbers, which stand first on the page, as many as steps; "on refusal 11 `run refused 11`
+-- follows steps"
 unfoldable pub runLines : Ran → List ℕ → List ℕ
 runLines (Ran.Reached transitions rounds steps peak) page = line (ascii "peak ") peak ++ runLine (take steps page)
 runLines (Ran.Refused number place) page = line (ascii "run refused ") number

@@ -21,10 +21,10 @@ use Rattle.model.proofs.Lists.{each-append, each-both, each-get, each-less, eac
 use Rattle.model.proofs.LogPaths.{IsPath, paths-sound}
 use Rattle.model.proofs.Paths.{Inside}
 use Rattle.model.proofs.Reasons.{path-length}
-use Rattle.model.proofs.Skipping.{freshIn, skip-law}
+use Rattle.searches.proofs.Skipping.{freshIn, skip-law}
 use Rattle.model.proofs.Soundness.{transitionsAt}
 use Rattle.model.proofs.Tests.{by-test}
-use Rattle.automaton.specs.StateNumbers.{Over}
+use Rattle.states.specs.StateNumbers.{Over}
 use Rattle.records.specs.Entries.{Fits}
 use Rattle.table.specs.declared.Table.{Table}
 use Rattle.table.specs.Reading.{Holds, ruleIn, saturatedIn, systemIn}

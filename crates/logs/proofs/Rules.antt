@@ -6,7 +6,6 @@ use mathlib.Core.Option.{some}
 use mathlib.Core.List.{List, [], _∷_, map, append-nil, List·Memᴰ, List·Memᴰ·cases-cons, List·Memᴰ·not-nil, Memᴰ·of-map}
 use Prim.Native.Nat.{ℕ, zero, suc, _+_, _<_, _≤_}
 use native.Mathlib.Omega.{arith}
-use native.Mathlib.Nat.{not-suc-le-zero}
 use lib.Dec.{eqb}
 use lib.ListN.{length, getD, getElem?, drop, drop-of-length-le, List·getD-map}
 use lib.Seq.{drop-cons}
@@ -19,32 +18,21 @@ use Rattle.model.specs.Log.{keyDigits}
 use Rattle.model.specs.Systems.{InAutomaton, Rule}
 use Rattle.model.specs.Tables.{Item, bodies, controlsOf, isTwin, ruleOf, sameBytes, statesOf, systemOf, transitionOf}
 use Rattle.model.proofs.Groups.{at-restrict, ext}
-use Rattle.model.proofs.Lists.{Distinct, any-of, distinct-append, each-both, each-get}
+use Rattle.model.proofs.Lists.{Distinct, any-of, distinct-append, each-both, each-get, each-place, each-by-place, elem-some, elem-place}
 use Rattle.model.proofs.CheckedItems.{Checked, none-yet, one-more, Complete, Passes, bodies-more}
 use Rattle.model.proofs.FittingItems.{Fitting, RuleFits, rules-fit}
 use Rattle.model.proofs.AcceptedTables.{accepted-cooperating, accepted-copyable}
 use Rattle.model.proofs.CopiedTables.{saturated-copyable, saturated-eight, saturated-letter}
 use Rattle.model.proofs.Copies.{with-copy-distinct}
 use Rattle.model.proofs.Tests.{by-test, and-both}
-use Rattle.automaton.specs.StateNumbers.{Over}
+use Rattle.states.specs.StateNumbers.{Over}
 use Rattle.table.specs.declared.Table.{Table}
 use Rattle.table.specs.Reading.{Holds, itemsIn, saturatedIn, systemIn, ruleIn}
 use Rattle.table.proofs.Readings.{holds-complete}
 use Rattle.table.proofs.Layouts.{body-in, body-size, count-in, rule-letter-in, rules-count, written-letter-in}
-use Rattle.shapes.proofs.Ranges.{each-place, each-by-place}
-use Rattle.shapes.proofs.Shapes.{loc-within, over-fits, bound-at}
+use Rattle.table.proofs.Configurations.{loc-within, over-fits, bound-at}
 
 -- ---- lists by their places
-pub elem-at : {A : Type 0} (l : List A) (k : ℕ) (d : A) → k < length l → getElem? l k ≡ some (getD l k d)
-elem-at [] k d h = absurd (not-suc-le-zero h)
-elem-at (x ∷ l) zero d h = refl
-elem-at (x ∷ l) (suc k) d h = elem-at l k d (omega arith)
-
-pub elem-place : {A : Type 0} (l : List A) (k : ℕ) (d x : A) → getElem? l k ≡ some x → (k < length l) × (getD l k d ≡ x)
-elem-place [] k d x e = absurd (let z : _≡_ {A = ℕ} 0 1 = cc in omega arith)
-elem-place (y ∷ l) zero d x e = (omega arith, let same : y ≡ x = cc in same)
-elem-place (y ∷ l) (suc k) d x e = let r = elem-place l k d x e in (omega (arith, r .0), r .1)
-
 pub each-by-elem : {A : Type 0} (P : A → Type 0) (l : List A) → ((k : ℕ) (x : A) → getElem? l k ≡ some x → P x) → Each P l
 each-by-elem P [] f = tt
 each-by-elem P (x ∷ l) f = (f 0 x refl, each-by-elem P l (λ k y e. f (suc k) y e))
@@ -103,7 +91,7 @@ module _ (bytes : List ℕ) (t : Table) (h : Holds bytes t) where
 
   -- ---- rules
   pub rule-elem : (k : ℕ) → k < t .rules → getElem? (systemIn bytes .rules) k ≡ some (ruleIn bytes k)
-  rule-elem k l = elem-at (systemIn bytes .rules) k (ruleOf []) (omega (arith, rules-count bytes t h))
+  rule-elem k l = elem-some (systemIn bytes .rules) k (ruleOf []) (omega (arith, rules-count bytes t h))
 
   -- a rule of the system by its number
   pub rule-number : (k : ℕ) (r : Rule) → getElem? (systemIn bytes .rules) k ≡ some r → (k < t .rules) × (ruleIn bytes k ≡ r)

@@ -10,7 +10,7 @@ use lib.Signed.{mag, remZ, quotZ, ltZ, nonNeg}
 use borrow.Author.Tests.{ltb-true, le-ltb}
 use mir.Syntax.{w64}
 use mir.Val.{SFits}
-use Rattle.model.specs.Hours.{minuteOfWeek}
+use Rattle.plan_model.specs.Hours.{minuteOfWeek}
 use Rattle.minutes.proofs.Signed.{readBack, read-back, rem-fits}
 
 abbrev week : ℤ

@@ -1,14 +1,13 @@
 // Minutes before and after the plan's Monday, as signed numbers: request 2.7.
+use plan_model::WEEK;
 ghost use mathlib.Core.Path.{_≡_};
 ghost use Prim.Native.Nat.{_<_, _^_};
 ghost use lib.IntN.{pos, _+ℤ_};
 ghost use mir.Syntax.{w64};
 ghost use mir.Val.{SFits};
-ghost use Rattle.model.specs.Hours.{laterOf, minuteOfWeek, startFits};
+ghost use Rattle.plan_model.specs.Hours.{laterOf, minuteOfWeek, startFits};
 
-// The minutes of a week, as a count and as a distance.
-pub const WEEK: usize = 10080;
-
+// The minutes of a week, as a distance.
 const SIGNED_WEEK: i64 = WEEK as i64;
 
 // The first and the last start of a plan.

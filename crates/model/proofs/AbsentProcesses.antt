@@ -10,7 +10,8 @@ use Rattle.model.specs.Groups.{Process, Processes, has}
 use Rattle.model.specs.Lists.{Each}
 use Rattle.model.specs.Systems.{Configuration, Rule, System, walk}
 use Rattle.model.specs.Tables.{Item, accepted, bodies, byteOf, present, read, systemOf}
-use Rattle.model.specs.Words.{Located, project}
+use Rattle.model.proofs.Words.{Located}
+use Rattle.model.specs.Words.{project}
 use Rattle.model.proofs.AcceptedTables.{accepted-cooperating, rule-has}
 use Rattle.model.proofs.CheckedItems.{Complete, read-complete}
 use Rattle.model.proofs.FittingItems.{pile-fits}

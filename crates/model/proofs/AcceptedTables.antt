@@ -12,11 +12,11 @@ use lib.ListN.{getD, getElem?, length}
 use borrow.Author.Tests.{eqb-false}
 use Rattle.model.specs.declared.Group.{Group}
 use Rattle.model.specs.Automata.{Transition}
-use Rattle.model.specs.Groups.{Process, Processes, Within, has, withinTest}
+use Rattle.model.specs.Groups.{Process, Processes, Within, has, withinTest, numberOf}
 use Rattle.model.specs.Lists.{Each}
 use Rattle.model.specs.Systems.{Accepting, InAutomaton, Rule}
-use Rattle.model.specs.Tables.{Item, absent, bodies, byteOf, controlsOf, cooperates, count, groupFits, groupOf, isOutOfTurn, lastKind, locOf, numberOf, present, ruleOf, statesOf, systemOf, transitionOf}
-use Rattle.model.specs.Words.{Located}
+use Rattle.model.specs.Tables.{Item, absent, bodies, byteOf, controlsOf, cooperates, count, groupFits, groupOf, isOutOfTurn, lastKind, locOf, present, ruleOf, statesOf, systemOf, transitionOf}
+use Rattle.model.proofs.Words.{Located}
 use Rattle.model.proofs.CheckedItems.{Complete, count-ceiling}
 use Rattle.model.proofs.Copies.{Copyable, StatesFit}
 use Rattle.model.proofs.FittingItems.{RuleFits, TransitionFits, accepting-fit, fits-at, fits-outside, letter-fits, located-by, power-small, rules-fit, start-fits, transitions-fit}

@@ -15,6 +15,11 @@ use Rattle.model.specs.Tables.{Item, Reading, accepted, bodies, bodyLeng
 use Rattle.model.proofs.Lists.{each-append, each-map}
 use Rattle.model.proofs.Tests.{by-test}
 
+pub lastKind-snoc : (xs : List Item) (x : Item) → lastKind (xs ++ (x ∷ [])) ≡ x .kind
+lastKind-snoc [] x = refl
+lastKind-snoc (y ∷ []) x = refl
+lastKind-snoc (y ∷ z ∷ xs) x = lastKind-snoc (z ∷ xs) x
+
 -- the checks of refusal 2 to 8, none of which holds
 pub record Passes (items : List Item) (k : ℕ) (body : List ℕ) : Type 0 where
   pub kind : isStranger k ≡ false
@@ -104,11 +109,6 @@ unfolding read
 read-complete bytes items e = readFrom-complete (length bytes + 1) [] bytes 0 items e none-yet
 
 -- ---- kinds never fall, so what an item was checked against is what the whole table has
-lastKind-more : (items : List Item) (x : Item) → lastKind (items ++ (x ∷ [])) ≡ x .kind
-lastKind-more [] x = refl
-lastKind-more (y ∷ []) x = refl
-lastKind-more (y ∷ z ∷ items) x = lastKind-more (z ∷ items) x
-
 in-turn : (items : List Item) (k : ℕ) → isOutOfTurn items k ≡ false → lastKind items ≤ k
 unfolding isOutOfTurn
 in-turn items k e = by-test (ltb k (lastKind items)) (λ y. absurd (true≢false (let bad : true ≡ false = rw y at e in bad))) (λ n. ltb-false k (lastKind items) n)
@@ -133,7 +133,7 @@ held-kind k items e = go (lastKind items) items e
 
 kinds-rise : {items : List Item} → Checked items → Each (λ (x : Item). x .kind ≤ lastKind items) items
 kinds-rise none-yet = tt
-kinds-rise (one-more {items = items} x c p) = rw lastKind-more
+kinds-rise (one-more {items = items} x c p) = rw lastKind-snoc
     (each-append (λ (y : Item). y .kind ≤ x .kind) items (x ∷ [])
     (each-map (λ (y : Item). y .kind ≤ lastKind items) (λ (y : Item). y .kind ≤ x .kind) (λ y l. omega (arith, in-turn items (x .kind) (p .turn))) items (kinds-rise c))
     (le-refl (x .kind), tt))

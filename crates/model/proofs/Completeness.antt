@@ -10,7 +10,8 @@ use Rattle.model.specs.Groups.{Processes, merge, restrict}
 use Rattle.model.specs.Lists.{Each}
 use Rattle.model.specs.Saturation.{added}
 use Rattle.model.specs.Systems.{Accepts, Configuration, Rule, Step, System, walk}
-use Rattle.model.specs.Words.{Equivalent, Located, project}
+use Rattle.model.specs.Words.{Equivalent, project}
+use Rattle.model.proofs.Words.{Located}
 use Rattle.model.proofs.Groups.{merge-cong, merge-merge, merge-restrict, restrict-merge}
 use Rattle.model.proofs.Lists.{each-left, each-map, each-right}
 use Rattle.model.proofs.Paths.{Inside, along-inside, along-outside, along-split, cut, rearrange}

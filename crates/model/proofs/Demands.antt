@@ -14,9 +14,9 @@ use Rattle.model.specs.declared.Answered.{Answered}
 use Rattle.model.specs.declared.Ran.{Ran}
 use Rattle.model.specs.Calls.{answerCall, answerGiven, capacity, filled, isLong, pageAfter, runCall, runGiven, runOf, runRefusal, runVerdict, scratchNeeded, startPath, verdict}
 use Rattle.model.specs.Copies.{withCopy}
-use Rattle.model.specs.Demands.{Counts, Decided, Demand3, LogServes, LogShort, NoRun, ScratchServes, TooLong}
+use Rattle.model.specs.Demands.{StepsCounted, Decided, Demand3, LogServes, LogShort, NoRun, ScratchServes, TooLong}
 use Rattle.model.specs.Groups.{at}
-use Rattle.model.specs.Log.{Path, Record, limit, rounds, saturatedAt, stepsCap}
+use Rattle.model.specs.Log.{Path, Record, limit, rounds, saturatedAt, stepsCap, longestRun}
 use Rattle.model.specs.Systems.{Joins, System, peak}
 use Rattle.model.specs.Tables.{Item, Reading, accepted, read, refused, saturatedOf, systemOf}
 use Rattle.model.specs.Unfolding.{Unfolds, emitted, pathSteps}
@@ -46,11 +46,11 @@ module _ (items : List Item) (c : Complete items) where
 steps-figure : (sys : System) (p : Path) → startPath sys ≡ some p → pathSteps (limit sys) (p .numbers) ≡ min (length (emitted (limit sys) (p .numbers))) stepsCap
 steps-figure sys p e = answer-steps sys (saturatedAt sys) (sys .start) p e
 
-pub found-counts : (sys : System) (p : Path) → startPath sys ≡ some p → Counts sys (length (emitted (limit sys) (p .numbers)))
+pub found-counts : (sys : System) (p : Path) → startPath sys ≡ some p → StepsCounted sys (length (emitted (limit sys) (p .numbers)))
 found-counts sys p e = record { path = p; is = e; run = emitted (limit sys) (p .numbers); unfolds = path-unfolds sys (saturatedAt sys) (sys .start) p e; counted = refl }
 
 -- the rules emitted are those of the function
-pub counts-emitted : (sys : System) (n : ℕ) (p : Path) → startPath sys ≡ some p → (c : Counts sys n) → c .run ≡ emitted (limit sys) (p .numbers)
+pub counts-emitted : (sys : System) (n : ℕ) (p : Path) → startPath sys ≡ some p → (c : StepsCounted sys n) → c .run ≡ emitted (limit sys) (p .numbers)
 counts-emitted sys n p e c =
     let same : c .path ≡ p = some-inj (sym (c .is) ∙ e) in
     sym (unfolds-unique (c .unfolds) (emitted (limit sys) (p .numbers)) (subst (λ (q : Path). Unfolds (limit sys) (q .numbers) (emitted (limit sys) (p .numbers))) (sym same) (path-unfolds sys (saturatedAt sys) (sys .start) p e)))
@@ -82,14 +82,14 @@ module _ (table log scratch : List ℕ) (items : List Item) (e : read table ≡ 
   page-after page p q z = rw z (rw (e, q))
 
 -- ---- the steps figure tells whether the run is too long
-long-true : (n pageLength : ℕ) → isLong (min n stepsCap) pageLength ≡ true → (pageLength < n) ⊎ (1000000 < n)
+long-true : (n pageLength : ℕ) → isLong (min n stepsCap) pageLength ≡ true → (pageLength < n) ⊎ (longestRun < n)
 long-true n m e = by-test (ltb m (min n stepsCap))
     (λ y. inl (let less : m < min n stepsCap = ltb-true m (min n stepsCap) y in omega arith))
-    (λ z. inr (let less : 1000000 < min n stepsCap = ltb-true 1000000 (min n stepsCap) (rw z at e) in omega arith))
+    (λ z. inr (let less : longestRun < min n stepsCap = ltb-true longestRun (min n stepsCap) (rw z at e) in omega arith))
 
-long-of : (n pageLength : ℕ) → (pageLength < n) ⊎ (1000000 < n) → isLong (min n stepsCap) pageLength ≡ true
-long-of n m t = by-test (ltb m (min n stepsCap)) (λ y. rw y) (λ z. rw z (lt-ltb 1000000 (min n stepsCap)
-    (let more : min n stepsCap ≤ m = ltb-false m (min n stepsCap) z in ⊎-elim (λ (l : m < n). omega arith) (λ (l : 1000000 < n). omega arith) t)))
+long-of : (n pageLength : ℕ) → (pageLength < n) ⊎ (longestRun < n) → isLong (min n stepsCap) pageLength ≡ true
+long-of n m t = by-test (ltb m (min n stepsCap)) (λ y. rw y) (λ z. rw z (lt-ltb longestRun (min n stepsCap)
+    (let more : min n stepsCap ≤ m = ltb-false m (min n stepsCap) z in ⊎-elim (λ (l : m < n). omega arith) (λ (l : longestRun < n). omega arith) t)))
 
 pub take-run : (run page : List ℕ) → take (length run) (filled run page) ≡ run
 take-run run page = take-at run (replicate (length page - length run) 0) (length run) refl
@@ -114,20 +114,20 @@ module _ (sys : System) (page : List ℕ) (answer : Answered) (ran : Ran) (left 
     abbrev figure : ℕ
     figure = pathSteps (limit (withCopy sys)) (p .numbers)
 
-    steps-are : (n : ℕ) (k : Counts (withCopy sys) n) → (k .run ≡ emitted (limit (withCopy sys)) (p .numbers)) × (figure ≡ min n stepsCap) × (n ≡ length (emitted (limit (withCopy sys)) (p .numbers)))
+    steps-are : (n : ℕ) (k : StepsCounted (withCopy sys) n) → (k .run ≡ emitted (limit (withCopy sys)) (p .numbers)) × (figure ≡ min n stepsCap) × (n ≡ length (emitted (limit (withCopy sys)) (p .numbers)))
     steps-are n k =
         let same : k .run ≡ emitted (limit (withCopy sys)) (p .numbers) = counts-emitted (withCopy sys) n p e k in
         let long : n ≡ length (emitted (limit (withCopy sys)) (p .numbers)) = sym (k .counted) ∙ ap length same in
         (same, steps-figure (withCopy sys) p e ∙ ap (λ (m : ℕ). min m stepsCap) (sym long), long)
 
     -- refused as long, or not
-    long-run : (n : ℕ) (k : Counts (withCopy sys) n) → TooLong n page → ran ≡ Ran.Refused 11 0
+    long-run : (n : ℕ) (k : StepsCounted (withCopy sys) n) → TooLong n page → ran ≡ Ran.Refused 11 0
     long-run n k t = r ∙ rw (steps-are n k .1, long-of n (length page) t)
 
-    short-figure : (n : ℕ) (k : Counts (withCopy sys) n) → (TooLong n page → ⊥) → isLong figure (length page) ≡ false
+    short-figure : (n : ℕ) (k : StepsCounted (withCopy sys) n) → (TooLong n page → ⊥) → isLong figure (length page) ≡ false
     short-figure n k f = by-test (isLong figure (length page)) (λ y. absurd (f (long-true n (length page) (subst (λ (m : ℕ). isLong m (length page) ≡ true) (steps-are n k .1) y)))) (λ z. z)
 
-    refused-long : (n : ℕ) (k : Counts (withCopy sys) n) → ran ≡ Ran.Refused 11 0 → TooLong n page
+    refused-long : (n : ℕ) (k : StepsCounted (withCopy sys) n) → ran ≡ Ran.Refused 11 0 → TooLong n page
     refused-long n k q = by-test (isLong figure (length page))
         (λ y. long-true n (length page) (subst (λ (m : ℕ). isLong m (length page) ≡ true) (steps-are n k .1) y))
         (λ z. absurd (let reached : Ran.Reached (length (limit (withCopy sys))) (rounds (limit (withCopy sys))) figure (peak sys (emitted (limit (withCopy sys)) (p .numbers)) (sys .start)) ≡ Ran.Refused 11 0 = sym (r ∙ rw z) ∙ q in
@@ -135,12 +135,12 @@ module _ (sys : System) (page : List ℕ) (answer : Answered) (ran : Ran) (left 
 
     -- the figure is exact where the run is not too long
     exact : (n : ℕ) → (TooLong n page → ⊥) → min n stepsCap ≡ n
-    exact n f = by-test (ltb 1000000 n) (λ y. absurd (f (inr (ltb-true 1000000 n y)))) (λ z. let le : n ≤ 1000000 = ltb-false 1000000 n z in omega arith)
+    exact n f = by-test (ltb longestRun n) (λ y. absurd (f (inr (ltb-true longestRun n y)))) (λ z. let le : n ≤ longestRun = ltb-false longestRun n z in omega arith)
 
-    given-run : (n : ℕ) (k : Counts (withCopy sys) n) → (TooLong n page → ⊥) → ran ≡ Ran.Reached (length (limit (withCopy sys))) (rounds (limit (withCopy sys))) n (peak sys (k .run) (sys .start))
+    given-run : (n : ℕ) (k : StepsCounted (withCopy sys) n) → (TooLong n page → ⊥) → ran ≡ Ran.Reached (length (limit (withCopy sys))) (rounds (limit (withCopy sys))) n (peak sys (k .run) (sys .start))
     given-run n k f = r ∙ rw (short-figure n k f, steps-are n k .1, exact n f, steps-are n k .0)
 
-    given-page : (n : ℕ) (k : Counts (withCopy sys) n) → (TooLong n page → ⊥) → Joins sys (sys .start) (take n left)
+    given-page : (n : ℕ) (k : StepsCounted (withCopy sys) n) → (TooLong n page → ⊥) → Joins sys (sys .start) (take n left)
     given-page n k f = rw (l (rw (given-run n k f)), steps-are n k .2, take-run (emitted (limit (withCopy sys)) (p .numbers)) page) joins
 
     decided-some : Decided sys page answer ran left

@@ -11,8 +11,7 @@ use Rattle.model.specs.Automata.{Transition, move}
 use Rattle.model.specs.Groups.{Processes, at}
 use Rattle.model.specs.Lists.{Each}
 use Rattle.model.specs.Log.{Candidate, Path, Record, additions, candidate, candidates, collect, extend, inLog, insert, keyLess, lexLess, paths, push, readsAt, sameKey}
-use Rattle.model.specs.Systems.{Configuration, Rule, System, isAccepting}
-use Rattle.model.specs.Unfolding.{acceptingPath, firstAccepting}
+use Rattle.model.specs.Systems.{Rule, System}
 use Rattle.model.proofs.Collecting.{sameKey-of, sameKey-true}
 use Rattle.model.proofs.Lists.{each-any, each-append, each-get, each-map, each-of-map}
 use Rattle.model.proofs.Order.{Less, Sorted, additions-fresh, additions-sorted, insert-sorted, less-irrefl, less-trans, lex-eq, lex-lt}
@@ -190,19 +189,7 @@ additions-least sys log c m d i q =
     sym (collect-first (c .key) log fresh (candidates (sys .loc) log (sys .rules) 0) [] tt) ∙ first-self (additions sys log) (additions-sorted sys log) c m in
     first-least (c .key) (candidates (sys .loc) log (sys .rules) 0) (candidates-rising (sys .loc) log (sys .rules) 0) c found d i q
 
--- The start's path: of all accepting paths, the first by record numbers
-accepting-least : (acc : List Group) (ts : List Path) → Rising (λ (t : Path). t .numbers) ts → (t : Path) → firstAccepting acc ts ≡ some t → (u : Path) → List·Memᴰ u ts → isAccepting (u .end) acc ≡ true
-    → (u ≡ t) ⊎ (lexLess (t .numbers) (u .numbers) ≡ true)
-accepting-least acc [] r t e u m y = absurd (List·Memᴰ·not-nil m)
-accepting-least acc (x ∷ ts) r t e u m y = by-test (isAccepting (x .end) acc)
-    (λ z. let same : x ≡ t = cc (z) in
-    ⊎-elim (λ p. inl (p ∙ same)) (λ m′. inr (subst (λ (v : Path). lexLess (v .numbers) (u .numbers) ≡ true) same (each-get (λ (v : Path). lexLess (x .numbers) (v .numbers) ≡ true) u ts (r .0) m′))) (List·Memᴰ·cases-cons m))
-    (λ n. ⊎-elim
-    (λ p. absurd (true≢false (sym y ∙ ap (λ (v : Path). isAccepting (v .end) acc) p ∙ n)))
-    (λ m′. accepting-least acc ts (r .1) t (rw n at e) u m′ y)
-    (List·Memᴰ·cases-cons m))
-
-pub accepting-path-least : (sys : System) (log : List Record) (s : Configuration) (t : Path) → acceptingPath sys log s ≡ some t → (u : Path) → List·Memᴰ u (paths (sys .loc) log (s .word) (s .states)) → isAccepting (u .end) (sys .accepting) ≡ true
-    → (u ≡ t) ⊎ (lexLess (t .numbers) (u .numbers) ≡ true)
-unfolding acceptingPath
-accepting-path-least sys log s t e u m y = accepting-least (sys .accepting) (paths (sys .loc) log (s .word) (s .states)) (paths-rising (sys .loc) log (s .word) (s .states)) t e u m y
+-- no candidate of a list has the key
+pub first-none : (k : Transition) (cs : List Candidate) → Each (λ (c : Candidate). sameKey (c .key) k ≡ false) cs → firstOf k cs ≡ none
+first-none k [] e = refl
+first-none k (c ∷ cs) e = rw (e .0) (first-none k cs (e .1))

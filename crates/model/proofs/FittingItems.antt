@@ -14,7 +14,7 @@ use Rattle.model.specs.Copies.{leavesControl}
 use Rattle.model.specs.Groups.{Process, Processes, at, has, p0, p1, p2, p3, processesOf}
 use Rattle.model.specs.Lists.{Each}
 use Rattle.model.specs.Tables.{Item, bodies, byteOf, controlsOf, cooperates, groupFits, groupOf, isNarrow, isReentry, locOf, present, ruleOf, statesOf, transitionFits, transitionOf, valueFits, writtenFit}
-use Rattle.model.specs.Words.{Located}
+use Rattle.model.proofs.Words.{Located}
 use Rattle.model.proofs.Limit.{ByteGroup}
 use Rattle.model.proofs.Tests.{and-left, and-right, by-test, every-at}
 use Rattle.model.proofs.CheckedItems.{Checked, Passes, bodies-later, each-of-kind, shown-of-kind}

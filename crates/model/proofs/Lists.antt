@@ -12,7 +12,7 @@ use lib.ListN.{drop, drop-of-length-le, getD, getElem?, length, replicate}
 use lib.Seq.{drop-cons}
 use borrow.Author.Tests.{eqb-false, eqb-true, ne-eqb}
 use Rattle.model.specs.Groups.{at}
-use Rattle.model.specs.Lists.{Each, allOf, andThen, anyOf, isEmpty}
+use Rattle.model.specs.Lists.{Each, allOf, andThen, anyOf, isEmpty, filter, sumOver}
 use Rattle.model.proofs.Tests.{and-left, and-right, by-test}
 
 -- ---- a walk, step by step
@@ -167,10 +167,6 @@ pub each-all : {A : Type 0} (f : A → Bool) (xs : List A) → Each (λ (x : A).
 each-all f [] e = refl
 each-all f (x ∷ xs) e = rw (e .0) (each-all f xs (e .1))
 
-pub any-false : {A : Type 0} (f : A → Bool) (xs : List A) → anyOf f xs ≡ false → Each (λ (x : A). f x ≡ false) xs
-any-false f [] e = tt
-any-false f (x ∷ xs) e = by-test (f x) (λ y. absurd (true≢false (let bad : true ≡ false = rw y at e in bad))) (λ n. (n, any-false f xs (rw n at e)))
-
 pub any-true : {A : Type 0} (f : A → Bool) (xs : List A) → anyOf f xs ≡ true → (x : A) × List·Memᴰ x xs × (f x ≡ true)
 any-true f [] e = absurd (false≢true e)
 any-true f (x ∷ xs) e = by-test (f x)
@@ -197,3 +193,50 @@ placesFrom k (suc n) l = getD l k 0 ∷ placesFrom (suc k) n l
 pub by-places : (k n : ℕ) (l : List ℕ) → length l ≡ k + n → placesFrom k n l ≡ drop k l
 by-places k zero l e = sym (drop-of-length-le l {i = k} (omega arith))
 by-places k (suc n) l e = ap (λ (xs : List ℕ). getD l k 0 ∷ xs) (by-places (suc k) n l (omega arith)) ∙ sym (drop-cons l k 0 (omega arith))
+
+-- ---- filtered lists
+pub filter-each : {A : Type 0} (f : A → Bool) (P : A → Type 0) (xs : List A) → Each P xs → Each P (filter f xs)
+filter-each f P [] e = tt
+filter-each f P (x ∷ xs) e = by-test (f x) (λ y. rw y (e .0, filter-each f P xs (e .1))) (λ n. rw n (filter-each f P xs (e .1)))
+
+pub filter-holds : {A : Type 0} (f : A → Bool) (xs : List A) → Each (λ (x : A). f x ≡ true) (filter f xs)
+filter-holds f [] = tt
+filter-holds f (x ∷ xs) = by-test (f x) (λ y. rw y (y, filter-holds f xs)) (λ n. rw n (filter-holds f xs))
+
+pub filter-all : {A : Type 0} (f : A → Bool) (xs : List A) → Each (λ (x : A). f x ≡ true) xs → filter f xs ≡ xs
+filter-all f [] e = refl
+filter-all {A} f (x ∷ xs) e = rw (e .0) (ap (λ (l : List A). x ∷ l) (filter-all f xs (e .1)))
+
+pub filter-none : {A : Type 0} (f : A → Bool) (xs : List A) → Each (λ (x : A). f x ≡ false) xs → filter f xs ≡ []
+filter-none f [] e = refl
+filter-none f (x ∷ xs) e = rw (e .0) (filter-none f xs (e .1))
+
+pub filter-append : {A : Type 0} (f : A → Bool) (xs ys : List A) → filter f (xs ++ ys) ≡ filter f xs ++ filter f ys
+filter-append f [] ys = refl
+filter-append {A} f (x ∷ xs) ys = by-test (f x) (λ y. rw y (ap (λ (l : List A). x ∷ l) (filter-append f xs ys))) (λ n. rw n (filter-append f xs ys))
+
+pub filter-map : {A B : Type 0} (f : B → Bool) (h : A → Bool) (g : A → B) → ((x : A) → f (g x) ≡ h x) → (xs : List A) → filter f (map g xs) ≡ map g (filter h xs)
+filter-map f h g e [] = refl
+filter-map {A} {B} f h g e (x ∷ xs) = by-test (h x)
+    (λ y. rw (e x, y) (ap (λ (l : List B). g x ∷ l) (filter-map f h g e xs)))
+    (λ n. rw (e x, n) (filter-map f h g e xs))
+
+-- ---- what holds of each element, by its place
+pub each-place : {A : Type 0} (P : A → Type 0) (l : List A) (d : A) (j : ℕ) → Each P l → j < length l → P (getD l j d)
+each-place P [] d j e h = absurd (not-suc-le-zero h)
+each-place P (x ∷ l) d zero e h = e .0
+each-place P (x ∷ l) d (suc j) e h = each-place P l d j (e .1) (omega arith)
+
+pub each-by-place : (P : ℕ → Type 0) (l : List ℕ) → ((j : ℕ) → j < length l → P (getD l j 0)) → Each P l
+each-by-place P [] f = tt
+each-by-place P (x ∷ l) f = (f 0 (omega arith), each-by-place P l (λ j h. f (suc j) (omega arith)))
+
+-- ---- sums
+pub sum-snoc : (f : ℕ → ℕ) (ns : List ℕ) (n : ℕ) → sumOver f (ns ++ (n ∷ [])) ≡ sumOver f ns + f n
+sum-snoc f [] n = omega arith
+sum-snoc f (m ∷ ns) n = let below : sumOver f (ns ++ (n ∷ [])) ≡ sumOver f ns + f n = sum-snoc f ns n in omega arith
+
+pub elem-place : {A : Type 0} (l : List A) (k : ℕ) (d x : A) → getElem? l k ≡ some x → (k < length l) × (getD l k d ≡ x)
+elem-place [] k d x e = absurd (let z : _≡_ {A = ℕ} 0 1 = cc in omega arith)
+elem-place (y ∷ l) zero d x e = (omega arith, let same : y ≡ x = cc in same)
+elem-place (y ∷ l) (suc k) d x e = let r = elem-place l k d x e in (omega (arith, r .0), r .1)

@@ -2,7 +2,7 @@
 use mathlib.Core.Path.{_∙_, _≡_, ap₂, refl, sym}
 use mathlib.Core.Bool.{cond, false, false≢true, true, true≢false}
 use mathlib.Core.Logic.{_≢_, _⊎_, inl, inr, ⊎-elim}
-use mathlib.Core.List.{List, [], _∷_, map}
+use mathlib.Core.List.{List, [], _∷_, map, _++_}
 use Prim.Native.Nat.{_<_, _≤_, suc, zero, ℕ}
 use native.Mathlib.Omega.{arith}
 use lib.Dec.{eqb, ltb}
@@ -13,9 +13,10 @@ use Rattle.model.specs.Lists.{Each}
 use Rattle.model.specs.Log.{Candidate, Record, additions, candidates, collect, inLog, initialCandidate, insert, keyDigits, keyLess, keys, lexLess, logAt, sameKey}
 use Rattle.model.specs.Systems.{System}
 use Rattle.model.proofs.Collecting.{candidateKeys, each-insert, inLog-of, keys-suc, sameKey-of}
-use Rattle.model.proofs.Lists.{Distinct, distinct-append, each-get, each-map}
+use Rattle.model.proofs.Lists.{Distinct, distinct-append, each-get, each-map, each-append}
 use Rattle.model.proofs.Reachability.{keys-initial}
 use Rattle.model.proofs.Tests.{by-test}
+use lib.ListN.{length}
 
 -- ---- lexicographic order
 pub lex-cases : (a b : ℕ) (as′ bs : List ℕ) → lexLess (a ∷ as′) (b ∷ bs) ≡ true → (a < b) ⊎ ((a ≡ b) × (lexLess as′ bs ≡ true))
@@ -148,3 +149,17 @@ distinct-suc sys k d = rw (keys-suc sys k) (distinct-append (keys (logAt sys k))
 pub log-distinct : (sys : System) (k : ℕ) → Distinct (keys (logAt sys k))
 log-distinct sys zero = distinct-zero sys
 log-distinct sys (suc k) = distinct-suc sys k (log-distinct sys k)
+
+-- ---- longer lists
+pub lex-front : (xs ys us vs : List ℕ) → length xs ≡ length ys → lexLess xs ys ≡ true → lexLess (xs ++ us) (ys ++ vs) ≡ true
+lex-front [] [] us vs l e = absurd (false≢true e)
+lex-front [] (y ∷ ys) us vs l e = absurd (omega arith)
+lex-front (x ∷ xs) [] us vs l e = absurd (omega arith)
+lex-front (x ∷ xs) (y ∷ ys) us vs l e = ⊎-elim
+    (λ h. lex-lt x y (xs ++ us) (ys ++ vs) h)
+    (λ p. lex-eq x y (xs ++ us) (ys ++ vs) (p .0) (lex-front xs ys us vs (omega arith) (p .1)))
+    (lex-cases x y xs ys e)
+
+pub sorted-append : (cs ds : List Candidate) → Sorted cs → Sorted ds → Each (λ (c : Candidate). Each (λ (d : Candidate). Less (c .key) (d .key)) ds) cs → Sorted (cs ++ ds)
+sorted-append [] ds s t e = t
+sorted-append (c ∷ cs) ds s t e = (each-append (λ (d : Candidate). Less (c .key) (d .key)) cs ds (s .0) (e .0), sorted-append cs ds (s .1) t (e .1))

@@ -4,15 +4,11 @@ use mathlib.Core.List.{List, [], _∷_, _++_, map}
 use Prim.Native.Nat.{ℕ, _+_, _≤_, min}
 use native.Mathlib.Omega.{arith}
 use lib.ListN.{length, length-append}
-use Rattle.model.specs.Lists.{sumOver}
 use Rattle.model.specs.Groups.{Process, atEach, bit, has, p0, p1, p2, p3}
 use Rattle.model.specs.Systems.{System}
 use Rattle.model.specs.Participation.{ruleProcesses, stepCounts, stepsWith, withStep}
 use Rattle.model.proofs.Groups.{bit-low}
-
-sum-snoc : (f : ℕ → ℕ) (ns : List ℕ) (n : ℕ) → sumOver f (ns ++ (n ∷ [])) ≡ sumOver f ns + f n
-sum-snoc f [] n = omega arith
-sum-snoc f (m ∷ ns) n = let below : sumOver f (ns ++ (n ∷ [])) ≡ sumOver f ns + f n = sum-snoc f ns n in omega arith
+use Rattle.model.proofs.Lists.{sum-snoc}
 
 -- lists with a number for each process
 each-same : (f g : Process → ℕ) → ((i : Process) → f i ≡ g i) → atEach f ≡ atEach g

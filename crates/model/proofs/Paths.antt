@@ -9,10 +9,10 @@ use Rattle.model.specs.declared.Group.{Group}
 use Rattle.model.specs.Automata.{Along, Transition, label, move}
 use Rattle.model.specs.Groups.{Apart, Processes, Within, has, merge, restrict}
 use Rattle.model.specs.Lists.{Each}
-use Rattle.model.specs.Words.{Equivalent, Located, project, removeFirst}
+use Rattle.model.specs.Words.{Equivalent, project, removeFirst}
+use Rattle.model.proofs.Words.{Located, Pick, equivalent-nil, equivalent-pick, equivalent-tops, here, pick-tops, there, tops-pick}
 use Rattle.model.proofs.Groups.{merge-cong, merge-inside, merge-self, merge-swap, restrict-merge-apart, restrict-merge-cong, restrict-within}
 use Rattle.model.proofs.Tests.{by-test}
-use Rattle.model.proofs.Words.{Pick, equivalent-nil, equivalent-pick, equivalent-tops, here, pick-tops, there, tops-pick}
 
 pub apart-sym : (L M : Processes) → Apart L M → Apart M L
 apart-sym L M h i m = by-test (has L i) (λ l. absurd (true≢false (sym m ∙ h i l))) (λ l. l)

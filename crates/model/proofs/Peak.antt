@@ -11,10 +11,10 @@ use borrow.Author.Tests.{leb-false, leb-true}
 use Rattle.model.specs.Groups.{Process, Processes, bit, greatest, has, p0, p1, p2, p3}
 use Rattle.model.specs.Lists.{valueOr}
 use Rattle.model.specs.Systems.{Configuration, PeakIs, Rule, System, fire, peak, walk}
-use Rattle.model.specs.Words.{Located, height, keep, project, removeFirst}
+use Rattle.model.proofs.Words.{Located, pick-equivalent, project-append, tops-pick}
+use Rattle.model.specs.Words.{height, keep, project, removeFirst}
 use Rattle.model.proofs.Steps.{WalkStep, enabled-tops, fire-inv, walk-cons, walk-inv}
 use Rattle.model.proofs.Tests.{by-test}
-use Rattle.model.proofs.Words.{pick-equivalent, project-append, tops-pick}
 
 -- ---- the greatest of four
 pub greatest-most : (f : Process → ℕ) (i : Process) → f i ≤ greatest f

@@ -1,9 +1,9 @@
 -- A record's reason, said of the record: the lowest rule that adds its key in its round, and of that rule's paths the first by record numbers. Folds, cut in two.
 use mathlib.Core.Path.{_∙_, _≡_, ap, refl, subst, sym}
-use mathlib.Core.Bool.{cond, true}
+use mathlib.Core.Bool.{true}
 use mathlib.Core.Logic.{_⊎_, inl, inr, ⊎-elim}
 use mathlib.Core.Option.{some}
-use mathlib.Core.List.{List, List·Memᴰ, [], _++_, _∷_, map}
+use mathlib.Core.List.{List, List·Memᴰ, [], _∷_, map}
 use Prim.Native.Nat.{_≤_, suc, zero, ℕ}
 use native.Mathlib.Omega.{arith}
 use native.Mathlib.Nat.{not-suc-le-zero}
@@ -11,7 +11,7 @@ use lib.ListN.{getElem?, length}
 use Rattle.model.specs.declared.Group.{Group}
 use Rattle.model.specs.Automata.{label}
 use Rattle.model.specs.Lists.{Each}
-use Rattle.model.specs.Log.{Candidate, Path, Record, addedRecord, additions, candidate, collect, inLog, insert, lexLess, logAt}
+use Rattle.model.specs.Log.{Candidate, Path, Record, addedRecord, additions, candidate, lexLess, logAt}
 use Rattle.model.specs.Saturation.{added}
 use Rattle.model.specs.Systems.{Rule, System}
 use Rattle.model.proofs.Collecting.{Reasoned, additions-reasoned, candidates-complete, logAt-suc}
@@ -72,10 +72,6 @@ log-reasons sys zero = reason-zero sys
 log-reasons sys (suc k) = reason-suc sys k (log-reasons sys k)
 
 -- ---- folds, for loops
-pub collect-append : (log : List Record) (xs ys got : List Candidate) → collect log (xs ++ ys) got ≡ collect log ys (collect log xs got)
-collect-append log [] ys got = refl
-collect-append log (x ∷ xs) ys got = collect-append log xs ys (cond (inLog (x .key) log) got (insert x got))
-
 -- a reason's path has a place for each written letter
 length-transitionsAt : (log : List Record) (ns : List ℕ) → length (label (transitionsAt log ns)) ≡ length ns
 length-transitionsAt log [] = refl

@@ -15,14 +15,14 @@ use Rattle.model.specs.Saturation.{added}
 use Rattle.model.specs.Systems.{Accepts, Configuration, Rule, System, enabled, fired, walk}
 use Rattle.model.specs.Tables.{cooperates}
 use Rattle.model.specs.Unfolding.{Unfolds, done, replaced, skipped}
-use Rattle.model.specs.Words.{Equivalent, Located, project, removeFirst}
+use Rattle.model.specs.Words.{Equivalent, project, removeFirst}
+use Rattle.model.proofs.Words.{Located, Pick, Tops, equivalent-append, equivalent-pick, equivalent-tops, here, pick-equivalent, pick-tops, project-append, there, tops-pick}
 use Rattle.model.proofs.Completeness.{Cooperates}
 use Rattle.model.proofs.Groups.{agree-at, at-merge, at-restrict, merge-merge, merge-restrict, restrict-merge, restrict-merge-apart}
 use Rattle.model.proofs.Lists.{each-append, each-less, each-map}
 use Rattle.model.proofs.Paths.{Inside, along-apart, along-append, along-inside, along-split, apart-sym, label-append, rearrange}
 use Rattle.model.proofs.Steps.{enabled-of, fire-some, walk-cons}
 use Rattle.model.proofs.Tests.{by-test, cond-less}
-use Rattle.model.proofs.Words.{Pick, Tops, equivalent-append, equivalent-pick, equivalent-tops, here, pick-equivalent, pick-tops, project-append, there, tops-pick}
 
 -- ---- control states
 -- the group's states are control states, at the processes of L

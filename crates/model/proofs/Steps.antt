@@ -11,11 +11,11 @@ use Rattle.model.specs.Groups.{Processes, at, merge, restrict, sameGroup
 use Rattle.model.specs.Lists.{andThen}
 use Rattle.model.specs.Systems.{Configuration, Equal, Rule, Step, Steps, System, enabled, fire, fired, onward, stay, walk}
 use Rattle.model.specs.Tables.{read}
-use Rattle.model.specs.Words.{Located, project, removeFirst, tops}
+use Rattle.model.proofs.Words.{Located, Tops, equivalent-append, equivalent-pick, equivalent-tops, here, pick-equivalent, pick-tops, tops-of, tops-pick, tops-true}
+use Rattle.model.specs.Words.{project, removeFirst, tops}
 use Rattle.model.proofs.Groups.{sameGroup-of, sameGroup-true}
 use Rattle.model.proofs.Lists.{andThen-inv}
 use Rattle.model.proofs.Tests.{and-both, and-left, and-right, by-test}
-use Rattle.model.proofs.Words.{Tops, equivalent-append, equivalent-pick, equivalent-tops, here, pick-equivalent, pick-tops, tops-of, tops-pick, tops-true}
 
 pub enabled-matches : (loc : ℕ → Processes) (r : Rule) (s : Configuration) → enabled loc r s ≡ true → restrict (loc (r .letter)) (s .states) ≡ r .before
 unfolding enabled

@@ -9,9 +9,9 @@ use lib.Dec.{leb}
 use lib.ListN.{List·getD-eq-default, getD, length}
 use lib.Pow.{pow-mono}
 use borrow.Author.Tests.{leb-true, ltb-false, ltb-true, ne-eqb}
-use Rattle.model.specs.Groups.{Process, Within, has, p0, p1, p2, p3, processesOf}
+use Rattle.model.specs.Groups.{Process, Within, has, p0, p1, p2, p3, processesOf, numberOf}
 use Rattle.model.specs.Lists.{Each}
-use Rattle.model.specs.Tables.{Item, absent, bodies, byteOf, controlsOf, isNarrow, locOf, numberOf, present, statesOf, valueFits}
+use Rattle.model.specs.Tables.{Item, absent, bodies, byteOf, controlsOf, isNarrow, locOf, present, statesOf, valueFits}
 use Rattle.model.proofs.CheckedItems.{Checked, Passes, each-of-kind}
 use Rattle.model.proofs.FittingItems.{letter-fits}
 use Rattle.model.proofs.Lists.{all-each, each-get, getD-mem}

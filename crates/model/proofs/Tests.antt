@@ -4,6 +4,10 @@ use mathlib.Core.Bool.{Bool, _&&_, _||_, cond, false, false≢true, not, true, t
 use Prim.Native.Nat.{_<_, suc, zero, ℕ}
 use native.Mathlib.Omega.{arith}
 use Rattle.model.specs.Groups.{Process, every, p0, p1, p2, p3}
+use lib.Dec.{eqb}
+use borrow.Author.Tests.{eqb-true, eqb-false}
+use Rattle.model.specs.Lists.{allBelow}
+use native.Mathlib.Nat.{not-suc-le-zero}
 
 -- a test is true or false, with the equation
 pub by-test {ℓ} : {C : Type ℓ} (b : Bool) → (b ≡ true → C) → (b ≡ false → C) → C
@@ -68,3 +72,35 @@ every-at f e p0 = and-left (f p0) (f p1) (and-left (f p0 && f p1) (f p2) (and-le
 every-at f e p1 = and-right (f p0) (f p1) (and-left (f p0 && f p1) (f p2) (and-left (f p0 && f p1 && f p2) (f p3) e))
 every-at f e p2 = and-right (f p0 && f p1) (f p2) (and-left (f p0 && f p1 && f p2) (f p3) e)
 every-at f e p3 = and-right (f p0 && f p1 && f p2) (f p3) e
+
+-- ---- tests computed over all numbers below a bound
+abbrev pub sameBool : Bool → Bool → Bool
+sameBool true b = b
+sameBool false true = false
+sameBool false false = true
+
+pub same-bool : (a b : Bool) → sameBool a b ≡ true → a ≡ b
+same-bool true b e = sym e
+same-bool false true e = e
+same-bool false false e = refl
+
+pub allBelow-of : (n : ℕ) (f : ℕ → Bool) → ((k : ℕ) → k < n → f k ≡ true) → allBelow n f ≡ true
+allBelow-of zero f h = refl
+allBelow-of (suc n) f h = and-both (allBelow n f) (f n) (allBelow-of n f (λ k l. h k (omega arith))) (h n (omega arith))
+
+pub allBelow-at : (n : ℕ) (f : ℕ → Bool) → allBelow n f ≡ true → (k : ℕ) → k < n → f k ≡ true
+allBelow-at zero f e k l = absurd (not-suc-le-zero l)
+allBelow-at (suc n) f e k l =
+    by-test (eqb k n)
+    (λ y. rw (eqb-true k n y) (and-right (allBelow n f) (f n) e))
+    (λ y. let q : k ≡ n → ⊥ = eqb-false k n y in allBelow-at n f (and-left (allBelow n f) (f n) e) k (omega arith))
+
+pub allBelow-fails : (n : ℕ) (f : ℕ → Bool) (k : ℕ) → k < n → f k ≡ false → allBelow n f ≡ false
+allBelow-fails n f k l e = by-test (allBelow n f) (λ y. absurd (true≢false (sym (allBelow-at n f y k l) ∙ e))) (λ y. y)
+
+pub or-true-left : (a b : Bool) → a ≡ true → (a || b) ≡ true
+or-true-left a b e = rw e
+
+pub or-true-right : (a b : Bool) → b ≡ true → (a || b) ≡ true
+or-true-right true b e = refl
+or-true-right false b e = e

@@ -18,7 +18,8 @@ use Rattle.model.specs.Saturation.{Delta, added}
 use Rattle.model.specs.Systems.{Accepting, Accepts, Configuration, Equal, InAutomaton, Joins, Rule, Step, Steps, System, fire, fired, walk}
 use Rattle.model.specs.Tables.{Item, accepted, read, saturatedOf, systemOf}
 use Rattle.model.specs.Unfolding.{Unfolds, emitted, pathSteps}
-use Rattle.model.specs.Words.{Equivalent, Located}
+use Rattle.model.specs.Words.{Equivalent}
+use Rattle.model.proofs.Words.{Located}
 use Rattle.model.proofs.Collecting.{Held}
 use Rattle.model.proofs.Completeness.{accepts-same}
 use Rattle.model.proofs.Copies.{joins-with-copy, with-copy-joins}

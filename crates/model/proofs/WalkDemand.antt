@@ -12,7 +12,7 @@ use lib.Seq.{take-append-seam}
 use borrow.Author.Tests.{ltb-false, ltb-true}
 use Rattle.model.specs.declared.Walked.{Walked}
 use Rattle.model.specs.Calls.{Halt, changesNothing, filled, firedRules, haltAt, haltBefore, haltEnd, stepBy, stepTo, walkCall, walkCounts, walkFigures, walkFrom, walkGiven, walkScratch}
-use Rattle.model.specs.Demands.{Demand2Walk, NoRoom, NoRule, NoStep, Reached, StoppedAt, TookPart}
+use Rattle.model.specs.Demands.{Demand2Walk, NoRoom, NoRule, NoStep, WalkedTo, StoppedAt, TookPart}
 use Rattle.model.specs.Participation.{stepCounts}
 use Rattle.model.specs.Groups.{bit}
 use Rattle.model.specs.Lists.{valueOr}
@@ -133,7 +133,7 @@ module _ (table list pile : List ℕ) (items : List Item) (e : read table ≡ ac
   abbrev Right : Halt → Type 0
   Right h = Demand2Walk table list (walkFigures (h .answer)) (left h)
 
-  ended : (d : Configuration) → walk sys list (sys .start) ≡ some d → Reached list (walkFigures (haltEnd sys d .answer)) (filled (d .word) pile) sys
+  ended : (d : Configuration) → walk sys list (sys .start) ≡ some d → WalkedTo list (walkFigures (haltEnd sys d .answer)) (filled (d .word) pile) sys
   ended d w =
       let b = bit-one (accepts (sys .loc) (sys .transitions) (sys .accepting) (d .word) (d .states)) in
       let a = watched-is-accepted sys d in
@@ -237,36 +237,36 @@ module _ (table list pile : List ℕ) (items : List Item) (e : read table ≡ ac
   given-right = by-halt Right ends-right stops-right (before-right 15 0 (inl refl)) (λ long. before-right 14 0 (inr (refl, long)))
 
   -- ---- request 2.5
-  abbrev Counts : Halt → Type 0
-  Counts h = Counted table list (h .answer) (stepCounts sys (firedRules list (h .answer)))
+  abbrev CountsRight : Halt → Type 0
+  CountsRight h = Counted table list (h .answer) (stepCounts sys (firedRules list (h .answer)))
 
-  ends-counted : (h : Halt) → Ends sys list (sys .start) h → Counts h
-  ends-counted h x = subst Counts (sym (x .halt)) (record {
+  ends-counted : (h : Halt) → Ends sys list (sys .start) h → CountsRight h
+  ends-counted h x = subst CountsRight (sym (x .halt)) (record {
     ended = λ z. (items, e, refl);
     stopped = λ a b. absurd (omega arith);
     no-step = λ z. absurd (true≢false (sym z));
   })
 
-  refused-counted : (number place : ℕ) → 1 ≤ number → (changesNothing number ≡ true → place ≡ 0) → Counts (haltBefore number place)
+  refused-counted : (number place : ℕ) → 1 ≤ number → (changesNothing number ≡ true → place ≡ 0) → CountsRight (haltBefore number place)
   refused-counted number place l first = record {
     ended = λ z. absurd (omega (arith, z));
     stopped = λ a b. (items, e, refl);
     no-step = λ z. ap (λ (k : ℕ). stepCounts sys (take k list)) (first z);
   }
 
-  stops-counted : (h : Halt) → Stops sys (length pile) 0 list (sys .start) h → Counts h
-  stops-counted h x = subst Counts (sym (x .halt)) (by-number (x .why))
+  stops-counted : (h : Halt) → Stops sys (length pile) 0 list (sys .start) h → CountsRight h
+  stops-counted h x = subst CountsRight (sym (x .halt)) (by-number (x .why))
     where
-      numbered : (k : ℕ) → 1 ≤ k → changesNothing k ≡ false → x .number ≡ k → Counts (haltBefore (x .number) (0 + x .k))
+      numbered : (k : ℕ) → 1 ≤ k → changesNothing k ≡ false → x .number ≡ k → CountsRight (haltBefore (x .number) (0 + x .k))
       numbered k l q f = refused-counted (x .number) (0 + x .k) (omega (arith, f)) (λ z. absurd (true≢false (sym z ∙ ap changesNothing f ∙ q)))
 
-      by-number : Why sys (length pile) (getD list (x .k) 0) (x .at) (x .number) → Counts (haltBefore (x .number) (0 + x .k))
+      by-number : Why sys (length pile) (getD list (x .k) 0) (x .at) (x .number) → CountsRight (haltBefore (x .number) (0 + x .k))
       by-number (inl u) = numbered 13 (omega arith) refl (u .numbered)
       by-number (inr (inl u)) = numbered 12 (omega arith) refl (u .numbered)
       by-number (inr (inr u)) = numbered 14 (omega arith) refl (u .numbered)
 
-  given-counted : (scratch : ℕ) → Counts (walkGiven (accepted items) list (length pile) scratch)
-  given-counted = by-halt Counts ends-counted stops-counted (refused-counted 15 0 (omega arith) (λ z. refl)) (λ long. refused-counted 14 0 (omega arith) (λ z. refl))
+  given-counted : (scratch : ℕ) → CountsRight (walkGiven (accepted items) list (length pile) scratch)
+  given-counted = by-halt CountsRight ends-counted stops-counted (refused-counted 15 0 (omega arith) (λ z. refl)) (λ long. refused-counted 14 0 (omega arith) (λ z. refl))
 
 pub walk-demand : (table list pile scratch : List ℕ) → Demand2Walk table list (walkFigures (walkCall table list pile scratch .answer)) (walkCall table list pile scratch .pile)
 unfolding walkCall walkGiven

@@ -7,8 +7,12 @@ use native.Mathlib.Omega.{arith}
 use lib.Dec.{eqb}
 use borrow.Author.Tests.{eq-eqb, eqb-false, eqb-true}
 use Rattle.model.specs.Groups.{Apart, Process, Processes, at, has}
-use Rattle.model.specs.Words.{Equivalent, Located, keep, project, removeFirst, startsWith, tops}
+use Rattle.model.specs.Words.{Equivalent, keep, project, removeFirst, startsWith, tops}
 use Rattle.model.proofs.Tests.{by-test, every-at, every-of, implied, implies}
+
+-- each letter has a process
+abbrev pub Located : (ℕ → Processes) → Type 0
+Located loc = (a : ℕ) → (i : Process) × (has (loc a) i ≡ true)
 
 -- w is u a v where no letter of u shares a process with a, and x is u v
 pub data Pick (loc : ℕ → Processes) (a : ℕ) : List ℕ → List ℕ → Type 0 where

@@ -1,6 +1,6 @@
--- Document 01, "Calls and what they leave": for each call one definition of what it gives and of the closing contents of every lent buffer.
--- What a call gives depends on its buffers by their lengths alone. The order of the checks: 1 to 9; 15; then 10, 16, 11; in a walk 14 for the
--- start pile and, at each step, 13, 12, 14.
+-- Document 01, "Calls and what they leave": for each call one definition of what it gives and of the closing contents
+-- of every lent buffer. What a call gives depends on its buffers by their lengths alone. The order of the checks: 1 to
+-- 9; 15; then 10, 16, 11; in a walk 14 for the start pile and, at each step, 13, 12, 14.
 use mathlib.Core.Bool.{Bool, cond, _&&_, _||_}
 use mathlib.Core.Option.{Option, none, some}
 use mathlib.Core.List.{List, [], _∷_, _++_}
@@ -15,7 +15,7 @@ use Rattle.model.specs.Groups.{Processes, atEach, bit}
 use Rattle.model.specs.Systems.{System, Rule, Configuration, fire, peak, accepts}
 use Rattle.model.specs.Copies.{withCopy}
 use Rattle.model.specs.Tables.{Reading, accepted, refused, read, systemOf, saturatedOf}
-use Rattle.model.specs.Log.{Record, Path, limit, rounds}
+use Rattle.model.specs.Log.{Record, Path, limit, rounds, longestRun}
 use Rattle.model.specs.Unfolding.{acceptingPath, emitted, pathSteps}
 use Rattle.model.specs.Records.{recordLength, logBytes}
 use Rattle.model.specs.Participation.{stepCounts}
@@ -24,12 +24,16 @@ use Rattle.model.specs.Participation.{stepCounts}
 abbrev pub capacity : ℕ → ℕ
 capacity logLength = min (logLength / recordLength) 65535
 
--- what check 15 asks of the scratch: of answer and run, for n records (request 2.4) and for a log of this length, and of a walk
+-- what check 15 asks of the scratch: of answer and run, for n records (request 2.4) and for a log of this length, and
+-- of a walk
+abbrev pub scratchLeast : ℕ
+scratchLeast = 34000
+
 abbrev pub scratchPerRecord : ℕ
 scratchPerRecord = 10
 
 abbrev pub scratchFor : ℕ → ℕ
-scratchFor n = 34000 + scratchPerRecord * n
+scratchFor n = scratchLeast + scratchPerRecord * n
 
 abbrev pub scratchNeeded : ℕ → ℕ
 scratchNeeded logLength = scratchFor (capacity logLength)
@@ -59,7 +63,8 @@ scratchAfter number scratch = cond (changesNothing number) scratch (zeros scratc
 
 -- the log holds its records then zeros, all zeros after 10
 unfoldable pub logAfter : ℕ → List Record → List ℕ → List ℕ
-logAfter number records log = cond (changesNothing number) log (cond (eqb number 10) (zeros log) (filled (logBytes records) log))
+logAfter number records log =
+    cond (changesNothing number) log (cond (eqb number 10) (zeros log) (filled (logBytes records) log))
 
 -- the page holds the run then zeros, unchanged if refused
 unfoldable pub pageAfter : ℕ → List ℕ → List ℕ → List ℕ
@@ -72,7 +77,8 @@ recordsOf (accepted items) = limit (saturatedOf items)
 
 unfoldable pub runOf : Reading → List ℕ
 runOf (refused number place) = []
-runOf (accepted items) = valueOr [] (λ (p : Path). emitted (limit (saturatedOf items)) (p .numbers)) (startPath (saturatedOf items))
+runOf (accepted items) =
+    valueOr [] (λ (p : Path). emitted (limit (saturatedOf items)) (p .numbers)) (startPath (saturatedOf items))
 
 -- ---- the answer call: table, log, scratch
 abbrev pub answerRefusal : Answered → ℕ
@@ -100,7 +106,11 @@ pub record AnswerOutcome : Type 0 where
 unfoldable pub answerCall : List ℕ → List ℕ → List ℕ → AnswerOutcome
 answerCall table log scratch =
     let given = answerGiven (read table) (length log) (length scratch) in
-    record { answer = given; log = logAfter (answerRefusal given) (recordsOf (read table)) log; scratch = scratchAfter (answerRefusal given) scratch }
+    record {
+      answer = given;
+      log = logAfter (answerRefusal given) (recordsOf (read table)) log;
+      scratch = scratchAfter (answerRefusal given) scratch;
+    }
 
 -- ---- the run call: table, log, scratch, page
 abbrev pub runRefusal : Ran → ℕ
@@ -109,13 +119,14 @@ runRefusal (Ran.Refused number place) = number
 
 -- 16, no run; 11, long run: steps exceed the page's length or 1,000,000
 abbrev pub isLong : ℕ → ℕ → Bool
-isLong steps pageLength = ltb pageLength steps || ltb 1000000 steps
+isLong steps pageLength = ltb pageLength steps || ltb longestRun steps
 
 abbrev pub runVerdict : System → ℕ → Option Path → Ran
 runVerdict sys pageLength none = Ran.Refused 16 0
 runVerdict sys pageLength (some p) =
     cond (isLong (pathSteps (limit (withCopy sys)) (p .numbers)) pageLength) (Ran.Refused 11 0)
-    (Ran.Reached (length (limit (withCopy sys))) (rounds (limit (withCopy sys))) (pathSteps (limit (withCopy sys)) (p .numbers))
+    (Ran.Reached (length (limit (withCopy sys))) (rounds (limit (withCopy sys)))
+    (pathSteps (limit (withCopy sys)) (p .numbers))
     (peak sys (emitted (limit (withCopy sys)) (p .numbers)) (sys .start)))
 
 unfoldable pub runGiven : Reading → ℕ → ℕ → ℕ → Ran
@@ -146,8 +157,8 @@ abbrev pub walkRefusal : Walked → ℕ
 walkRefusal (Walked.Ended g n w) = 0
 walkRefusal (Walked.Refused number place) = number
 
--- what a walk comes to: what it gives, the part of the caller's list that it hands back, and the pile that its buffer holds; none leaves
--- the buffer unchanged
+-- what a walk comes to: what it gives, the part of the caller's list that it hands back, and the pile that its buffer
+-- holds; none leaves the buffer unchanged
 pub record Halt : Type 0 where
   pub answer : Walked
   pub rest : List ℕ
@@ -164,7 +175,12 @@ haltAt number step list c = record { answer = Walked.Refused number step; rest =
 -- at the list's end: end states, pile length, watched or not
 abbrev pub haltEnd : System → Configuration → Halt
 haltEnd sys c =
-    record { answer = Walked.Ended (c .states) (length (c .word)) (accepts (sys .loc) (sys .transitions) (sys .accepting) (c .word) (c .states)); rest = []; pile = some (c .word) }
+    record {
+      answer = Walked.Ended (c .states) (length (c .word))
+          (accepts (sys .loc) (sys .transitions) (sys .accepting) (c .word) (c .states));
+      rest = [];
+      pile = some (c .word);
+    }
 
 -- a step is checked by 13, 12 and 14; `go` is the walk from where it leads
 abbrev pub stepTo : (Configuration → Halt) → ℕ → ℕ → List ℕ → Configuration → Option Configuration → Halt
@@ -178,7 +194,9 @@ stepBy go loc pileLength step list c (some r) = stepTo go pileLength step list c
 -- `step` is the number of rules fired so far
 abbrev pub walkFrom : System → ℕ → ℕ → List ℕ → Configuration → Halt
 walkFrom sys pileLength step [] c = haltEnd sys c
-walkFrom sys pileLength step (n ∷ ns) c = stepBy (λ d. walkFrom sys pileLength (step + 1) ns d) (sys .loc) pileLength step (n ∷ ns) c (getElem? (sys .rules) n)
+walkFrom sys pileLength step (n ∷ ns) c =
+    stepBy (λ d. walkFrom sys pileLength (step + 1) ns d) (sys .loc) pileLength step (n ∷ ns) c
+    (getElem? (sys .rules) n)
 
 unfoldable pub walkGiven : Reading → List ℕ → ℕ → ℕ → Halt
 walkGiven (refused number place) list pileLength scratchLength = haltBefore number place
@@ -187,8 +205,8 @@ walkGiven (accepted items) list pileLength scratchLength =
     (cond (ltb pileLength (length (systemOf items .start .word))) (haltBefore 14 0)
     (walkFrom (systemOf items) pileLength 0 list (systemOf items .start)))
 
--- request 2.5: the rules of the list that were fired, all where the walk ended, else those before the refused step. The place of a refusal before the first
--- step is 0.
+-- request 2.5: the rules of the list that were fired, all where the walk ended, else those before the refused step. The
+-- place of a refusal before the first step is 0.
 abbrev pub firedRules : List ℕ → Walked → List ℕ
 firedRules list (Walked.Ended g n w) = list
 firedRules list (Walked.Refused number place) = take place list
@@ -216,8 +234,8 @@ walkCall table list pile scratch =
       scratch = scratchAfter (walkRefusal (halt .answer)) scratch;
     }
 
--- ---- document 01's number and values for every case: the refusal's number or 0, its place or 0, then the values, 0 where a case has none
--- reachable or not, transitions, rounds, steps
+-- ---- document 01's number and values for every case: the refusal's number or 0, its place or 0, then the values, 0
+-- where a case has none reachable or not, transitions, rounds, steps
 abbrev pub answerFigures : Answered → List ℕ
 answerFigures (Answered.Reachable t r s) = 0 ∷ 0 ∷ 1 ∷ t ∷ r ∷ s ∷ []
 answerFigures (Answered.Unreachable t r) = 0 ∷ 0 ∷ 0 ∷ t ∷ r ∷ 0 ∷ []

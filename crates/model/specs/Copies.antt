@@ -1,4 +1,5 @@
--- Lemma 10 of the paper, and request 2.6: the copy of an automaton. It accepts the same configurations of control states, and enters no control state.
+-- Lemma 10 of the paper, and request 2.6: the copy of an automaton. It accepts the same configurations of control
+-- states, and enters no control state.
 use mathlib.Core.Bool.{Bool, cond, not, _||_}
 use mathlib.Core.List.{List, [], _∷_, _++_, map}
 use Prim.Native.Nat.{ℕ, zero, suc, _+_}
@@ -29,7 +30,8 @@ setsBelow (suc n) = setsBelow n ++ processesOf n ∷ []
 unfoldable pub subsets : Processes → List Processes
 subsets L = filter (λ M. withinTest M L) (setsBelow 16)
 
--- "plain or copied states, in every mixture": copied at the processes of M and plain at the others, for each set M within L
+-- "plain or copied states, in every mixture": copied at the processes of M and plain at the others, for each set M
+-- within L
 unfoldable pub mixed : (Process → ℕ) → Processes → Group → Group
 mixed states M g = merge M (copies states g) g
 
@@ -38,13 +40,17 @@ mixtures states L g = map (λ M. mixed states M g) (subsets L)
 
 -- "A transition goes from plain or copied states, in every mixture over its task's stations, to copied ones only."
 abbrev pub copyFrom : (ℕ → Processes) → (Process → ℕ) → Transition → Group → Transition
-copyFrom loc states t g = record { letter = t .letter; before = g; after = restrict (loc (t .letter)) (copies states (t .after)) }
+copyFrom loc states t g = record {
+  letter = t .letter;
+  before = g;
+  after = restrict (loc (t .letter)) (copies states (t .after));
+}
 
 unfoldable pub copied : (ℕ → Processes) → (Process → ℕ) → Transition → List Transition
 copied loc states t = map (copyFrom loc states t) (mixtures states (loc (t .letter)) (t .before))
 
--- The system whose automaton is saturated: if some transition enters a control state it has the copy, and else its own automaton.
--- "A group, plain, copied or mixed, accepts exactly if its plain version does."
+-- The system whose automaton is saturated: if some transition enters a control state it has the copy, and else its own
+-- automaton. "A group, plain, copied or mixed, accepts exactly if its plain version does."
 abbrev pub withCopy : System → System
 withCopy sys = record {
   loc = sys .loc;
@@ -53,6 +59,7 @@ withCopy sys = record {
   states = λ i. cond (reenters sys) (sys .states i + sys .states i) (sys .states i);
   rules = sys .rules;
   transitions = cond (reenters sys) (concatMap (copied (sys .loc) (sys .states)) (sys .transitions)) (sys .transitions);
-  accepting = cond (reenters sys) (concatMap (mixtures (sys .states) (sys .processes)) (sys .accepting)) (sys .accepting);
+  accepting = cond (reenters sys) (concatMap (mixtures (sys .states) (sys .processes)) (sys .accepting))
+      (sys .accepting);
   start = sys .start;
 }

@@ -1,4 +1,5 @@
--- Section 2 of the paper: processes, tuples of local states, their restriction to a set of processes, and the joint tuple.
+-- Section 2 of the paper: processes, tuples of local states, their restriction to a set of processes, and the joint
+-- tuple.
 use mathlib.Core.Path.{_≡_}
 use mathlib.Core.Bool.{Bool, _&&_, _||_, cond, false, not, true}
 use mathlib.Core.List.{List, [], _∷_}
@@ -21,6 +22,16 @@ greatest f = max (max (f p0) (f p1)) (max (f p2) (f p3))
 -- what stands at the four processes, in order
 abbrev pub atEach : {A : Type 0} → (Process → A) → List A
 atEach f = f p0 ∷ f p1 ∷ f p2 ∷ f p3 ∷ []
+
+abbrev pub numberOf : Process → ℕ
+numberOf p0 = 0
+numberOf p1 = 1
+numberOf p2 = 2
+numberOf p3 = 3
+
+-- over the four processes, the last first
+abbrev pub foldEach : {A : Type 0} → (Process → A → A) → A → A
+foldEach f x = f p0 (f p1 (f p2 (f p3 x)))
 
 -- the local state of a process in a group
 abbrev pub at : Group → Process → ℕ
@@ -50,7 +61,12 @@ has L p3 = L .b3
 
 -- document 01: station bits, bit 0 is station 0
 abbrev pub processesOf : ℕ → Processes
-processesOf bits = record { b0 = eqb (bits % 2) 1; b1 = eqb (bits / 2 % 2) 1; b2 = eqb (bits / 4 % 2) 1; b3 = eqb (bits / 8 % 2) 1 }
+processesOf bits = record {
+  b0 = eqb (bits % 2) 1;
+  b1 = eqb (bits / 2 % 2) 1;
+  b2 = eqb (bits / 4 % 2) 1;
+  b3 = eqb (bits / 8 % 2) 1;
+}
 
 abbrev pub bit : Bool → ℕ
 bit true = 1

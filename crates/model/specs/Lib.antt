@@ -1,6 +1,7 @@
--- The definitions that the contracts cite: what a reader has to believe.
--- The paper: Groups, Words, Automata, Systems, Saturation, Copies. Document 01: Tables, Log, Unfolding, Records, Calls, and SmallTables with its examples.
--- The claim: Demands. The desk of request 2.1: Desks; who took part, of request 2.5: Participation. How rounds are searched, for the crates that saturate: Searches.
+-- The definitions that the contracts cite: what a reader has to believe. The paper: Groups, Words, Automata, Systems,
+-- Saturation, Copies. Document 01: Tables, Log, Unfolding, Records, Calls, and SmallTables with its examples. The
+-- claim: Demands. Who took part, of request 2.5: Participation. How rounds are searched, for the crates that saturate:
+-- Searches.
 pub mod Lists
 pub mod Groups
 pub mod Words
@@ -11,12 +12,8 @@ pub mod Copies
 pub mod Tables
 pub mod Log
 pub mod Unfolding
-pub mod Searches
 pub mod Records
 pub mod Participation
 pub mod Calls
 pub mod Demands
-pub mod Desks
-pub mod Hours
 pub mod SmallTables
-pub mod SmallPlans

@@ -2,7 +2,7 @@
 use mathlib.Core.Bool.{Bool, true, false, cond, _&&_, _||_}
 use mathlib.Core.Option.{Option, none, some}
 use mathlib.Core.List.{List, [], _∷_, _++_}
-use Prim.Native.Nat.{ℕ, _+_}
+use Prim.Native.Nat.{ℕ, _+_, zero, suc}
 
 -- P holds of each element
 abbrev pub Each {ℓ} : {A : Type ℓ} → (A → Type 0) → List A → Type 0
@@ -50,3 +50,8 @@ valueOr d f (some a) = f a
 abbrev pub isMissing : {A : Type 0} → Option A → Bool
 isMissing none = true
 isMissing (some a) = false
+
+-- the test holds of each number below n
+abbrev pub allBelow : ℕ → (ℕ → Bool) → Bool
+allBelow zero f = true
+allBelow (suc n) f = allBelow n f && f n

@@ -23,16 +23,26 @@ pub record Record : Type 0 where
 abbrev pub noNumber : ℕ
 noNumber = 65535
 
--- "above 1,000,000 the figure is 1,000,001"
+-- "above 1,000,000 the figure is 1,000,001": the most steps of a run that is written, and the cap
+abbrev pub longestRun : ℕ
+longestRun = 1000000
+
 abbrev pub stepsCap : ℕ
-stepsCap = 1000001
+stepsCap = longestRun + 1
 
 abbrev pub noGroup : Group
 noGroup = record { s0 = 255; s1 = 255; s2 = 255; s3 = 255 }
 
 -- record n, and past the log's end one that no path uses
 abbrev pub noRecord : Record
-noRecord = record { key = record { letter = 255; before = noGroup; after = noGroup }; round = 0; rule = noNumber; path = []; steps = 0 }
+noRecord =
+    record {
+      key = record { letter = 255; before = noGroup; after = noGroup };
+      round = 0;
+      rule = noNumber;
+      path = [];
+      steps = 0;
+    }
 
 abbrev pub recordAt : List Record → ℕ → Record
 recordAt log n = getD log n noRecord
@@ -57,7 +67,8 @@ readsAt loc a g r = eqb (r .key .letter) a && sameGroup (restrict (loc a) g) (r 
 -- from g, by each record of the list that reads a, numbered from n on, and then as `rest` says
 abbrev pub extend : (ℕ → Processes) → ℕ → Group → (Group → List Path) → List Record → ℕ → List Path
 extend loc a g rest [] n = []
-extend loc a g rest (r ∷ rs) n = cond (readsAt loc a g r) (map (push n) (rest (move loc (r .key) g))) [] ++ extend loc a g rest rs (suc n)
+extend loc a g rest (r ∷ rs) n =
+    cond (readsAt loc a g r) (map (push n) (rest (move loc (r .key) g))) [] ++ extend loc a g rest rs (suc n)
 
 -- all paths that read w from g, in the order of their record numbers, first letter first
 abbrev pub paths : (ℕ → Processes) → List Record → List ℕ → Group → List Path
@@ -74,10 +85,12 @@ pub record Candidate : Type 0 where
 abbrev pub candidate : (ℕ → Processes) → Rule → ℕ → Path → Candidate
 candidate loc r n p = record { key = added loc r (p .end); rule = n; path = p .numbers }
 
--- for each rule, the lowest number first, and each path over the log that starts in its after states and reads its written letters
+-- for each rule, the lowest number first, and each path over the log that starts in its after states and reads its
+-- written letters
 abbrev pub candidates : (ℕ → Processes) → List Record → List Rule → ℕ → List Candidate
 candidates loc log [] n = []
-candidates loc log (r ∷ rs) n = map (candidate loc r n) (paths loc log (r .written) (r .after)) ++ candidates loc log rs (suc n)
+candidates loc log (r ∷ rs) n =
+    map (candidate loc r n) (paths loc log (r .written) (r .after)) ++ candidates loc log rs (suc n)
 
 -- the order of the records of a round: letter, before, after, groups compared process 0 first
 abbrev pub keyDigits : Transition → List ℕ
@@ -104,10 +117,12 @@ inLog t log = anyOf (λ (r : Record). sameKey (r .key) t) log
 -- the candidate in its place among the candidates that are there, unless one with its key is
 abbrev pub insert : Candidate → List Candidate → List Candidate
 insert c [] = c ∷ []
-insert c (d ∷ ds) = cond (sameKey (c .key) (d .key)) (d ∷ ds) (cond (keyLess (c .key) (d .key)) (c ∷ d ∷ ds) (d ∷ insert c ds))
+insert c (d ∷ ds) =
+    cond (sameKey (c .key) (d .key)) (d ∷ ds) (cond (keyLess (c .key) (d .key)) (c ∷ d ∷ ds) (d ∷ insert c ds))
 
--- Of the candidates whose keys the log lacks, the first one for each key, in the order of the keys. So a record's reason is the lowest rule
--- number that adds it in its first round, and of that rule's paths there that end in its after states the first by record numbers.
+-- Of the candidates whose keys the log lacks, the first one for each key, in the order of the keys. So a record's
+-- reason is the lowest rule number that adds it in its first round, and of that rule's paths there that end in its
+-- after states the first by record numbers.
 abbrev pub collect : List Record → List Candidate → List Candidate → List Candidate
 collect log [] got = got
 collect log (c ∷ cs) got = collect log cs (cond (inLog (c .key) log) got (insert c got))
@@ -126,7 +141,13 @@ initialRecord c = record { key = c .key; round = 0; rule = c .rule; path = c .pa
 
 -- any other record has 1 step more than its path
 abbrev pub addedRecord : ℕ → List Record → Candidate → Record
-addedRecord k log c = record { key = c .key; round = k; rule = c .rule; path = c .path; steps = min (1 + sumOver (λ m. recordAt log m .steps) (c .path)) stepsCap }
+addedRecord k log c = record {
+  key = c .key;
+  round = k;
+  rule = c .rule;
+  path = c .path;
+  steps = min (1 + sumOver (λ m. recordAt log m .steps) (c .path)) stepsCap;
+}
 
 -- the records of rounds up to k
 unfoldable pub logAt : System → ℕ → List Record
@@ -141,7 +162,8 @@ keyBound = 256 ^ 9
 -- the first round at or after k, and before k + fuel, after which the next one adds nothing
 unfoldable pub firstSaturated : System → ℕ → ℕ → ℕ
 firstSaturated sys zero k = k
-firstSaturated sys (suc fuel) k = elim (isEmpty (additions sys (logAt sys k))) [ true ↦ k | false ↦ firstSaturated sys fuel (suc k) ]
+firstSaturated sys (suc fuel) k =
+    elim (isEmpty (additions sys (logAt sys k))) [ true ↦ k | false ↦ firstSaturated sys fuel (suc k) ]
 
 unfoldable pub saturatedAt : System → ℕ
 saturatedAt sys = firstSaturated sys (keyBound + 1) 0

@@ -3,7 +3,7 @@ use mathlib.Core.List.{List}
 use Prim.Native.Nat.{ℕ, _+_, min}
 use lib.ListN.{getD, getElem?}
 use Rattle.model.specs.Lists.{sumOver, valueOr}
-use Rattle.model.specs.Groups.{Process, Processes, p0, p1, p2, p3, atEach, bit, has, processesOf}
+use Rattle.model.specs.Groups.{Process, Processes, atEach, bit, has, numberOf, processesOf}
 use Rattle.model.specs.Systems.{System, Rule}
 
 -- the processes of the letter of rule n: they take part where the rule fires. A rule that there is not has none.
@@ -21,10 +21,7 @@ stepCounts sys ns = atEach (λ i. stepsWith sys i ns)
 -- ---- counted step by step
 -- where the count of a process stands
 abbrev pub countOf : List ℕ → Process → ℕ
-countOf counts p0 = getD counts 0 0
-countOf counts p1 = getD counts 1 0
-countOf counts p2 = getD counts 2 0
-countOf counts p3 = getD counts 3 0
+countOf counts i = getD counts (numberOf i) 0
 
 -- one step more at each process of L, with counts that stop at the ceiling
 unfoldable pub withStep : (ceiling : ℕ) → Processes → List ℕ → List ℕ

@@ -1,5 +1,6 @@
--- Document 01: a record's bytes, little-endian: task 1, before 4, after 4, round 2, rule 2, path 2 for each place, steps 3; with the six places of
--- request 2.4 they are 28. How records are written, and how their fields are read from the log's bytes.
+-- Document 01: a record's bytes, little-endian: task 1, before 4, after 4, round 2, rule 2, path 2 for each place,
+-- steps 3; with the six places of request 2.4 they are 28. How records are written, and how their fields are read from
+-- the log's bytes.
 use mathlib.Core.List.{List, [], _∷_, _++_}
 use Prim.Native.Nat.{ℕ, zero, suc, _+_, _*_, _/_, _%_}
 use lib.ListN.{getD}
@@ -29,7 +30,8 @@ pathBytes (suc k) (n ∷ ns) = littleEndian 2 n ++ pathBytes k ns
 unfoldable pub recordBytes : Record → List ℕ
 recordBytes r =
     r .key .letter ∷ groupBytes (r .key .before) ++ groupBytes (r .key .after)
-    ++ littleEndian 2 (r .round) ++ littleEndian 2 (r .rule) ++ pathBytes writtenPlaces (r .path) ++ littleEndian 3 (r .steps)
+    ++ littleEndian 2 (r .round) ++ littleEndian 2 (r .rule) ++ pathBytes writtenPlaces (r .path)
+    ++ littleEndian 3 (r .steps)
 
 abbrev pub logBytes : List Record → List ℕ
 logBytes log = concatMap recordBytes log

@@ -11,7 +11,8 @@ use Rattle.model.specs.Groups.{Processes, restrict}
 use Rattle.model.specs.Automata.{Transition, Along, label}
 use Rattle.model.specs.Systems.{Rule, System, InAutomaton}
 
--- what a rule adds for a path from its after states that ends in e: the transition on its letter from its before states to e
+-- what a rule adds for a path from its after states that ends in e: the transition on its letter from its before states
+-- to e
 abbrev pub added : (ℕ → Processes) → Rule → Group → Transition
 added loc r e = record { letter = r .letter; before = r .before; after = restrict (loc (r .letter)) e }
 

@@ -1,5 +1,5 @@
--- Definitions 4 and 8 of the paper: cooperating multi-pushdown systems, their steps, and the sets that an automaton accepts.
--- Document 01, "Words of the line".
+-- Definitions 4 and 8 of the paper: cooperating multi-pushdown systems, their steps, and the sets that an automaton
+-- accepts. Document 01, "Words of the line".
 use mathlib.Core.Path.{_≡_}
 use mathlib.Core.Bool.{Bool, cond, _&&_}
 use mathlib.Core.Option.{Option, none, some}
@@ -25,8 +25,9 @@ pub record Configuration : Type 0 where
   pub states : Group
   pub word : List ℕ
 
--- A cooperating system with an automaton over its states, and a start. `processes` are those that it has (document 01: the stations 0 to k-1). At
--- process i the states are the numbers below `states i`, the control states (document 01: line states) those below `controls i`.
+-- A cooperating system with an automaton over its states, and a start. `processes` are those that it has (document 01:
+-- the stations 0 to k-1). At process i the states are the numbers below `states i`, the control states (document 01:
+-- line states) those below `controls i`.
 pub record System : Type 0 where
   pub loc : ℕ → Processes
   pub processes : Processes
@@ -54,20 +55,26 @@ pub record Step (loc : ℕ → Processes) (r : Rule) (c d : Configuration) : Typ
 -- the paper's ⊢ taken once for each rule number of the list
 pub data Steps (sys : System) : List ℕ → Configuration → Configuration → Type 0 where
   stay : {c d : Configuration} → Equal (sys .loc) c d → Steps sys [] c d
-  onward : {n : ℕ} {ns : List ℕ} {r : Rule} {c d e : Configuration} → getElem? (sys .rules) n ≡ some r → Step (sys .loc) r c d → Steps sys ns d e → Steps sys (n ∷ ns) c e
+  onward : {n : ℕ} {ns : List ℕ} {r : Rule} {c d e : Configuration} → getElem? (sys .rules) n ≡ some r
+      → Step (sys .loc) r c d → Steps sys ns d e → Steps sys (n ∷ ns) c e
 
 -- document 01: a rule fires if its before states match and its task tops the own pile of each of its stations
 unfoldable pub enabled : (ℕ → Processes) → Rule → Configuration → Bool
 enabled loc r c = sameGroup (restrict (loc (r .letter)) (c .states)) (r .before) && tops loc (r .letter) (c .word)
 
--- document 01: the task's first occurrence is removed, the written tasks go in front of all that remains, the states change
+-- document 01: the task's first occurrence is removed, the written tasks go in front of all that remains, the states
+-- change
 abbrev pub fired : (ℕ → Processes) → Rule → Configuration → Configuration
-fired loc r c = record { states = merge (loc (r .letter)) (r .after) (c .states); word = r .written ++ removeFirst (r .letter) (c .word) }
+fired loc r c = record {
+  states = merge (loc (r .letter)) (r .after) (c .states);
+  word = r .written ++ removeFirst (r .letter) (c .word);
+}
 
 unfoldable pub fire : (ℕ → Processes) → Rule → Configuration → Option Configuration
 fire loc r c = cond (enabled loc r c) (some (fired loc r c)) none
 
--- the configuration after the rules of the list, fired in order; none if a number has no rule or a rule does not fire in its turn
+-- the configuration after the rules of the list, fired in order; none if a number has no rule or a rule does not fire
+-- in its turn
 abbrev pub walk : System → List ℕ → Configuration → Option Configuration
 walk sys [] c = some c
 walk sys (n ∷ ns) c = andThen (getElem? (sys .rules) n) (λ r. andThen (fire (sys .loc) r c) (walk sys ns))
@@ -77,14 +84,18 @@ abbrev pub peak : System → List ℕ → Configuration → ℕ
 peak sys [] c = height (sys .loc) (c .word)
 peak sys (n ∷ ns) c = max (height (sys .loc) (c .word)) (valueOr 0 (λ d. peak sys ns d) (walk sys (n ∷ []) c))
 
--- the same as a statement: no process's projection is longer than k after any first part of the run, the empty one included, and after some part one is as long
+-- the same as a statement: no process's projection is longer than k after any first part of the run, the empty one
+-- included, and after some part one is as long
 pub record PeakIs (sys : System) (ns : List ℕ) (c : Configuration) (k : ℕ) : Type 0 where
-  pub most : (j : ℕ) (d : Configuration) → walk sys (take j ns) c ≡ some d → (i : Process) → length (project (sys .loc) i (d .word)) ≤ k
-  pub reached : (j : ℕ) × (d : Configuration) × (walk sys (take j ns) c ≡ some d) × (i : Process) × (length (project (sys .loc) i (d .word)) ≡ k)
+  pub most : (j : ℕ) (d : Configuration) → walk sys (take j ns) c ≡ some d → (i : Process)
+      → length (project (sys .loc) i (d .word)) ≤ k
+  pub reached : (j : ℕ) × (d : Configuration) × (walk sys (take j ns) c ≡ some d) × (i : Process)
+      × (length (project (sys .loc) i (d .word)) ≡ k)
 
 -- ---- acceptance
 -- Definition 8: some path of transitions in D leads from the states of c, over the word of c, to a group in F
-pub record Accepts (loc : ℕ → Processes) (F : Group → Type 0) (D : Transition → Type 0) (c : Configuration) : Type 0 where
+pub record Accepts (loc : ℕ → Processes) (F : Group → Type 0) (D : Transition → Type 0)
+    (c : Configuration) : Type 0 where
   pub path : List Transition
   pub reads : label path ≡ c .word
   pub goods : Each D path
@@ -108,10 +119,13 @@ isAccepting g acc = anyOf (sameGroup g) acc
 -- acceptance as a test: for the first letter some transition, then the rest of the word
 abbrev pub accepts : (ℕ → Processes) → List Transition → List Group → List ℕ → Group → Bool
 accepts loc ts acc [] g = isAccepting g acc
-accepts loc ts acc (a ∷ w) g = anyOf (λ (t : Transition). eqb (t .letter) a && sameGroup (restrict (loc a) g) (t .before) && accepts loc ts acc w (move loc t g)) ts
+accepts loc ts acc (a ∷ w) g =
+    anyOf (λ (t : Transition). eqb (t .letter) a && sameGroup (restrict (loc a) g) (t .before)
+    && accepts loc ts acc w (move loc t g)) ts
 
 -- ---- runs
--- document 01: a run joins c and the watched set if its rules fire in turn from c on and the situation after the last one is watched
+-- document 01: a run joins c and the watched set if its rules fire in turn from c on and the situation after the last
+-- one is watched
 pub record Joins (sys : System) (c : Configuration) (ns : List ℕ) : Type 0 where
   pub end : Configuration
   pub walks : walk sys ns c ≡ some end

@@ -1,4 +1,5 @@
--- Document 01, "Table bytes": which bytes are a table, the refusals 1 to 9, and the system that an accepted table describes.
+-- Document 01, "Table bytes": which bytes are a table, the refusals 1 to 9, and the system that an accepted table
+-- describes.
 use mathlib.Core.Bool.{Bool, true, false, cond, not, _&&_, _||_}
 use mathlib.Core.List.{List, [], _∷_, _++_, map}
 use Prim.Native.Nat.{ℕ, zero, suc, _+_, _*_, _^_}
@@ -6,7 +7,7 @@ use lib.Dec.{eqb, ltb, leb}
 use lib.ListN.{length, getD, take, drop}
 use Rattle.model.specs.declared.Group.{Group}
 use Rattle.model.specs.Lists.{allOf, anyOf, sumOver}
-use Rattle.model.specs.Groups.{Process, p0, p1, p2, p3, every, at, Processes, has, processesOf, withinTest}
+use Rattle.model.specs.Groups.{Process, every, at, Processes, has, processesOf, withinTest, numberOf}
 use Rattle.model.specs.Automata.{Transition}
 use Rattle.model.specs.Systems.{Rule, System}
 use Rattle.model.specs.Copies.{leavesControl, withCopy}
@@ -49,21 +50,20 @@ lastKind (x ∷ []) = x .kind
 lastKind (x ∷ y ∷ items) = lastKind (y ∷ items)
 
 -- ---- what bodies say. `ps` are the bodies of the processes (kind 1), `ls` those of the letters (kind 2)
-abbrev pub numberOf : Process → ℕ
-numberOf p0 = 0
-numberOf p1 = 1
-numberOf p2 = 2
-numberOf p3 = 3
-
 abbrev pub byteOf : List ℕ → ℕ → ℕ
 byteOf body i = getD body i 0
 
 -- a state group has four bytes, stations 0 to 3
 abbrev pub groupOf : List ℕ → ℕ → Group
-groupOf body i = record { s0 = byteOf body i; s1 = byteOf body (i + 1); s2 = byteOf body (i + 2); s3 = byteOf body (i + 3) }
+groupOf body i = record {
+  s0 = byteOf body i;
+  s1 = byteOf body (i + 1);
+  s2 = byteOf body (i + 2);
+  s3 = byteOf body (i + 3);
+}
 
--- The states of a process are the numbers below its s, the control states those below its q. A process that the table lacks stays at 255, its
--- one state: its bounds are 256.
+-- The states of a process are the numbers below its s, the control states those below its q. A process that the table
+-- lacks stays at 255, its one state: its bounds are 256.
 abbrev pub absent : List ℕ
 absent = 256 ∷ 256 ∷ []
 
@@ -82,7 +82,12 @@ abbrev pub locOf : List (List ℕ) → ℕ → Processes
 locOf ls a = processesOf (byteOf (getD ls a (15 ∷ [])) 0)
 
 abbrev pub ruleOf : List ℕ → Rule
-ruleOf body = record { letter = byteOf body 0; before = groupOf body 1; after = groupOf body 5; written = take (byteOf body 9) (drop 10 body) }
+ruleOf body = record {
+  letter = byteOf body 0;
+  before = groupOf body 1;
+  after = groupOf body 5;
+  written = take (byteOf body 9) (drop 10 body);
+}
 
 abbrev pub transitionOf : List ℕ → Transition
 transitionOf body = record { letter = byteOf body 0; before = groupOf body 1; after = groupOf body 5 }
@@ -94,7 +99,9 @@ isStranger k = eqb k 0 || ltb 8 k
 
 -- refusal 3, turn: the kind falls, second 6, no station before another kind, 7 or 8 without 6
 unfoldable pub isOutOfTurn : List Item → ℕ → Bool
-isOutOfTurn items k = ltb k (lastKind items) || (eqb k 6 && ltb 0 (count 6 items)) || (eqb (count 1 items) 0 && ltb 1 k) || (ltb 6 k && eqb (count 6 items) 0)
+isOutOfTurn items k =
+    ltb k (lastKind items) || (eqb k 6 && ltb 0 (count 6 items)) || (eqb (count 1 items) 0 && ltb 1 k)
+    || (ltb 6 k && eqb (count 6 items) 0)
 
 -- the group has a state below the bound at each process of L, and 255 elsewhere
 unfoldable pub groupFits : Processes → (Process → ℕ) → Group → Bool
@@ -102,11 +109,14 @@ groupFits L bound g = every (λ i. cond (has L i) (ltb (at g i) (bound i)) (eqb 
 
 -- the letter is one of the table's, and both groups fit it
 unfoldable pub transitionFits : List (List ℕ) → (Process → ℕ) → Transition → Bool
-transitionFits ls bound t = ltb (t .letter) (length ls) && groupFits (locOf ls (t .letter)) bound (t .before) && groupFits (locOf ls (t .letter)) bound (t .after)
+transitionFits ls bound t =
+    ltb (t .letter) (length ls) && groupFits (locOf ls (t .letter)) bound (t .before)
+    && groupFits (locOf ls (t .letter)) bound (t .after)
 
 -- there are as many places as the count says, which have letters of the table, and the spare ones have 255
 unfoldable pub writtenFit : List (List ℕ) → ℕ → List ℕ → Bool
-writtenFit ls n places = leb n writtenPlaces && allOf (λ a. ltb a (length ls)) (take n places) && allOf (λ a. eqb a 255) (drop n places)
+writtenFit ls n places =
+    leb n writtenPlaces && allOf (λ a. ltb a (length ls)) (take n places) && allOf (λ a. eqb a 255) (drop n places)
 
 -- what check 5 asks of a body
 unfoldable pub valueFits : List (List ℕ) → List (List ℕ) → ℕ → List ℕ → Bool
@@ -133,7 +143,8 @@ isNarrow ps = allOf (λ body. leb (byteOf body 1) 4) ps
 
 -- refusal 7, re-entry; request 2.6: "re-entry with s above 4 at some station"
 unfoldable pub isReentry : List (List ℕ) → List (List ℕ) → ℕ → List ℕ → Bool
-isReentry ps ls k body = eqb k 4 && not (leavesControl (locOf ls) (controlsOf ps) (transitionOf body)) && not (isNarrow ps)
+isReentry ps ls k body =
+    eqb k 4 && not (leavesControl (locOf ls) (controlsOf ps) (transitionOf body)) && not (isNarrow ps)
 
 abbrev pub sameBytes : List ℕ → List ℕ → Bool
 sameBytes [] [] = true
@@ -145,7 +156,8 @@ sameBytes (x ∷ xs) (y ∷ ys) = eqb x y && sameBytes xs ys
 unfoldable pub isTwin : List Item → ℕ → List ℕ → Bool
 isTwin items k body = leb 3 k && leb k 5 && anyOf (sameBytes body) (bodies k items)
 
--- The number of the first check that the item does not pass, in the order 2, 3, 4, 1, 5, 6, 7, 8, or 0. A body that is shorter than its kind asks is cut.
+-- The number of the first check that the item does not pass, in the order 2, 3, 4, 1, 5, 6, 7, 8, or 0. A body that is
+-- shorter than its kind asks is cut.
 unfoldable pub refusal : List Item → ℕ → List ℕ → ℕ
 refusal items k body =
     cond (isStranger k) 2
@@ -173,15 +185,16 @@ abbrev pub unlessRefused : ℕ → ℕ → Reading → Reading
 unlessRefused zero place reading = reading
 unlessRefused (suc n) place reading = refused (suc n) place
 
--- Items are checked in file order. `rest` are the bytes from `place` on; `fuel` is above their number. A file that ends before kind 8 is cut
--- at its length.
+-- Items are checked in file order. `rest` are the bytes from `place` on; `fuel` is above their number. A file that ends
+-- before kind 8 is cut at its length.
 unfoldable pub readFrom : ℕ → List Item → List ℕ → ℕ → Reading
 readFrom zero items rest place = refused 1 place
 readFrom (suc fuel) items [] place = refused 1 place
 readFrom (suc fuel) items (k ∷ rest) place =
     unlessRefused (refusal items k (take (bodyLength k) rest)) place
     (cond (eqb k 8) (ending items rest (place + 1))
-    (readFrom fuel (items ++ (record { kind = k; body = take (bodyLength k) rest } ∷ [])) (drop (bodyLength k) rest) (place + 1 + bodyLength k)))
+    (readFrom fuel (items ++ (record { kind = k; body = take (bodyLength k) rest } ∷ [])) (drop (bodyLength k) rest)
+    (place + 1 + bodyLength k)))
 
 unfoldable pub read : List ℕ → Reading
 read bytes = readFrom (length bytes + 1) [] bytes 0
@@ -196,7 +209,11 @@ systemOf items = record {
   rules = map ruleOf (bodies 3 items);
   transitions = map transitionOf (bodies 4 items);
   accepting = map (λ body. groupOf body 0) (bodies 5 items);
-  start = record { states = groupOf (getD (bodies 6 items) 0 []) 0; word = map (λ body. byteOf body 0) (bodies 7 items) };
+  start = record {
+    states = groupOf (getD (bodies 6 items) 0 []) 0;
+    word = map (λ body. byteOf body 0)
+        (bodies 7 items);
+  };
 }
 
 abbrev pub saturatedOf : List Item → System

@@ -20,19 +20,21 @@ firstAccepting acc (p ∷ ps) = cond (isAccepting (p .end) acc) (some p) (firstA
 unfoldable pub acceptingPath : System → List Record → Configuration → Option Path
 acceptingPath sys log c = firstAccepting (sys .accepting) (paths (sys .loc) log (c .word) (c .states))
 
--- Unfolding: take the first record of the path that isn't of round 0, emit its rule, put its reason's path in its place; repeat until only
--- round 0 is left. `Unfolds log ns rs`: the path ns emits the rules rs.
+-- Unfolding: take the first record of the path that isn't of round 0, emit its rule, put its reason's path in its
+-- place; repeat until only round 0 is left. `Unfolds log ns rs`: the path ns emits the rules rs.
 pub data Unfolds (log : List Record) : List ℕ → List ℕ → Type 0 where
   done : Unfolds log [] []
   skipped : {n : ℕ} {ns rs : List ℕ} → recordAt log n .round ≡ 0 → Unfolds log ns rs → Unfolds log (n ∷ ns) rs
-  replaced : {n : ℕ} {ns rs : List ℕ} → 0 < recordAt log n .round → Unfolds log (recordAt log n .path ++ ns) rs → Unfolds log (n ∷ ns) (recordAt log n .rule ∷ rs)
+  replaced : {n : ℕ} {ns rs : List ℕ} → 0 < recordAt log n .round → Unfolds log (recordAt log n .path ++ ns) rs
+      → Unfolds log (n ∷ ns) (recordAt log n .rule ∷ rs)
 
--- the same as a function: the rules that record n emits, and those of a path. A reason's path has earlier records only, so the log's length is
--- fuel enough.
+-- the same as a function: the rules that record n emits, and those of a path. A reason's path has earlier records only,
+-- so the log's length is fuel enough.
 unfoldable pub emittedBy : List Record → ℕ → ℕ → List ℕ
 emittedBy log zero n = []
 emittedBy log (suc fuel) n =
-    cond (eqb (recordAt log n .round) 0) [] (recordAt log n .rule ∷ concatMap (λ m. emittedBy log fuel m) (recordAt log n .path))
+    cond (eqb (recordAt log n .round) 0) []
+    (recordAt log n .rule ∷ concatMap (λ m. emittedBy log fuel m) (recordAt log n .path))
 
 abbrev pub emitted : List Record → List ℕ → List ℕ
 emitted log ns = concatMap (emittedBy log (length log)) ns

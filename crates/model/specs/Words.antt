@@ -1,5 +1,6 @@
--- Section 2 of the paper: words over a distributed alphabet, their projections, and words that induce the same trace.
--- A letter is a number; `loc a` is the set of its processes. Document 01: a letter is a task, a word is a pile, top first.
+-- Section 2 of the paper: words over a distributed alphabet, their projections, and words that induce the same trace. A
+-- letter is a number; `loc a` is the set of its processes. Document 01: a letter is a task, a word is a pile, top
+-- first.
 use mathlib.Core.Path.{_≡_}
 use mathlib.Core.Bool.{Bool, true, false, cond, not, _||_}
 use mathlib.Core.List.{List, [], _∷_}
@@ -17,17 +18,14 @@ abbrev pub project : (ℕ → Processes) → Process → List ℕ → List ℕ
 project loc i [] = []
 project loc i (a ∷ w) = keep (has (loc a) i) a (project loc i w)
 
--- The greatest length of any process's projection. Request 2.2: of any one station's own pile; that of a station which the table lacks is empty.
+-- The greatest length of any process's projection. Request 2.2: of any one station's own pile; that of a station which
+-- the table lacks is empty.
 abbrev pub height : (ℕ → Processes) → List ℕ → ℕ
 height loc w = greatest (λ i. length (project loc i w))
 
 -- The words induce the same trace. Document 01: all stations' own piles are equal.
 abbrev pub Equivalent : (ℕ → Processes) → List ℕ → List ℕ → Type 0
 Equivalent loc w v = (i : Process) → project loc i w ≡ project loc i v
-
--- each letter has a process
-abbrev pub Located : (ℕ → Processes) → Type 0
-Located loc = (a : ℕ) → (i : Process) × (has (loc a) i ≡ true)
 
 abbrev pub startsWith : ℕ → List ℕ → Bool
 startsWith a [] = false

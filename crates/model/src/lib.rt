@@ -1,10 +1,43 @@
-// The types that the definitions of specs/ and the crates above share, and two constants. There is no code here.
+// The types and constants that the definitions of specs/ and the crates above share. There is no code here.
 
 // The places of a rule's written letters, and of a record's path.
 pub const WRITTEN_PLACES: usize = 6;
 
-// The places for the windows of a process.
-pub const WINDOW_PLACES: usize = 14;
+// The most steps of a run that is written.
+pub const LONGEST_RUN: u32 = 1000000;
+
+// The refusals by number: of a table, then of the calls. Those of the desk and the plan stand in their own crates of definitions.
+pub const CUT: u8 = 1;
+
+pub const STRANGER: u8 = 2;
+
+pub const TURN: u8 = 3;
+
+pub const CROWD: u8 = 4;
+
+pub const VALUE: u8 = 5;
+
+pub const STRAY: u8 = 6;
+
+pub const REENTRY: u8 = 7;
+
+pub const TWIN: u8 = 8;
+
+pub const LEFTOVER: u8 = 9;
+
+pub const SHORT_LOG: u8 = 10;
+
+pub const LONG_RUN: u8 = 11;
+
+pub const IDLE_RULE: u8 = 12;
+
+pub const NO_RULE: u8 = 13;
+
+pub const FULL_PILE: u8 = 14;
+
+pub const SHORT_SCRATCH: u8 = 15;
+
+pub const NO_RUN: u8 = 16;
 
 // Document 01: a state group. One local state for each of the four processes, 255 where a process has no part.
 #[repr(C)]
@@ -13,6 +46,13 @@ pub struct Group {
     pub s1: u8,
     pub s2: u8,
     pub s3: u8,
+}
+
+// A configuration whose word stands at the end of a buffer: its states, and the place of the word's first letter.
+#[repr(C)]
+pub struct Placed {
+    pub states: Group,
+    pub top: usize,
 }
 
 // What the answer call gives: the verdict with its figures, or a refusal with its number and place.
@@ -63,24 +103,4 @@ pub enum Walked {
         number: u8,
         place: usize,
     },
-}
-
-// What a call of the desk tells: done; fired, with the processes of the rule's letter as bits; or a refusal.
-pub enum Told {
-    Done,
-    Fired { processes: u8 },
-    Refused { number: u8, place: usize },
-}
-
-// Request 2.7: a window of minutes in the week. The closing minute is not included.
-#[repr(C)]
-pub struct Window {
-    pub opens: u16,
-    pub closes: u16,
-}
-
-// What the plan call gives: the plan is laid, or a refusal.
-pub enum Planned {
-    Given,
-    Refused { number: u8, place: usize },
 }

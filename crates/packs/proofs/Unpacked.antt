@@ -10,8 +10,8 @@ use Rattle.model.specs.declared.Group.{Group}
 use Rattle.model.specs.Groups.{Processes, at, has, merge, p0, p1, p2, p3, restrict, sameGroup}
 use Rattle.model.proofs.Groups.{at-merge, at-restrict}
 use Rattle.model.proofs.Tests.{cond-less, same-test}
-use Rattle.automaton.specs.StateNumbers.{stateNumber}
-use Rattle.packs.specs.Packs.{Bytes, maskByte, maskOf, mergedBits, packNumber, packed, processesIn, restrictedBits, unpacked}
+use Rattle.states.specs.StateNumbers.{stateNumber}
+use Rattle.packs.specs.Packs.{Bytes, maskByte, maskOf, packedMerge, packedNumber, packed, processesIn, packedRestrict, unpacked}
 use Rattle.packs.proofs.Packs.{bytes-of, mask-small, merge-bits, pack-number, packed-same, restrict-bits, same-bits}
 
 pub bytes-unpacked : (x : ℕ) → Bytes (unpacked x)
@@ -61,26 +61,26 @@ pub merge-bytes : (L : Processes) (x g : Group) → Bytes x → Bytes g → Byte
 merge-bytes L x g p q i = rw at-merge (cond-less (has L i) (at x i) (at g i) 256 (λ m. p i) (q i))
 
 -- ---- the two operations
-pub restrict-number : (L : Processes) (x : ℕ) → x < 4294967296 → restrictedBits (maskOf L) x ≡ packed (restrict L (unpacked x))
-restrict-number L x h = ap (restrictedBits (maskOf L)) (sym (packed-unpacked x h)) ∙ restrict-bits L (unpacked x) (bytes-unpacked x)
+pub restrict-number : (L : Processes) (x : ℕ) → x < 4294967296 → packedRestrict (maskOf L) x ≡ packed (restrict L (unpacked x))
+restrict-number L x h = ap (packedRestrict (maskOf L)) (sym (packed-unpacked x h)) ∙ restrict-bits L (unpacked x) (bytes-unpacked x)
 
-pub merge-number : (L : Processes) (x g : ℕ) → x < 4294967296 → g < 4294967296 → mergedBits (maskOf L) x g ≡ packed (merge L (unpacked x) (unpacked g))
-merge-number L x g h k = ap₂ (mergedBits (maskOf L)) (sym (packed-unpacked x h)) (sym (packed-unpacked g k)) ∙ merge-bits L (unpacked x) (unpacked g) (bytes-unpacked x) (bytes-unpacked g)
+pub merge-number : (L : Processes) (x g : ℕ) → x < 4294967296 → g < 4294967296 → packedMerge (maskOf L) x g ≡ packed (merge L (unpacked x) (unpacked g))
+merge-number L x g h k = ap₂ (packedMerge (maskOf L)) (sym (packed-unpacked x h)) (sym (packed-unpacked g k)) ∙ merge-bits L (unpacked x) (unpacked g) (bytes-unpacked x) (bytes-unpacked g)
 
-pub restrict-unpacked : (L : Processes) (x : ℕ) → x < 4294967296 → unpacked (restrictedBits (maskOf L) x) ≡ restrict L (unpacked x)
+pub restrict-unpacked : (L : Processes) (x : ℕ) → x < 4294967296 → unpacked (packedRestrict (maskOf L) x) ≡ restrict L (unpacked x)
 restrict-unpacked L x h = ap unpacked (restrict-number L x h) ∙ unpacked-packed (restrict L (unpacked x)) (restrict-bytes L (unpacked x) (bytes-unpacked x))
 
-pub restrict-below : (L : Processes) (x : ℕ) → x < 4294967296 → restrictedBits (maskOf L) x < 4294967296
+pub restrict-below : (L : Processes) (x : ℕ) → x < 4294967296 → packedRestrict (maskOf L) x < 4294967296
 restrict-below L x h = rw (restrict-number L x h) (packed-below (restrict L (unpacked x)) (restrict-bytes L (unpacked x) (bytes-unpacked x)))
 
-pub merge-unpacked : (L : Processes) (x g : ℕ) → x < 4294967296 → g < 4294967296 → unpacked (mergedBits (maskOf L) x g) ≡ merge L (unpacked x) (unpacked g)
+pub merge-unpacked : (L : Processes) (x g : ℕ) → x < 4294967296 → g < 4294967296 → unpacked (packedMerge (maskOf L) x g) ≡ merge L (unpacked x) (unpacked g)
 merge-unpacked L x g h k = ap unpacked (merge-number L x g h k) ∙ unpacked-packed (merge L (unpacked x) (unpacked g)) (merge-bytes L (unpacked x) (unpacked g) (bytes-unpacked x) (bytes-unpacked g))
 
-pub merge-below : (L : Processes) (x g : ℕ) → x < 4294967296 → g < 4294967296 → mergedBits (maskOf L) x g < 4294967296
+pub merge-below : (L : Processes) (x g : ℕ) → x < 4294967296 → g < 4294967296 → packedMerge (maskOf L) x g < 4294967296
 merge-below L x g h k = rw (merge-number L x g h k) (packed-below (merge L (unpacked x) (unpacked g)) (merge-bytes L (unpacked x) (unpacked g) (bytes-unpacked x) (bytes-unpacked g)))
 
-pub number-unpacked : (x : ℕ) → x < 4294967296 → packNumber x ≡ stateNumber (unpacked x)
-number-unpacked x h = ap packNumber (sym (packed-unpacked x h)) ∙ pack-number (unpacked x) (bytes-unpacked x)
+pub number-unpacked : (x : ℕ) → x < 4294967296 → packedNumber x ≡ stateNumber (unpacked x)
+number-unpacked x h = ap packedNumber (sym (packed-unpacked x h)) ∙ pack-number (unpacked x) (bytes-unpacked x)
 
 -- ---- masks
 mask-byte : (b : Bool) → eqb (maskByte b) 255 ≡ b

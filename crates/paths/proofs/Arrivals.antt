@@ -13,8 +13,8 @@ use Rattle.model.specs.Lists.{Each}
 use Rattle.model.specs.Log.{Candidate, Record}
 use Rattle.model.specs.Records.{recordLength}
 use Rattle.model.proofs.Tests.{by-test}
-use Rattle.automaton.specs.StateNumbers.{stateCount}
-use Rattle.automaton.proofs.StateNumbers.{stateNumber-below}
+use Rattle.states.specs.StateNumbers.{stateCount}
+use Rattle.states.proofs.StateNumbers.{stateNumber-below}
 use Rattle.records.specs.declared.Entry.{Entry}
 use Rattle.records.specs.Entries.{HasRecord, entryBytes, recordEntry, withEntry}
 use Rattle.records.proofs.Entries.{length-with}

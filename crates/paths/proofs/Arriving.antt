@@ -13,27 +13,26 @@ use Rattle.model.specs.declared.Group.{Group}
 use Rattle.model.specs.Lists.{Each, filter}
 use Rattle.model.specs.Log.{Candidate, Path, Record, paths, addedRecord, noNumber}
 use Rattle.model.specs.Groups.{restrict}
-use Rattle.model.specs.Records.{recordLength}
 use Rattle.model.specs.Tables.{writtenPlaces}
-use Rattle.model.specs.Searches.{freshPaths}
-use Rattle.model.proofs.FreshPaths.{fresh-paths, found-paths, pathFresh}
+use Rattle.searches.specs.Searches.{freshPaths}
+use Rattle.searches.proofs.FreshPaths.{fresh-paths, found-paths, pathFresh}
 use Rattle.model.proofs.Lists.{each-map}
 use Rattle.model.proofs.Tests.{by-test, or-left}
-use Rattle.automaton.specs.StateNumbers.{Over, stateCount, stateNumber}
-use Rattle.automaton.specs.StateSets.{inserted, member, setLength}
-use Rattle.automaton.proofs.StateNumbers.{number-injective, stateNumber-below}
-use Rattle.automaton.proofs.StateSets.{length-inserted, member-inserted}
+use Rattle.states.specs.StateNumbers.{Over, stateCount, stateNumber}
+use Rattle.states.specs.StateSets.{inserted, member, setLength}
+use Rattle.states.proofs.StateNumbers.{number-injective, stateNumber-below}
+use Rattle.states.proofs.StateSets.{length-inserted, member-inserted}
 use Rattle.scratch.specs.Regions.{passedAt, passedBit, passedEnd, seenAt, seenBit}
 use Rattle.records.specs.declared.Entry.{Entry}
 use Rattle.records.specs.Entries.{padded, recordEntry, withEntry}
-use Rattle.packs.specs.Packs.{packNumber, restrictedBits, unpacked}
+use Rattle.packs.specs.Packs.{packedNumber, packedRestrict, unpacked}
 use Rattle.packs.proofs.Unpacked.{number-unpacked, restrict-below, restrict-unpacked}
 use Rattle.paths.specs.declared.Job.{Job}
 use Rattle.paths.specs.declared.Trail.{Trail}
 use Rattle.paths.specs.Arrivals.{endNumber, stored, taken}
 use Rattle.paths.specs.Jobs.{Lookable, PassedRight, isPassed, jobLoc, jobProcesses, jobWord, made, offers, seenIn, withPassed, Searchable, Searched, Standing, arrivals, endEntry, glances, known, storedEnd, withEnd}
 use Rattle.paths.proofs.Turns.{lookable-kept}
-use Rattle.paths.proofs.Arrivals.{hit-seen, stored-length, taken-none}
+use Rattle.paths.proofs.Arrivals.{hit-seen, taken-none}
 
 -- ---- one bit more
 byte-kept : (s : List ℕ) (n i : ℕ) → (i ≡ n / 8 → ⊥) → getD (inserted s n) i 0 ≡ getD s i 0
@@ -169,22 +168,18 @@ searched-nothing job held cs count log s few all right =
       passed = right;
     }
 
--- the log keeps its length
-pub searched-log : (job : Job) (held : ℕ → Bool) (cs : List Candidate) (count : ℕ) (log s : List ℕ) (count′ : ℕ) (log′ s′ : List ℕ) → job .n * recordLength ≤ length log → Searched job held cs count log s count′ log′ s′ → length log′ ≡ length log
-searched-log job held cs count log s count′ log′ s′ holds d = ap length (d .written) ∙ stored-length (job .n) log count (map (addedRecord (job .round) (glances log (job .base))) (taken (known held s) cs)) holds
-
 -- ---- the record of an end
 module _ {job : Job} {log s : List ℕ} {state : ℕ} {trail : Trail} (ready : Searchable job log s) (stands : Standing job log (job .count) state trail) where
   abbrev after : ℕ
-  after = restrictedBits (job .mask) state
+  after = packedRestrict (job .mask) state
 
   abbrev new : Candidate
   new = made job (take (job .count) (trail .places)) (unpacked state)
 
   after-is : unpacked after ≡ restrict (jobProcesses job) (unpacked state)
-  after-is = ap (λ (m : ℕ). unpacked (restrictedBits m state)) (ready .own) ∙ restrict-unpacked (jobProcesses job) state (stands .packed)
+  after-is = ap (λ (m : ℕ). unpacked (packedRestrict m state)) (ready .own) ∙ restrict-unpacked (jobProcesses job) state (stands .packed)
 
-  end-is : packNumber after ≡ endNumber new
+  end-is : packedNumber after ≡ endNumber new
   end-is = number-unpacked after (rw (ready .own) (restrict-below (jobProcesses job) state (stands .packed))) ∙ ap stateNumber after-is
 
   -- the places behind the path's end are those of no record
@@ -217,9 +212,9 @@ module _ {job : Job} {log s : List ℕ} {state : ℕ} {trail : Trail} (ready : S
     arrived-stale f = rw f (searched-nothing job held [] count log s few tt (ready .passed))
 
     -- the end is noted, and what is taken of it written
-    module _ {y x : ℕ} {s′ : List ℕ} (y-is : y ≡ restrictedBits (job .mask) state) (x-is : x ≡ packNumber y) (q : s′ ≡ withEnd s x) where
+    module _ {y x : ℕ} {s′ : List ℕ} (y-is : y ≡ packedRestrict (job .mask) state) (x-is : x ≡ packedNumber y) (q : s′ ≡ withEnd s x) where
       number-is : x ≡ endNumber new
-      number-is = x-is ∙ ap packNumber y-is ∙ end-is
+      number-is = x-is ∙ ap packedNumber y-is ∙ end-is
 
       small : x < stateCount
       small = rw number-is (stateNumber-below (new .key .after))

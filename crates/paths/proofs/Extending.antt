@@ -12,9 +12,9 @@ use Rattle.model.specs.declared.Group.{Group}
 use Rattle.model.specs.Automata.{move}
 use Rattle.model.specs.Groups.{Processes}
 use Rattle.model.specs.Log.{Path, Record, noRecord, push, readsAt, recordAt}
-use Rattle.model.specs.Searches.{extendFresh}
+use Rattle.searches.specs.Searches.{extendFresh}
 use Rattle.model.proofs.Tests.{by-test}
-use Rattle.automaton.specs.StateSets.{firstFrom}
+use Rattle.states.specs.StateSets.{firstFrom}
 
 module _ (loc : ℕ → Processes) (lo : ℕ) (found : Bool) (a : ℕ) (g : Group) (rest : Bool → Group → List Path) (log : List Record) where
   abbrev pub readable : ℕ → Bool

@@ -11,7 +11,7 @@ use lib.Seq.{getD-take}
 use Rattle.model.specs.Log.{Record, noNumber, recordAt}
 use Rattle.model.specs.Records.{letterAt, numberAt, recordLength, stepsAt}
 use Rattle.model.specs.Tables.{writtenPlaces}
-use Rattle.packs.specs.Packs.{packNumber, packedAfter, packedBefore, unpacked}
+use Rattle.packs.specs.Packs.{packedNumber, packedAfter, packedBefore, unpacked}
 use Rattle.rings.specs.Rings.{recordReads}
 use Rattle.keys.specs.Keys.{heldBelow}
 use Rattle.paths.specs.Jobs.{glance, glances, glancesFrom}
@@ -62,7 +62,7 @@ module _ (log log′ : List ℕ) (base : ℕ) (same : take (base * recordLength)
   held-to : (letter g n x : ℕ) → n ≤ base → heldBelow log′ letter g n x ≡ heldBelow log letter g n x
   held-to letter g zero x h = refl
   held-to letter g (suc n) x h =
-      ap₂ (λ (a b : Bool). a || b) (held-to letter g n x (omega arith)) (ap₂ (λ (r : Bool) (y : ℕ). r && eqb x (packNumber y)) (reads-same letter g n h) (after-same n h))
+      ap₂ (λ (a b : Bool). a || b) (held-to letter g n x (omega arith)) (ap₂ (λ (r : Bool) (y : ℕ). r && eqb x (packedNumber y)) (reads-same letter g n h) (after-same n h))
 
   pub held-same : (letter g : ℕ) → heldBelow log′ letter g base ≡ heldBelow log letter g base
   held-same letter g = λ i x. held-to letter g base x (omega arith) i

@@ -16,9 +16,9 @@ use Rattle.model.proofs.Collecting.{sameKey-of, sameKey-true}
 use Rattle.model.proofs.FirstCandidates.{firstOf}
 use Rattle.model.proofs.Order.{Sorted}
 use Rattle.model.proofs.Tests.{by-test}
-use Rattle.model.proofs.UniqueRound.{chosen-collect}
-use Rattle.automaton.specs.StateNumbers.{Over, stateNumber}
-use Rattle.automaton.proofs.StateNumbers.{number-injective}
+use Rattle.searches.proofs.UniqueRound.{chosen-collect}
+use Rattle.states.specs.StateNumbers.{Over, stateNumber}
+use Rattle.states.proofs.StateNumbers.{number-injective}
 use Rattle.paths.specs.Arrivals.{endNumber, taken}
 
 -- the candidate is of the head: letter a, states before b, after states of the letter's processes L

@@ -10,14 +10,14 @@ use lib.Dec.{leb}
 use lib.ListN.{getD, length, take}
 use Rattle.model.specs.Log.{Candidate, stepsCap}
 use Rattle.model.specs.Tables.{writtenPlaces}
-use Rattle.model.specs.Searches.{freshPaths}
+use Rattle.searches.specs.Searches.{freshPaths}
 use Rattle.model.proofs.Tests.{by-test}
-use Rattle.automaton.specs.StateNumbers.{stateCount, stateNumber}
-use Rattle.automaton.specs.StateSets.{firstFrom}
-use Rattle.automaton.proofs.StateNumbers.{stateNumber-below}
+use Rattle.states.specs.StateNumbers.{stateCount, stateNumber}
+use Rattle.states.specs.StateSets.{firstFrom}
+use Rattle.states.proofs.StateNumbers.{stateNumber-below}
 use Rattle.scratch.specs.Regions.{passedEnd, ringsAt}
 use Rattle.records.specs.Entries.{HasRecord}
-use Rattle.packs.specs.Packs.{mergedBits, packNumber, packedAfter, restrictedBits, unpacked}
+use Rattle.packs.specs.Packs.{packedMerge, packedNumber, packedAfter, packedRestrict, unpacked}
 use Rattle.packs.proofs.Unpacked.{number-unpacked}
 use Rattle.rings.specs.Rings.{RingRoom, Ringed, recordReads}
 use Rattle.paths.specs.declared.Job.{Job}
@@ -48,7 +48,7 @@ module _ {job : Job} {level state : ℕ} (found : Bool) {trail : Trail} {count :
           ∙ by-test found (λ y. rw y (ap (λ (ns : List ℕ). made job ns (unpacked state) ∷ []) (append-nil (take (job .count) (trail .places))))) (λ n. rw n refl)
 
   -- a state that was passed
-  pub explored-passed : {x : ℕ} → level < job .count → x ≡ packNumber state → isPassed s level found x ≡ true → Explored job level state found trail count log s count log s
+  pub explored-passed : {x : ℕ} → level < job .count → x ≡ packedNumber state → isPassed s level found x ≡ true → Explored job level state found trail count log s count log s
   explored-passed more e y =
       searched-nothing job (heldBy job log) (offers job (glances log (job .base)) level found (unpacked state) (take level (trail .places))) count log s (p .3)
       (passed-seen job (glances log (job .base)) s level found (unpacked state) (take level (trail .places)) more (p .1 .over) (p .0 .passed)
@@ -63,18 +63,18 @@ pub record Looping (log₀ s₀ : List ℕ) (job : Job) (level state : ℕ) (fou
   pub is-number : x ≡ stateNumber (unpacked state)
   pub is-letter : letter ≡ getD (job .letters) level 0
   pub is-mask : mask ≡ getD (job .masks) level 0
-  pub is-key : g ≡ restrictedBits (getD (job .masks) level 0) state
+  pub is-key : g ≡ packedRestrict (getD (job .masks) level 0) state
   pub is-base : base ≡ job .base
   pub is-n : n ≡ job .n
   pub going : Going job level state found trail count log₀ s₀ ready stands more low log s total r
 
 pub looping-start : {log₀ s₀ : List ℕ} {job : Job} {level state : ℕ} {found : Bool} {trail : Trail} {count x letter mask g r : ℕ}
     → Asked job level state trail count log₀ s₀ → level < job .count
-    → x ≡ packNumber state → letter ≡ getD (job .letters) level 0 → mask ≡ getD (job .masks) level 0 → g ≡ restrictedBits mask state
+    → x ≡ packedNumber state → letter ≡ getD (job .letters) level 0 → mask ≡ getD (job .masks) level 0 → g ≡ packedRestrict mask state
     → r ≡ firstFrom (recordReads log₀ letter g) (firstTried job level found) (job .base - firstTried job level found)
     → Looping log₀ s₀ job level state found trail count x letter mask g (job .base) (job .n) log₀ s₀ count r
 looping-start {log₀} {s₀} {job} {level} {state} {found} {trail} {count} {g = g} {r = r} (ready, stands, low, few) more i l m k q =
-    let key-is : g ≡ restrictedBits (getD (job .masks) level 0) state = k ∙ ap (λ (y : ℕ). restrictedBits y state) m in
+    let key-is : g ≡ packedRestrict (getD (job .masks) level 0) state = k ∙ ap (λ (y : ℕ). packedRestrict y state) m in
     record {
       ready = ready;
       stands = stands;
@@ -120,10 +120,10 @@ module _ {log₀ s₀ : List ℕ} {job : Job} {level state : ℕ} {found : Bool}
   looping-longer h = (looping-level, omega (arith, o .is-base, o .ready .room .fits, o .ready .room .short), looping-record h, omega (arith, o .stands .steps))
 
   -- record r leads to the state next
-  module _ (h : r < base) {y next : ℕ} {new : Bool} {on : Trail} (y-is : y ≡ packedAfter log r) (e : next ≡ mergedBits mask y state)
+  module _ (h : r < base) {y next : ℕ} {new : Bool} {on : Trail} (y-is : y ≡ packedAfter log r) (e : next ≡ packedMerge mask y state)
       (f : new ≡ (found || leb (job .lo) r)) (t : on ≡ longerTrail log trail level r) where
-    next-is : next ≡ mergedBits (getD (job .masks) level 0) (packedAfter log r) state
-    next-is = e ∙ ap₂ (λ (m y : ℕ). mergedBits m y state) (o .is-mask) y-is
+    next-is : next ≡ packedMerge (getD (job .masks) level 0) (packedAfter log r) state
+    next-is = e ∙ ap₂ (λ (m y : ℕ). packedMerge m y state) (o .is-mask) y-is
 
     pub looping-asks : Asked job (level + 1) next on total log s
     looping-asks = (looping-ready, stands, looping-count .0, looping-count .1)
@@ -144,8 +144,8 @@ module _ {log₀ s₀ : List ℕ} {job : Job} {level state : ℕ} {found : Bool}
     module _ {total′ : ℕ} {log′ s′ : List ℕ} (d : Explored job (level + 1) next new on total log s total′ log′ s′) where
       searched : Searched job (heldBy job log) (by-record job level state found trail count log₀ s₀ (o .ready) (o .stands) (o .more) (o .low) log s total r (o .going) (below-base h)) total log s total′ log′ s′
       searched =
-          subst (λ (y : Trail). Explored job (suc level) (mergedBits (getD (job .masks) level 0) (packedAfter log r) state) (found || leb (job .lo) r) y total log s total′ log′ s′) t
-          (subst (λ (b : Bool). Explored job (suc level) (mergedBits (getD (job .masks) level 0) (packedAfter log r) state) b on total log s total′ log′ s′) f
+          subst (λ (y : Trail). Explored job (suc level) (packedMerge (getD (job .masks) level 0) (packedAfter log r) state) (found || leb (job .lo) r) y total log s total′ log′ s′) t
+          (subst (λ (b : Bool). Explored job (suc level) (packedMerge (getD (job .masks) level 0) (packedAfter log r) state) b on total log s total′ log′ s′) f
           (subst (λ (y : ℕ). Explored job (suc level) y new on total log s total′ log′ s′) next-is (subst (λ (k : ℕ). Explored job k next new on total log s total′ log′ s′) (add-one level) d)))
 
       pub looping-again : {r′ : ℕ} → r′ ≡ firstFrom (recordReads log′ letter g) (r + 1) (base - (r + 1)) → Looping log₀ s₀ job level state found trail count x letter mask g base n log′ s′ total′ r′

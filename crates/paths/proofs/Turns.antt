@@ -1,9 +1,9 @@
 -- The loop of the search: the records that read a letter, one after the other.
 use mathlib.Core.Path.{_∙_, _≡_, ap, ap₂, refl, subst, sym}
-use mathlib.Core.Bool.{Bool, _&&_, _||_, cond, false, true, or-assoc, or-false, or-true}
+use mathlib.Core.Bool.{Bool, _&&_, _||_, false, true, or-assoc, or-false, or-true}
 use mathlib.Core.Logic.{⊎-elim}
 use mathlib.Core.List.{List, List·Memᴰ, List·Memᴰ·cases-cons, List·Memᴰ·not-nil, [], _++_, _∷_, append-assoc, append-nil, map}
-use Prim.Native.Nat.{_*_, _+_, _-_, _<_, _≤_, min, suc, zero, ℕ}
+use Prim.Native.Nat.{_*_, _+_, _-_, _<_, _≤_, min, suc, ℕ}
 use native.Mathlib.Nat.{le-refl}
 use native.Mathlib.Omega.{arith}
 use lib.Dec.{eqb, leb}
@@ -16,16 +16,16 @@ use Rattle.model.specs.Groups.{merge, restrict, sameGroup}
 use Rattle.model.specs.Lists.{Each, sumOver}
 use Rattle.model.specs.Log.{Candidate, Path, Record, addedRecord, noNumber, push, readsAt, recordAt, stepsCap}
 use Rattle.model.specs.Records.{letterAt, recordLength, stepsAt}
-use Rattle.model.specs.Searches.{extendFresh, freshPaths}
-use Rattle.model.proofs.FreshPaths.{Stale, stale-paths}
-use Rattle.model.proofs.Lists.{each-append, each-map, map-append}
+use Rattle.searches.specs.Searches.{extendFresh, freshPaths}
+use Rattle.searches.proofs.FreshPaths.{Stale, stale-paths}
+use Rattle.model.proofs.Lists.{each-append, each-map, map-append, sum-snoc}
 use Rattle.model.proofs.Tests.{and-left, by-test}
-use Rattle.automaton.specs.StateNumbers.{stateCount}
-use Rattle.automaton.specs.StateSets.{firstFrom, setLength}
-use Rattle.automaton.proofs.StateNumbers.{stateNumber-below}
-use Rattle.automaton.proofs.StateSets.{first-at}
+use Rattle.states.specs.StateNumbers.{stateCount}
+use Rattle.states.specs.StateSets.{firstFrom, setLength}
+use Rattle.states.proofs.StateNumbers.{stateNumber-below}
+use Rattle.states.proofs.StateSets.{first-at, first-cong}
 use Rattle.scratch.specs.Regions.{keysAt, passedAt, passedEnd, ringsAt, seenAt}
-use Rattle.packs.specs.Packs.{maskOf, mergedBits, packedAfter, packedBefore, restrictedBits, unpacked}
+use Rattle.packs.specs.Packs.{maskOf, packedMerge, packedAfter, packedBefore, packedRestrict, unpacked}
 use Rattle.packs.proofs.Unpacked.{merge-below, merge-unpacked, restrict-below, restrict-unpacked, same-unpacked}
 use Rattle.rings.specs.Rings.{recordReads}
 use Rattle.rings.proofs.Keeping.{freshened-log, freshened-scratch, ringed-log, ringed-scratch}
@@ -57,11 +57,6 @@ joined-push job pre r [] = refl
 joined-push job pre r (p ∷ ps) =
     ap₂ (λ (c : Candidate) (cs : List Candidate). c ∷ cs) (ap (λ (ns : List ℕ). made job ns (p .end)) (sym (append-assoc pre (r ∷ []) (p .numbers)))) (joined-push job pre r ps)
 
-pub first-cong : (f h : ℕ → Bool) (m k : ℕ) → ((i : ℕ) → m ≤ i → i < m + k → f i ≡ h i) → firstFrom f m k ≡ firstFrom h m k
-unfolding firstFrom
-first-cong f h m zero e = refl
-first-cong f h m (suc k) e = ap₂ (λ (b : Bool) (n : ℕ). cond b m n) (e m (omega arith) (omega arith)) (first-cong f h (suc m) k (λ i a b. e i (omega arith) (omega arith)))
-
 -- the place of a member
 pub place-of : {A : Type 0} (l : List A) (d x : A) → List·Memᴰ x l → (j : ℕ) × (j < length l) × (getD l j d ≡ x)
 place-of [] d x m = absurd (List·Memᴰ·not-nil m)
@@ -69,10 +64,6 @@ place-of {A} (y ∷ l) d x m = ⊎-elim
     (λ (e : x ≡ y). (0, omega arith, sym e))
     (λ (q : List·Memᴰ x l). let r = place-of l d x q in (suc (r .0), omega (arith, r .1), r .2))
     (List·Memᴰ·cases-cons m)
-
-sum-more : (f : ℕ → ℕ) (ns : List ℕ) (r : ℕ) → sumOver f (ns ++ (r ∷ [])) ≡ sumOver f ns + f r
-sum-more f [] r = omega arith
-sum-more f (n ∷ ns) r = omega (arith, sum-more f ns r)
 
 sum-same : (f h : ℕ → ℕ) (n : ℕ) (ns : List ℕ) → ((i : ℕ) → i < n → f i ≡ h i) → Each (λ (m : ℕ). m < n) ns → sumOver f ns ≡ sumOver h ns
 sum-same f h n [] e l = refl
@@ -131,7 +122,7 @@ module _ (job : Job) (level state : ℕ) (found : Bool) (trail : Trail) (count :
 
   -- the states before that are looked for, as one number
   abbrev pub key : ℕ
-  key = restrictedBits (getD (job .masks) level 0) state
+  key = packedRestrict (getD (job .masks) level 0) state
 
   abbrev onward : Bool → Group → List Path
   onward b h = freshPaths (jobLoc job) A (job .lo) b (drop (suc level) (jobWord job)) h
@@ -155,7 +146,7 @@ module _ (job : Job) (level state : ℕ) (found : Bool) (trail : Trail) (count :
 
   -- ---- what the rings find is what the paths go by
   key-is : unpacked key ≡ restrict (jobLoc job a) g
-  key-is = ap (λ (m : ℕ). unpacked (restrictedBits m state)) (ready .masks level more) ∙ restrict-unpacked (jobLoc job a) state (stands .packed)
+  key-is = ap (λ (m : ℕ). unpacked (packedRestrict m state)) (ready .masks level more) ∙ restrict-unpacked (jobLoc job a) state (stands .packed)
 
   key-small : key < 4294967296
   key-small = rw (ready .masks level more) (restrict-below (jobLoc job a) state (stands .packed))
@@ -250,13 +241,13 @@ module _ (job : Job) (level state : ℕ) (found : Bool) (trail : Trail) (count :
 
       -- where record r leads
       abbrev pub led : ℕ
-      led = mergedBits (getD (job .masks) level 0) (packedAfter log r) state
+      led = packedMerge (getD (job .masks) level 0) (packedAfter log r) state
 
       after-small : packedAfter log r < 4294967296
       after-small = going-ready .small r h .1
 
       led-is : unpacked led ≡ merge (jobLoc job a) (unpacked (packedAfter log r)) g
-      led-is = ap (λ (m : ℕ). unpacked (mergedBits m (packedAfter log r) state)) mask-is ∙ merge-unpacked (jobLoc job a) (packedAfter log r) state after-small (stands .packed)
+      led-is = ap (λ (m : ℕ). unpacked (packedMerge m (packedAfter log r) state)) mask-is ∙ merge-unpacked (jobLoc job a) (packedAfter log r) state after-small (stands .packed)
 
       letter-is : letterAt log r ≡ a
       letter-is = letter-same log₀ log (job .base) earlier r h ∙ reads-letter (o .reads h)
@@ -285,7 +276,7 @@ module _ (job : Job) (level state : ℕ) (found : Bool) (trail : Trail) (count :
           steps-are =
               let so-far : trail .steps ≡ min (1 + sumOver (λ m. recordAt (glances log (job .base)) m .steps) pre) stepsCap = stands .steps ∙ ap (λ (B : List Record). min (1 + sumOver (λ m. recordAt B m .steps) pre) stepsCap) (sym same-seen) in
               let sum : sumOver (λ m. recordAt (glances log (job .base)) m .steps) (take (suc level) (set (trail .places) level r)) ≡ sumOver (λ m. recordAt (glances log (job .base)) m .steps) pre + recordAt (glances log (job .base)) r .steps =
-              ap (sumOver (λ m. recordAt (glances log (job .base)) m .steps)) numbers-are ∙ sum-more (λ m. recordAt (glances log (job .base)) m .steps) pre r in
+              ap (sumOver (λ m. recordAt (glances log (job .base)) m .steps)) numbers-are ∙ sum-snoc (λ m. recordAt (glances log (job .base)) m .steps) pre r in
               let one : recordAt (glances log (job .base)) r .steps ≡ stepsAt log r = ap (λ (x : Record). x .steps) (glances-at log (job .base) r h) in
               capped-sum (trail .steps) (sumOver (λ m. recordAt (glances log (job .base)) m .steps) pre) (recordAt (glances log (job .base)) r .steps) (sumOver (λ m. recordAt (glances log (job .base)) m .steps) (take (suc level) (set (trail .places) level r))) (stepsAt log r) so-far sum one
 

@@ -1,12 +1,13 @@
--- What a search does with the ends that it arrives at. An end is the number of the after states that a rule adds. The first candidate for an end that
--- was not seen before is taken, and its record goes behind those there are, as long as the log has room.
+-- What a search does with the ends that it arrives at. An end is the number of the after states that a rule adds. The
+-- first candidate for an end that was not seen before is taken, and its record goes behind those there are, as long as
+-- the log has room.
 use mathlib.Core.Bool.{Bool, cond, _||_}
 use mathlib.Core.List.{List, [], _∷_}
 use Prim.Native.Nat.{ℕ, suc}
 use lib.Dec.{eqb, ltb}
 use Rattle.model.specs.Lists.{anyOf}
 use Rattle.model.specs.Log.{Record, Candidate}
-use Rattle.automaton.specs.StateNumbers.{stateNumber}
+use Rattle.states.specs.StateNumbers.{stateNumber}
 use Rattle.records.specs.Entries.{recordEntry, withEntry}
 
 abbrev pub endNumber : Candidate → ℕ

@@ -11,9 +11,9 @@ use Rattle.model.specs.Groups.{Processes, restrict, merge}
 use Rattle.model.specs.Tables.{writtenPlaces}
 use Rattle.model.specs.Log.{Record, Path, Candidate, addedRecord, noNumber, recordAt, stepsCap}
 use Rattle.model.specs.Records.{recordLength, letterAt, stepsAt}
-use Rattle.model.specs.Searches.{freshPaths}
-use Rattle.automaton.specs.StateNumbers.{stateCount, stateNumber, Over}
-use Rattle.automaton.specs.StateSets.{member, inserted, setLength}
+use Rattle.searches.specs.Searches.{freshPaths}
+use Rattle.states.specs.StateNumbers.{stateCount, stateNumber, Over}
+use Rattle.states.specs.StateSets.{member, inserted, setLength}
 use Rattle.scratch.specs.Regions.{keysAt, passedAt, passedBit, passedEnd, ringsAt, seenAt, seenBit}
 use Rattle.records.specs.declared.Entry.{Entry}
 use Rattle.records.specs.Entries.{withEntry}
@@ -43,11 +43,33 @@ jobProcesses job = processesIn (job .mask)
 
 -- what the rule adds for a path with these record numbers that ends in e
 abbrev pub made : Job → List ℕ → Group → Candidate
-made job ns e = record { key = record { letter = job .letter; before = unpacked (job .before); after = restrict (jobProcesses job) e }; rule = job .rule; path = ns }
+made job ns e =
+    record {
+      key = record {
+        letter = job .letter;
+        before = unpacked (job .before);
+        after = restrict
+            (jobProcesses job) e;
+      };
+      rule = job .rule;
+      path = ns;
+    }
 
 -- ---- the log, as far as a search looks at it: transitions and steps
 abbrev pub glance : List ℕ → ℕ → Record
-glance log n = record { key = record { letter = letterAt log n; before = unpacked (packedBefore log n); after = unpacked (packedAfter log n) }; round = 0; rule = noNumber; path = []; steps = stepsAt log n }
+glance log n =
+    record {
+      key = record {
+        letter = letterAt log n;
+        before = unpacked (packedBefore log n);
+        after = unpacked
+            (packedAfter log n);
+      };
+      round = 0;
+      rule = noNumber;
+      path = [];
+      steps = stepsAt log n;
+    }
 
 abbrev pub glancesFrom : List ℕ → ℕ → ℕ → List Record
 glancesFrom log n zero = []
@@ -57,10 +79,12 @@ abbrev pub glances : List ℕ → ℕ → List Record
 glances log base = glancesFrom log 0 base
 
 -- ---- the search
--- the candidates of the paths that read the rest of the word from a state, in order: all of them where a record of the last round is on the way
--- already, else those with such a record
+-- the candidates of the paths that read the rest of the word from a state, in order: all of them where a record of the
+-- last round is on the way already, else those with such a record
 abbrev pub offers : Job → List Record → ℕ → Bool → Group → List ℕ → List Candidate
-offers job log level found g pre = map (λ (p : Path). made job (pre ++ p .numbers) (p .end)) (freshPaths (jobLoc job) log (job .lo) found (drop level (jobWord job)) g)
+offers job log level found g pre =
+    map (λ (p : Path). made job (pre ++ p .numbers) (p .end))
+    (freshPaths (jobLoc job) log (job .lo) found (drop level (jobWord job)) g)
 
 -- a letter behind place `level` is read by a record of the last round
 abbrev pub laterFresh : Job → ℕ → Bool
@@ -80,7 +104,9 @@ isPassed s level found m = member s (passedBit level true m) || member s (passed
 
 -- all that a state leads to which the search came by has been seen
 abbrev pub PassedRight : Job → List Record → List ℕ → Type 0
-PassedRight job log s = (level : ℕ) (found : Bool) (m : ℕ) → level < job .count → m < stateCount → member s (passedBit level found m) ≡ true → (g : Group) → Over (jobProcesses job) g → stateNumber g ≡ m
+PassedRight job log s =
+    (level : ℕ) (found : Bool) (m : ℕ) → level < job .count → m < stateCount → member s (passedBit level found m) ≡ true
+    → (g : Group) → Over (jobProcesses job) g → stateNumber g ≡ m
     → Each (λ (c : Candidate). seenIn s (endNumber c) ≡ true) (offers job log level found g [])
 
 -- an end that the search came by, or that is held by the log
@@ -110,12 +136,15 @@ pub record Searchable (job : Job) (log s : List ℕ) : Type 0 where
   pub keys : Lookable job log s
   -- groups of the records are numbers of 32 bits
   pub small : (i : ℕ) → i < job .base → (packedBefore log i < 4294967296) × (packedAfter log i < 4294967296)
-  -- a written letter has the processes of its place, and its transitions lead from states of the rule's processes to such states
+  -- a written letter has the processes of its place, and its transitions lead from states of the rule's processes to
+  -- such states
   pub masks : (j : ℕ) → j < job .count → getD (job .masks) j 0 ≡ maskOf (jobLoc job (getD (job .letters) j 0))
-  pub shapes : (i j : ℕ) → i < job .base → j < job .count → letterAt log i ≡ getD (job .letters) j 0 → (g : Group) → Over (jobProcesses job) g
+  pub shapes : (i j : ℕ) → i < job .base → j < job .count → letterAt log i ≡ getD (job .letters) j 0 → (g : Group)
+      → Over (jobProcesses job) g
       → Over (jobProcesses job) (merge (jobLoc job (getD (job .letters) j 0)) (unpacked (packedAfter log i)) g)
   -- no record of the last round reads a letter behind the last fresh one
-  pub stale : (i j : ℕ) → job .lo ≤ i → i < job .base → job .last < j → j < job .count → letterAt log i ≡ getD (job .letters) j 0 → ⊥
+  pub stale : (i j : ℕ) → job .lo ≤ i → i < job .base → job .last < j → j < job .count
+      → letterAt log i ≡ getD (job .letters) j 0 → ⊥
   pub own : job .mask ≡ maskOf (jobProcesses job)
   pub head : job .before < 4294967296
   pub passed : PassedRight job (glances log (job .base)) s
@@ -128,13 +157,16 @@ pub record Standing (job : Job) (log : List ℕ) (level state : ℕ) (trail : Tr
   pub size : length (trail .places) ≡ writtenPlaces
   pub numbers : Each (λ (m : ℕ). m < job .base) (take level (trail .places))
   pub spare : (j : ℕ) → level ≤ j → j < writtenPlaces → getD (trail .places) j noNumber ≡ noNumber
-  pub steps : trail .steps ≡ min (1 + sumOver (λ m. recordAt (glances log (job .base)) m .steps) (take level (trail .places))) stepsCap
+  pub steps : trail .steps
+      ≡ min (1 + sumOver (λ m. recordAt (glances log (job .base)) m .steps) (take level (trail .places))) stepsCap
 
 -- what an arrival at, or a search from, some candidates leaves, where these ends are held
-pub record Searched (job : Job) (held : ℕ → Bool) (cs : List Candidate) (count : ℕ) (log s : List ℕ) (count′ : ℕ) (log′ s′ : List ℕ) : Type 0 where
+pub record Searched (job : Job) (held : ℕ → Bool) (cs : List Candidate) (count : ℕ) (log s : List ℕ) (count′ : ℕ)
+    (log′ s′ : List ℕ) : Type 0 where
   -- the number of records, or n + 1 where the log has no room for all
   pub counted : count′ ≡ min (count + length (taken (known held s) cs)) (job .n + 1)
-  pub written : log′ ≡ stored (job .n) log count (map (addedRecord (job .round) (glances log (job .base))) (taken (known held s) cs))
+  pub written : log′
+      ≡ stored (job .n) log count (map (addedRecord (job .round) (glances log (job .base))) (taken (known held s) cs))
   pub seen : (x : ℕ) → x < stateCount → seenIn s′ x ≡ (seenIn s x || hit cs x)
   pub scratch-length : length s′ ≡ length s
   -- of the scratch only the ends seen and the states passed behind the first letter change
@@ -144,7 +176,10 @@ pub record Searched (job : Job) (held : ℕ → Bool) (cs : List Candidate) (cou
 
 -- ---- the path so far
 abbrev pub longerTrail : List ℕ → Trail → ℕ → ℕ → Trail
-longerTrail log trail level r = record { places = set (trail .places) level r; steps = min (trail .steps + min (stepsAt log r) stepsCap) stepsCap }
+longerTrail log trail level r = record {
+  places = set (trail .places) level r;
+  steps = min (trail .steps + min (stepsAt log r) stepsCap) stepsCap;
+}
 
 -- ---- an arrival
 -- the candidate of a path that ends in the state, if a record of the last round is on it

@@ -1,7 +1,5 @@
 // Search of the paths of the log for what a rule adds: depth first, in rising record numbers. From round 2 on only paths with a record of the last round
 // are gone through, since no other adds anything. The first path to an end that the head's search has not come by adds a record.
-use automaton::sets;
-use automaton::states::STATES;
 use keys::holds;
 use model::WRITTEN_PLACES;
 use packs::after_at;
@@ -20,6 +18,8 @@ use scratch::PASSED;
 use scratch::RINGS;
 use scratch::SEEN;
 use scratch::keys_at;
+use states::numbering::STATES;
+use states::sets;
 ghost use mathlib.Core.Path.{_≡_};
 ghost use mathlib.Core.Bool.{true, cond, _||_};
 ghost use Prim.Native.Nat.{_+_, _-_, _*_, _<_, _≤_, min};
@@ -28,8 +28,8 @@ ghost use lib.ListN.{length, getD, take};
 ghost use Rattle.model.specs.Log.{stepsCap};
 ghost use Rattle.model.specs.Records.{recordLength};
 ghost use Rattle.model.specs.Tables.{writtenPlaces};
-ghost use Rattle.automaton.specs.StateNumbers.{stateCount};
-ghost use Rattle.automaton.specs.StateSets.{firstFrom};
+ghost use Rattle.states.specs.StateNumbers.{stateCount};
+ghost use Rattle.states.specs.StateSets.{firstFrom};
 ghost use Rattle.records.specs.Entries.{HasRecord};
 ghost use Rattle.rings.specs.Rings.{recordReads, RingRoom, Ringed, Freshened};
 ghost use Rattle.packs.specs.Packs.{unpacked};

@@ -10,13 +10,13 @@ use lib.Dec.{eqb, leb, ltb}
 use lib.ListN.{length, getD, drop, set, replicate, drop-of-length-le}
 use lib.Seq.{drop-cons, getD-set-other}
 use borrow.Author.Tests.{eqb-true, eqb-false, leb-true, ltb-true}
-use Rattle.model.specs.declared.Window.{Window}
+use Rattle.plan_model.specs.declared.Window.{Window}
 use Rattle.model.specs.Groups.{Process}
-use Rattle.model.specs.Hours.{allBelow, firstNever, lengthFits, lengthsFit, longestStep, neverFits, runFits, stepOf, stepsOf}
+use Rattle.model.specs.Lists.{allBelow}
+use Rattle.plan_model.specs.Hours.{firstNever, lengthFits, lengthsFit, longestStep, neverFits, runFits, stepOf, stepsOf}
 use Rattle.model.specs.Systems.{System}
 use Rattle.model.proofs.Lists.{all-alike}
-use Rattle.model.proofs.Tests.{and-left, and-right, by-test}
-use Rattle.model.proofs.Weeks.{all-at, all-fails}
+use Rattle.model.proofs.Tests.{and-left, and-right, by-test, allBelow-at, allBelow-fails}
 use Rattle.table.specs.declared.Table.{Table}
 use Rattle.table.specs.Reading.{BitsOf, Holds, ruleIn, systemIn}
 use Rattle.table.proofs.Layouts.{rule-processes}
@@ -39,7 +39,7 @@ module _ {n : ℕ} {f : ℕ → Bool} where
   passing-end {k} p l = let q : k ≡ n = omega (arith, p .within) in sym (rw q at (p .passed))
 
   pub passing-fails : {k : ℕ} → Passing n f k → k < n → f k ≡ false → false ≡ allBelow n f
-  passing-fails {k} p l e = sym (all-fails n f k l e)
+  passing-fails {k} p l e = sym (allBelow-fails n f k l e)
 
 -- ---- what the checks say
 module _ (rules : ℕ) (lengths : List ℕ) (e : lengthsFit rules lengths ≡ true) where
@@ -51,7 +51,7 @@ module _ (rules : ℕ) (lengths : List ℕ) (e : lengthsFit rules lengths ≡ tr
   unfolding lengthsFit
   length-short n m l q =
       let each = and-right (leb rules (length lengths)) (allBelow rules (λ n. lengthFits (getD lengths n 0))) e in
-      let one = all-at rules (λ n. lengthFits (getD lengths n 0)) each n l in
+      let one = allBelow-at rules (λ n. lengthFits (getD lengths n 0)) each n l in
       rw q (leb-true (getD lengths n 0) longestStep (and-right (leb 1 (getD lengths n 0)) (leb (getD lengths n 0) longestStep) one))
 
 module _ (rules : ℕ) (run : List ℕ) (e : runFits rules run ≡ true) where
@@ -63,7 +63,7 @@ module _ (rules : ℕ) (run : List ℕ) (e : runFits rules run ≡ true) where
   unfolding runFits
   rule-in-run k n l q =
       let each = and-right (leb (length run) 1000000) (allBelow (length run) (λ k. ltb (getD run k 0) rules)) e in
-      rw q (ltb-true (getD run k 0) rules (all-at (length run) (λ k. ltb (getD run k 0) rules) each k l))
+      rw q (ltb-true (getD run k 0) rules (allBelow-at (length run) (λ k. ltb (getD run k 0) rules) each k l))
 
 -- ---- the step of a rule, from the bits of its letter and its length
 module _ (table : List ℕ) (t : Table) (h : Holds table t) (lengths : List ℕ) (n : ℕ) (l : n < t .rules) where

@@ -8,9 +8,9 @@ use native.Mathlib.Omega.{arith}
 use lib.IntN.{ℤ, pos, _+ℤ_}
 use lib.ListN.{length, getD, take, drop, set, drop-of-length-le, length-set, take-append-drop}
 use lib.Seq.{append-snoc, drop-cons, drop-drop, drop-set-lt, take-suc-set}
-use Rattle.model.specs.declared.Window.{Window}
+use Rattle.plan_model.specs.declared.Window.{Window}
 use Rattle.model.specs.Groups.{Process}
-use Rattle.model.specs.Hours.{PlannedStep, atStart, beginOf, beginsFrom, endOf, endedAt, longestStep, startFits, stepOf, stepsOf}
+use Rattle.plan_model.specs.Hours.{PlannedStep, atStart, beginOf, beginsFrom, endOf, endedAt, longestStep, startFits, stepOf, stepsOf}
 use Rattle.model.specs.Systems.{System}
 use Rattle.model.proofs.Tests.{each-process}
 use Rattle.plans.specs.Planning.{Minute, Near, planReach, stepReach}

@@ -11,12 +11,12 @@ use lib.Signed.{ltZ, mag}
 use borrow.Author.Tests.{leb-true}
 use mir.Syntax.{w64}
 use mir.Val.{SFits}
-use Rattle.model.specs.declared.Window.{Window}
+use Rattle.plan_model.specs.declared.Window.{Window}
 use Rattle.model.specs.Groups.{Process, Processes, has, p0, p1, p2, p3}
-use Rattle.model.specs.Hours.{PlannedStep, beginOf, boundOf, delay, endOf, endedAt, laterOf, longestStep, startFits, weekMinutes}
+use Rattle.plan_model.specs.Hours.{PlannedStep, beginOf, boundOf, delay, endOf, endedAt, laterOf, longestStep, startFits, weekMinutes}
 use Rattle.model.specs.Lists.{valueOr}
 use Rattle.model.proofs.Tests.{and-left, by-test, each-process}
-use Rattle.model.proofs.Weeks.{delay-found}
+use Rattle.plan_model.proofs.Weeks.{delay-found}
 use Rattle.minutes.proofs.Signed.{readBack, read-back}
 use Rattle.plans.specs.Planning.{Minute, Near, planReach, stepReach}
 

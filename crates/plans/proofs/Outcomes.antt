@@ -11,12 +11,12 @@ use lib.ListN.{length, drop, length-map}
 use borrow.Author.Tests.{leb-true}
 use mir.Syntax.{w64}
 use mir.Val.{SFits}
-use Rattle.model.specs.declared.Planned.{Planned}
-use Rattle.model.specs.declared.Window.{Window}
+use Rattle.plan_model.specs.declared.Planned.{Planned}
+use Rattle.plan_model.specs.declared.Window.{Window}
 use Rattle.model.specs.Groups.{Process}
-use Rattle.model.specs.Hours.{PlanMeans, PlannedStep, atStart, beginsFrom, firstNever, hoursFit, lengthsFit, planBegins, planCall, planFits, planGiven, plannedPlace, plannedRefusal, runFits, startFits, stepOf, stepsOf, weekOf}
+use Rattle.plan_model.specs.Hours.{PlanMeans, PlannedStep, atStart, beginsFrom, firstNever, hoursFit, lengthsFit, planBegins, planCall, planFits, planGiven, plannedPlace, plannedRefusal, runFits, startFits, stepOf, stepsOf, weekOf}
 use Rattle.model.specs.Tables.{count, read, refused, systemOf}
-use Rattle.model.proofs.Main.{plan-holds}
+use Rattle.plan_model.proofs.Main.{plan-holds}
 use Rattle.model.proofs.Tests.{and-left, and-right}
 use Rattle.table.specs.declared.Table.{Table}
 use Rattle.table.specs.Reading.{Holds, itemsIn, systemIn}

@@ -6,10 +6,10 @@ use mathlib.Core.Path.{_≡_}
 use Prim.Native.Nat.{ℕ, _+_, _*_, _≤_}
 use lib.IntN.{ℤ, pos, _+ℤ_}
 use lib.ListN.{getD}
-use Rattle.model.specs.declared.Planned.{Planned}
-use Rattle.model.specs.declared.Window.{Window}
+use Rattle.plan_model.specs.declared.Planned.{Planned}
+use Rattle.plan_model.specs.declared.Window.{Window}
 use Rattle.model.specs.Groups.{Process}
-use Rattle.model.specs.Hours.{PlanOutcome, endOf, lengthsFit, longestStep, neverFits, startFits, stepOf, weekMinutes}
+use Rattle.plan_model.specs.Hours.{PlanOutcome, endOf, lengthsFit, longestStep, neverFits, startFits, stepOf, weekMinutes, mostSteps}
 use Rattle.model.specs.Systems.{System}
 use Rattle.table.specs.Reading.{Holds}
 use Rattle.table.specs.declared.Table.{Table}
@@ -33,7 +33,7 @@ abbrev pub stepReach : ℕ
 stepReach = weekMinutes + longestStep
 
 abbrev pub planReach : ℕ
-planReach = 1000000 * stepReach
+planReach = mostSteps * stepReach
 
 -- a minute that is at most n minutes after the start
 pub record Minute (start t : ℤ) (n : ℕ) : Type 0 where

@@ -1,41 +1,36 @@
 // Request 2.7: the plan of a run on the week.
-use firing::rule_bits;
 use hours::delay_of;
 use hours::fits_never;
-use minutes::WEEK;
 use minutes::after;
 use minutes::later_of;
 use minutes::start_fits;
-use model::Planned;
-use model::WINDOW_PLACES;
-use model::Window;
 use numbers::wide;
 use numbers::wide_two;
+use plan_model::BAD_HOURS;
+use plan_model::LONGEST_STEP;
+use plan_model::MOST_STEPS;
+use plan_model::NEVER_OPEN;
+use plan_model::Planned;
+use plan_model::WEEK;
+use plan_model::WINDOW_PLACES;
+use plan_model::Window;
 use reading::read;
 use table::Parsed;
 use table::Table;
+use table::rule_bits;
 ghost use mathlib.Core.Bool.{cond, true};
 ghost use mathlib.Core.List.{_++_};
 ghost use mathlib.Core.Path.{_≡_};
 ghost use Prim.Native.Nat.{_≤_, _<_};
 ghost use lib.ListN.{length, drop};
 ghost use Rattle.model.specs.Groups.{processesOf};
-ghost use Rattle.model.specs.Hours.{PlanMeans, atStart, beginOf, beginsFrom, boundOf, endedAt, firstNever, hoursFit, laterOf, lengthFits, lengthsFit, longestStep, neverFits, planCall, planFits, plannedPlace, plannedRefusal, processFits, runFits, startFits, stepOf, stepsOf, weekOf, windowFits};
+ghost use Rattle.plan_model.specs.Hours.{PlanMeans, atStart, beginOf, beginsFrom, boundOf, endedAt, firstNever, hoursFit, laterOf, lengthFits, lengthsFit, longestStep, neverFits, planCall, planFits, plannedPlace, plannedRefusal, processFits, runFits, startFits, stepOf, stepsOf, weekOf, windowFits};
 ghost use Rattle.table.specs.Reading.{Holds, systemIn};
 ghost use Rattle.hours.specs.Searching.{stepBy};
 ghost use Rattle.plans.specs.Planning.{Judged, Near, Plans, Ready, planReach, seen};
 
-// The most steps of a run, the last closing of a window, and the longest step.
-const STEPS: usize = 1000000;
-
+// The last closing of a window.
 const LAST_CLOSING: u16 = WEEK as u16;
-
-const LONGEST_STEP: u16 = 1440;
-
-// The refusals: bad hours; never open.
-const BAD_HOURS: u8 = 19;
-
-const NEVER_OPEN: u8 = 20;
 
 // The number of a step, or none.
 pub enum Seen {
@@ -120,7 +115,7 @@ fn lengths_fit(rules: usize, lengths: &[u16]) -> bool
 fn run_fits(rules: usize, run: &[u16]) -> bool
     ensures { λ r. ⌜ r ≡ runFits rules (now (run .entry)) ⌝ }
 {
-    if STEPS < run.len() {
+    if MOST_STEPS < run.len() {
         return false;
     }
     let mut k = 0;

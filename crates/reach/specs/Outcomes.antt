@@ -12,7 +12,7 @@ use Rattle.table.specs.declared.Table.{Table}
 use Rattle.table.specs.Reading.{saturatedIn}
 use Rattle.saturate.specs.declared.Saturated.{Saturated}
 use Rattle.saturate.specs.declared.Saturated.the-variants.{Limit, Full}
-use Rattle.verdict.specs.Verdicts.{Settled}
+use Rattle.verdict.specs.Verdicts.{AtLimit}
 
 -- the answer call gives its outcome's answer, with document 01's number and values, and leaves its log and scratch
 pub record Answers (o : AnswerOutcome) (r : Answered) (log scratch : List ℕ) : Type 0 where
@@ -35,8 +35,9 @@ pub record Roomy (n : ℕ) (log scratch : List ℕ) : Type 0 where
   pub scratch-room : scratchFor n ≤ length scratch
 
 -- the log holds the limit's records and then zeros
-pub record LimitLeft (table : List ℕ) (t : Table) (n : ℕ) (log scratch : List ℕ) (count most : ℕ) (log′ scratch′ : List ℕ) : Type 0 where
-  pub settled : Settled table t log′ n count most scratch′
+pub record LimitLeft (table : List ℕ) (t : Table) (n : ℕ) (log scratch : List ℕ) (count most : ℕ)
+    (log′ scratch′ : List ℕ) : Type 0 where
+  pub settled : AtLimit table t log′ n count most scratch′
   pub log-left : log′ ≡ filled (logBytes (limit (saturatedIn table))) log
   pub log-length : length log′ ≡ length log
   pub scratch-length : length scratch′ ≡ length scratch
@@ -48,5 +49,6 @@ pub record NoneLeft (table : List ℕ) (n : ℕ) (log scratch log′ scratch′ 
   pub scratch-left : scratch′ ≡ zeros scratch
 
 abbrev pub LogLeft : List ℕ → Table → ℕ → List ℕ → List ℕ → Saturated → List ℕ → List ℕ → Type 0
-LogLeft table t n log scratch (Limit count most) log′ scratch′ = LimitLeft table t n log scratch count most log′ scratch′
+LogLeft table t n log scratch (Limit count most) log′ scratch′ =
+    LimitLeft table t n log scratch count most log′ scratch′
 LogLeft table t n log scratch Full log′ scratch′ = NoneLeft table n log scratch log′ scratch′

@@ -1,10 +1,14 @@
 // The calls answer and run: whether a run joins the start and the watched set, and such a run.
-use automaton::sets::clear;
+use buffers::clear;
 use model::AnswerAndRun;
 use model::Answered;
 use model::Ran;
+use model::SHORT_LOG;
+use model::SHORT_SCRATCH;
+use numbers::figure;
 use reading::read;
 use records::RECORD_LENGTH;
+use records::clear_behind;
 use saturate::Saturated;
 use saturate::saturate;
 use scratch::NEEDED;
@@ -13,8 +17,6 @@ use table::Parsed;
 use table::Table;
 use verdict::answer_and_run_limit;
 use verdict::answer_limit;
-use verdict::clear_behind;
-use verdict::figure;
 ghost use mathlib.Core.Path.{_≡_};
 ghost use Prim.Native.Nat.{ℕ};
 ghost use mathlib.Core.List.{List};
@@ -62,13 +64,13 @@ fn answer_table(table: &[u8], t: Table, log: &mut [u8], scratch: &mut [u8]) -> A
     let n = records_in(log.len());
     if scratch.len() < NEEDED + NEEDED_PER_RECORD * n {
         return Answered::Refused {
-            number: 15,
+            number: SHORT_SCRATCH,
             place: 0,
         };
     }
     match fill_log(table, t, log, scratch, n) {
         Saturated::Full => Answered::Refused {
-            number: 10,
+            number: SHORT_LOG,
             place: 0,
         },
         Saturated::Limit { count, rounds } => answer_limit(
@@ -107,10 +109,10 @@ fn answer_and_run_table(
 {
     let n = records_in(log.len());
     if scratch.len() < NEEDED + NEEDED_PER_RECORD * n {
-        return refused(15, 0);
+        return refused(SHORT_SCRATCH, 0);
     }
     match fill_log(table, t, log, scratch, n) {
-        Saturated::Full => refused(10, 0),
+        Saturated::Full => refused(SHORT_LOG, 0),
         Saturated::Limit { count, rounds } => answer_and_run_limit(
             table,
             t,

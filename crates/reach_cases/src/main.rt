@@ -5,9 +5,7 @@ use model::Ran;
 use numbers::as_u16;
 use reach::answer;
 use reach::run;
-ghost use mathlib.Core.Path.{_≡_};
 ghost use Prim.Native.Nat.{_≤_};
-ghost use lib.ListN.{length};
 
 // Two stations, q = s = 2; tasks 0 {0,1}, 1 {0}, 2 {1}; rule 0 (byte 12): task 0, (0,0) to (0,0), writes 1 2; rule 1 (29): task 1, 0 to 1, writes
 // none; rule 2 (46): task 2, the same; accepting (1,1) (63); start (0,0) (68), pile 0 (73); the end (75). One byte stands behind it.

@@ -1,13 +1,4 @@
 // The checks 5, 6 and 7 of a body, against the processes and letters that the table has so far.
-ghost use mathlib.Core.Path.{_≡_};
-ghost use mathlib.Core.Bool.{true, cond, not, _&&_};
-ghost use Prim.Native.Nat.{_^_, _≤_, _<_};
-ghost use lib.Dec.{eqb, ltb, leb};
-ghost use lib.ListN.{length, getD, take, drop};
-ghost use Rattle.model.specs.Lists.{allOf};
-ghost use Rattle.model.specs.Groups.{processesOf, withinTest};
-ghost use Rattle.model.specs.Tables.{writtenPlaces, bodyLength, byteOf, groupOf, absent, present, locOf, ruleOf, transitionOf, groupFits, transitionFits, writtenFit, valueFits, cooperates, isNarrow, isReentry};
-ghost use Rattle.table.specs.Places.{processesIn, lettersIn, boundIn, Heads, Whole};
 use model::Group;
 use model::WRITTEN_PLACES;
 use numbers::group_at;
@@ -17,6 +8,15 @@ use table::bits_of;
 use table::bound_of;
 use table::is_within;
 use table::leaves_control;
+ghost use mathlib.Core.Path.{_≡_};
+ghost use mathlib.Core.Bool.{true, cond, not, _&&_};
+ghost use Prim.Native.Nat.{_^_, _≤_, _<_};
+ghost use lib.Dec.{eqb, ltb, leb};
+ghost use lib.ListN.{length, getD, take, drop};
+ghost use Rattle.model.specs.Lists.{allOf};
+ghost use Rattle.model.specs.Groups.{processesOf, withinTest};
+ghost use Rattle.model.specs.Tables.{writtenPlaces, bodyLength, byteOf, groupOf, absent, present, locOf, ruleOf, transitionOf, groupFits, transitionFits, writtenFit, valueFits, cooperates, isNarrow, isReentry};
+ghost use Rattle.table.specs.Places.{processesIn, lettersIn, boundIn, Heads, Whole};
 
 // 2 to the power of a number of processes.
 pub fn power_of(processes: usize) -> u8

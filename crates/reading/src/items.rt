@@ -1,4 +1,22 @@
 // The checks of one item, in their order, and the cursor behind it.
+use crate::checks::is_reentry;
+use crate::checks::is_stray;
+use crate::checks::value_fits;
+use model::CROWD;
+use model::CUT;
+use model::REENTRY;
+use model::STRANGER;
+use model::STRAY;
+use model::TURN;
+use model::TWIN;
+use model::VALUE;
+use numbers::eight_at;
+use numbers::wide;
+use table::Cursor;
+use table::RULE_BODY;
+use table::Table;
+use table::body_at;
+use table::ceiling_of;
 ghost use mathlib.Core.Path.{_≡_};
 ghost use mathlib.Core.Bool.{true, cond};
 ghost use Prim.Native.Nat.{_+_, _-_, _*_, _≤_, _<_};
@@ -8,16 +26,6 @@ ghost use Rattle.model.specs.Lists.{anyOf};
 ghost use Rattle.model.specs.Tables.{bodyLength, ceiling, isStranger, sameBytes, isTwin, refusal};
 ghost use Rattle.table.specs.Places.{bodyAt, bodiesAt, countsAt, itemsBefore, Modest, advanced, Whole, Passed};
 ghost use Rattle.table.specs.Reading.{outOfTurn, bodyRefusal};
-use crate::checks::is_reentry;
-use crate::checks::is_stray;
-use crate::checks::value_fits;
-use numbers::eight_at;
-use numbers::wide;
-use table::Cursor;
-use table::RULE_BODY;
-use table::Table;
-use table::body_at;
-use table::ceiling_of;
 
 // ---- kinds
 // How many bytes follow the kind.
@@ -141,16 +149,16 @@ pub fn check_body(bytes: &[u8], c: Cursor, kind: u8, body: &[u8]) -> u8
 {
     let t = c.table;
     if value_fits(bytes, t, kind, body) {} else {
-        return 5;
+        return VALUE;
     }
     if is_stray(bytes, t, kind, body) {
-        return 6;
+        return STRAY;
     }
     if is_reentry(bytes, t, kind, body) {
-        return 7;
+        return REENTRY;
     }
     if is_twin(bytes, c, kind) {
-        return 8;
+        return TWIN;
     }
     0
 }
@@ -161,15 +169,15 @@ pub fn early_refusal(c: Cursor, kind: u8, left: usize) -> u8
     ensures { λ r. ⌜ r ≡ cond (outOfTurn c kind) 3 (cond (leb (ceiling kind) (countsAt c kind)) 4 (cond (leb left (bodyLength kind)) 1 0)) ⌝ }
 {
     if is_out_of_turn(c, kind) {
-        return 3;
+        return TURN;
     }
     let crowd = ceiling_of(kind) <= count_of(c, kind);
     if crowd {
-        return 4;
+        return CROWD;
     }
     let cut = left <= body_length(kind);
     if cut {
-        return 1;
+        return CUT;
     }
     0
 }
@@ -181,7 +189,7 @@ pub fn check_item(bytes: &[u8], c: Cursor, kind: u8) -> u8
 {
     let at = c.at;
     if is_stranger(kind) {
-        return 2;
+        return STRANGER;
     }
     let number = early_refusal(c, kind, bytes.len() - at);
     if number != 0 {

@@ -1,19 +1,20 @@
 // Reading a table: document 01, "Table bytes" and refusals 1 to 9, item by item in their order.
-ghost use mathlib.Core.Path.{_≡_};
-ghost use Rattle.model.specs.Tables as Tables;
-ghost use Rattle.table.specs.Places.{Passed};
-ghost use Rattle.table.specs.Reading.{parsed, Stepped};
-
 mod checks;
 mod items;
 
 use crate::items::advance;
 use crate::items::body_length;
 use crate::items::check_item;
+use model::CUT;
+use model::LEFTOVER;
 use table::Cursor;
 use table::Parsed;
 use table::Step;
 use table::Table;
+ghost use mathlib.Core.Path.{_≡_};
+ghost use Rattle.model.specs.Tables as Tables;
+ghost use Rattle.table.specs.Places.{Passed};
+ghost use Rattle.table.specs.Reading.{parsed, Stepped};
 
 // The item at the cursor: what comes behind it, or the end of the reading.
 fn next_item(bytes: &[u8], c: Cursor) -> Step
@@ -23,7 +24,7 @@ fn next_item(bytes: &[u8], c: Cursor) -> Step
     let at = c.at;
     if bytes.len() <= at {
         return Step::Done(Parsed::Refused {
-            number: 1,
+            number: CUT,
             place: at,
         });
     }
@@ -38,7 +39,7 @@ fn next_item(bytes: &[u8], c: Cursor) -> Step
     }
     if at + 1 < bytes.len() {
         return Step::Done(Parsed::Refused {
-            number: 9,
+            number: LEFTOVER,
             place: at + 1,
         });
     }

@@ -13,7 +13,7 @@ use Rattle.model.proofs.RecordBytes.{length-path, length-log, log-around, numbe
 use Rattle.numbers.specs.NumberBytes.{withNumber}
 use Rattle.records.specs.declared.Entry.{Entry}
 use Rattle.records.specs.Entries.{padded, pathPlace, recordEntry, entryBytes, HasRecord, withEntry, Fits, Reads}
-use Rattle.records.proofs.Parts.{Front, front-number, part-back, part-rest}
+use Rattle.buffers.proofs.Parts.{Front, front-number, part-back, part-rest}
 
 -- ---- the bytes of an entry are those of its record
 path-padded : (k : ℕ) (ns : List ℕ) → pathBytes k (padded k ns) ≡ pathBytes k ns

@@ -35,7 +35,8 @@ recordEntry r = record {
 unfoldable pub entryBytes : Entry → List ℕ
 entryBytes e =
     e .letter ∷ groupBytes (e .before) ++ groupBytes (e .after)
-    ++ littleEndian 2 (e .round) ++ littleEndian 2 (e .rule) ++ pathBytes writtenPlaces (e .path) ++ littleEndian 3 (e .steps)
+    ++ littleEndian 2 (e .round) ++ littleEndian 2 (e .rule) ++ pathBytes writtenPlaces (e .path)
+    ++ littleEndian 3 (e .steps)
 
 -- the log has room for a record n
 abbrev pub HasRecord : List ℕ → ℕ → Type 0

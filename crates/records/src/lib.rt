@@ -1,5 +1,7 @@
 // The records of the log: one writer, which gets the log from its record's offset on, and a reader of each field by the record's number.
+use buffers::clear;
 use model::Group;
+use model::LONGEST_RUN;
 use model::WRITTEN_PLACES;
 use numbers::group_at;
 use numbers::put_three;
@@ -8,8 +10,8 @@ use numbers::three_at;
 use numbers::two_at;
 ghost use mathlib.Core.Path.{_≡_};
 ghost use mathlib.Core.List.{_∷_, _++_};
-ghost use Prim.Native.Nat.{_+_, _*_, _<_, _≤_};
-ghost use lib.ListN.{length, drop};
+ghost use Prim.Native.Nat.{_+_, _*_, _-_, _<_, _≤_};
+ghost use lib.ListN.{length, drop, replicate, take};
 ghost use Rattle.model.specs.Tables.{writtenPlaces};
 ghost use Rattle.model.specs.Records.{recordLength, groupBytes, pathBytes, letterAt, afterAt, roundAt, ruleAt, placeAt, stepsAt};
 ghost use Rattle.records.specs.Entries.{entryBytes, HasRecord, withEntry};
@@ -33,7 +35,7 @@ pub const RECORD_LENGTH: usize = STEPS + 3;
 pub const NO_NUMBER: u16 = 65535;
 
 // The steps of a record are counted to this.
-pub const STEPS_CAP: u32 = 1000001;
+pub const STEPS_CAP: u32 = LONGEST_RUN + 1;
 
 // A record of the log. The steps fit three bytes.
 pub struct Entry {
@@ -137,4 +139,14 @@ pub fn steps_at(log: &[u8], n: usize) -> u32
     ensures { λ r. ⌜ r ≡ stepsAt (now (log .entry)) n ⌝ }
 {
     three_at(log, n * RECORD_LENGTH + STEPS)
+}
+
+// ---- behind the records
+// Zeros behind the first `count` records of the log.
+pub fn clear_behind(log: &mut [u8], count: usize)
+    requires { ⌜ count * recordLength ≤ length (now log) ⌝ }
+    ensures { λ _. ⌜ now (log .exit) ≡ take (count * recordLength) (now (log .entry)) ++ replicate (length (now (log .entry)) - count * recordLength) 0 ⌝ }
+{
+    let at = count * RECORD_LENGTH;
+    clear(&mut log[at..]);
 }

@@ -9,7 +9,7 @@ use lib.Dec.{eqb}
 use lib.ListN.{getD}
 use Rattle.model.specs.Records.{letterAt}
 use Rattle.numbers.proofs.NumberBytes.{number-same}
-use Rattle.automaton.proofs.StateSets.{first-at, first-is}
+use Rattle.states.proofs.StateSets.{first-at, first-is}
 use Rattle.packs.specs.Packs.{packedBefore}
 use Rattle.rings.specs.Rings.{recordBucket, inBucket, linkPlace, linkAt, NoneIn, NoTail, Greatest, Ahead, Around, Ringed, Freshened}
 

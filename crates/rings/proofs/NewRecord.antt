@@ -8,8 +8,8 @@ use native.Mathlib.Decide.{ℕ-discrete, decLt}
 use native.Mathlib.Omega.{arith}
 use lib.ListN.{length}
 use Rattle.numbers.proofs.NumberBytes.{length-number}
-use Rattle.automaton.specs.StateSets.{firstFrom}
-use Rattle.automaton.proofs.StateSets.{first-of, first-is}
+use Rattle.states.specs.StateSets.{firstFrom}
+use Rattle.states.proofs.StateSets.{first-of, first-is}
 use Rattle.rings.specs.Rings.{recordBucket, inBucket, noLink, linkPlace, linkAt, NoneIn, NoTail, Greatest, Ahead, Around, Ringed, Freshened, OutsideSame, withLink, started, lengthened}
 use Rattle.rings.proofs.Links.{in-other, in-own, in-true, link-other, link-same, outside-join, outside-link}
 

@@ -8,8 +8,8 @@ use native.Mathlib.Decide.{ℕ-discrete, decLt}
 use native.Mathlib.Omega.{arith}
 use borrow.Author.Tests.{eq-eqb}
 use Rattle.model.proofs.Tests.{by-test}
-use Rattle.automaton.specs.StateSets.{firstFrom}
-use Rattle.automaton.proofs.StateSets.{first-at, first-of, first-is}
+use Rattle.states.specs.StateSets.{firstFrom}
+use Rattle.states.proofs.StateSets.{first-at, first-of, first-is}
 use Rattle.rings.specs.Rings.{bucketOf, recordBucket, inBucket, recordReads, noLink, linkAt, NoneIn, Greatest, Ahead, Around, Ringed, Freshened}
 use Rattle.rings.proofs.Links.{in-true, reads-bucket}
 

@@ -1,6 +1,6 @@
--- Rings of the log's records in scratch, appended round by round. Link h is the tail of bucket h, its greatest record, for each h below the number n
--- of buckets; link n + r is the record after r in r's bucket, and behind the greatest the least; link 2 n + h is the first record of bucket h from
--- a record lo on.
+-- Rings of the log's records in scratch, appended round by round. Link h is the tail of bucket h, its greatest record,
+-- for each h below the number n of buckets; link n + r is the record after r in r's bucket, and behind the greatest the
+-- least; link 2 n + h is the first record of bucket h from a record lo on.
 use mathlib.Core.Path.{_≡_}
 use mathlib.Core.Bool.{Bool, true, false, cond, _&&_}
 use mathlib.Core.Logic.{_⊎_}
@@ -10,7 +10,7 @@ use lib.Dec.{eqb, ltb}
 use lib.ListN.{length, getD}
 use Rattle.model.specs.Records.{recordLength, letterAt, numberAt}
 use Rattle.numbers.specs.NumberBytes.{withNumber}
-use Rattle.automaton.specs.StateSets.{firstFrom}
+use Rattle.states.specs.StateSets.{firstFrom}
 use Rattle.packs.specs.Packs.{packedBefore}
 
 -- ---- buckets
@@ -96,13 +96,17 @@ pub record Around (test : ℕ → Bool) (base r w : ℕ) : Type 0 where
 
 -- the records below base are in their rings
 pub record Ringed (log : List ℕ) (base n at : ℕ) (s : List ℕ) : Type 0 where
-  pub tail : (h : ℕ) → h < n → NoTail (inBucket log n h) base (linkAt s at h) ⊎ Greatest (inBucket log n h) base (linkAt s at h)
+  pub tail : (h : ℕ) → h < n
+      → NoTail (inBucket log n h) base (linkAt s at h) ⊎ Greatest (inBucket log n h) base (linkAt s at h)
   pub next : (r : ℕ) → r < base
-      → Ahead (inBucket log n (recordBucket log n r)) base r (linkAt s at (n + r)) ⊎ Around (inBucket log n (recordBucket log n r)) base r (linkAt s at (n + r))
+      → Ahead (inBucket log n (recordBucket log n r)) base r (linkAt s at (n + r))
+      ⊎ Around (inBucket log n (recordBucket log n r)) base r (linkAt s at (n + r))
 
 -- the first record from lo on is known of each bucket that has one
 abbrev pub Freshened : List ℕ → ℕ → ℕ → ℕ → ℕ → List ℕ → Type 0
-Freshened log lo base n at s = (h : ℕ) → h < n → lo ≤ linkAt s at h → linkAt s at h < base → linkAt s at (2 * n + h) ≡ firstFrom (inBucket log n h) lo (base - lo)
+Freshened log lo base n at s =
+    (h : ℕ) → h < n → lo ≤ linkAt s at h → linkAt s at h < base
+    → linkAt s at (2 * n + h) ≡ firstFrom (inBucket log n h) lo (base - lo)
 
 -- ---- one record more
 -- link k is x
@@ -121,4 +125,5 @@ unfoldable pub appended : List ℕ → ℕ → ℕ → ℕ → List ℕ → ℕ 
 appended log n at lo s r =
     let h = recordBucket log n r in
     let t = linkAt s at h in
-    cond (eqb t noLink) (started n at s h r) (cond (ltb t lo) (lengthened n at (withLink s at (2 * n + h) r) h t r) (lengthened n at s h t r))
+    cond (eqb t noLink) (started n at s h r)
+    (cond (ltb t lo) (lengthened n at (withLink s at (2 * n + h) r) h t r) (lengthened n at s h t r))

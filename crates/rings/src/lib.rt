@@ -11,7 +11,7 @@ ghost use mathlib.Core.Path.{_≡_};
 ghost use mathlib.Core.Bool.{true};
 ghost use Prim.Native.Nat.{_+_, _-_, _*_, _<_, _≤_};
 ghost use lib.ListN.{length};
-ghost use Rattle.automaton.specs.StateSets.{firstFrom};
+ghost use Rattle.states.specs.StateSets.{firstFrom};
 ghost use Rattle.records.specs.Entries.{HasRecord};
 ghost use Rattle.rings.specs.Rings.{scaledTo, bucketOf, recordBucket, recordReads, noLink, linkPlace, linkAt, OutsideSame, Unlinked, RingRoom, Ringed, Freshened, withLink, started, lengthened, appended};
 

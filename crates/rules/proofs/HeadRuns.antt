@@ -11,7 +11,7 @@ use Rattle.model.specs.Groups.{Processes}
 use Rattle.model.specs.Log.{Candidate, Record, candidate, paths}
 use Rattle.model.specs.Systems.{Rule}
 use Rattle.model.specs.Tables.{ruleOf}
-use Rattle.model.specs.Searches.{candidatesOf}
+use Rattle.searches.specs.Searches.{candidatesOf}
 use Rattle.model.proofs.Tests.{by-test}
 use Rattle.table.specs.declared.Table.{Table}
 use Rattle.table.specs.Reading.{Holds, ruleIn, systemIn}

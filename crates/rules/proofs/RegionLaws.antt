@@ -14,9 +14,10 @@ use lib.ListN.{drop, getD, length, length-drop, length-set, set}
 use lib.Seq.{drop-set-add, getD-drop, getD-set-other, getD-set-same}
 use borrow.Author.Tests.{eq-eqb, eqb-false, eqb-true, le-ltb, lt-ltb, ne-eqb}
 use Rattle.model.proofs.Tests.{by-test}
-use Rattle.automaton.specs.StateSets.{Cleared, inserted, member}
-use Rattle.automaton.proofs.StateSets.{member-byte, member-inserted}
-use Rattle.rules.specs.Regions.{BytesWritten, KeptOutside, SetAdded, inSet, positionCeiling, positionBytes, withPosition}
+use Rattle.buffers.specs.Buffers.{Cleared}
+use Rattle.states.specs.StateSets.{inserted, member}
+use Rattle.states.proofs.StateSets.{member-byte, member-inserted}
+use Rattle.rules.specs.Regions.{BytesWritten, KeptOutside, SetAdded, hasPosition, positionCeiling, positionBytes, withPosition}
 
 -- ---- regions
 pub kept-none : {at n : ℕ} {s : List ℕ} → KeptOutside at n s s
@@ -58,21 +59,21 @@ pub bytes-all : {at : ℕ} {byte : ℕ → ℕ} {i n : ℕ} {s t : List ℕ} →
 bytes-all {at} {byte} {i} {n} {s} {t} a b w = let e : i ≡ n = omega arith in subst (λ (m : ℕ). BytesWritten at byte m s t) e w
 
 -- ---- sets
-pub in-byte : (s : List ℕ) (at p : ℕ) → inSet s at p ≡ eqb (getD s (at + p / 8) 0 / 2 ^ (p % 8) % 2) 1
-unfolding inSet member
+pub in-byte : (s : List ℕ) (at p : ℕ) → hasPosition s at p ≡ eqb (getD s (at + p / 8) 0 / 2 ^ (p % 8) % 2) 1
+unfolding hasPosition member
 in-byte s at p = ap (λ (x : ℕ). eqb (x / 2 ^ (p % 8) % 2) 1) (getD-drop at s (p / 8) 0)
 
 -- a set whose bytes are the same has the same positions
-pub in-same : (s t : List ℕ) (at p : ℕ) → getD t (at + p / 8) 0 ≡ getD s (at + p / 8) 0 → inSet t at p ≡ inSet s at p
+pub in-same : (s t : List ℕ) (at p : ℕ) → getD t (at + p / 8) 0 ≡ getD s (at + p / 8) 0 → hasPosition t at p ≡ hasPosition s at p
 in-same s t at p e = in-byte t at p ∙ ap (λ (x : ℕ). eqb (x / 2 ^ (p % 8) % 2) 1) e ∙ sym (in-byte s at p)
 
 -- as one that lies outside of the bytes that changed
-pub in-kept : (at n : ℕ) (s t : List ℕ) (set p : ℕ) → KeptOutside at n s t → (set + positionBytes ≤ at) ⊎ (at + n ≤ set) → p < positionCeiling → inSet t set p ≡ inSet s set p
+pub in-kept : (at n : ℕ) (s t : List ℕ) (set p : ℕ) → KeptOutside at n s t → (set + positionBytes ≤ at) ⊎ (at + n ≤ set) → p < positionCeiling → hasPosition t set p ≡ hasPosition s set p
 in-kept at n s t set p k d l = in-same s t set p (k .outside (set + p / 8) (⊎-elim (λ h. inl (omega arith)) (λ h. inr (omega arith)) d))
 
 -- a cleared set has none
-pub in-cleared : (s : List ℕ) (at p : ℕ) → getD s (at + p / 8) 0 ≡ 0 → inSet s at p ≡ false
-unfolding inSet
+pub in-cleared : (s : List ℕ) (at p : ℕ) → getD s (at + p / 8) 0 ≡ 0 → hasPosition s at p ≡ false
+unfolding hasPosition
 in-cleared s at p e = member-byte (drop at s) p (getD-drop at s (p / 8) 0 ∙ e)
 
 -- ---- a position more
@@ -89,8 +90,8 @@ pub kept-put : (s : List ℕ) (at p : ℕ) → p < positionCeiling → KeptOutsi
 unfolding withPosition
 kept-put s at p l = kept-set at positionBytes (at + p / 8) (bitOr (getD s (at + p / 8) 0) (2 ^ (p % 8))) s (omega arith) (omega arith)
 
-pub in-put : (s : List ℕ) (at p q : ℕ) → at + positionBytes ≤ length s → p < positionCeiling → inSet (withPosition s at p) at q ≡ eqb q p || inSet s at q
-unfolding inSet withPosition inserted
+pub in-put : (s : List ℕ) (at p q : ℕ) → at + positionBytes ≤ length s → p < positionCeiling → hasPosition (withPosition s at p) at q ≡ eqb q p || hasPosition s at q
+unfolding hasPosition withPosition inserted
 in-put s at p q room l =
     let v = bitOr (getD s (at + p / 8) 0) (2 ^ (p % 8)) in
     let is : drop at (set s (at + p / 8) v) ≡ inserted (drop at s) p =

@@ -6,7 +6,7 @@ use mathlib.Core.List.{List}
 use Prim.Native.Nat.{ℕ, _+_, _/_, _%_, _^_, _<_, _≤_}
 use lib.Bits.{bitOr}
 use lib.ListN.{drop, getD, length, set}
-use Rattle.automaton.specs.StateSets.{member}
+use Rattle.states.specs.StateSets.{member}
 
 -- byte i is none of the n bytes from `at` on
 abbrev pub Outside : ℕ → ℕ → ℕ → Type 0
@@ -31,8 +31,8 @@ abbrev pub positionCeiling : ℕ
 positionCeiling = 256
 
 -- position p is in the set that begins at a byte
-unfoldable pub inSet : List ℕ → ℕ → ℕ → Bool
-inSet s at p = member (drop at s) p
+unfoldable pub hasPosition : List ℕ → ℕ → ℕ → Bool
+hasPosition s at p = member (drop at s) p
 
 -- the bytes with p in that set
 unfoldable pub withPosition : List ℕ → ℕ → ℕ → List ℕ
@@ -41,4 +41,4 @@ withPosition s at p = set s (at + p / 8) (bitOr (getD s (at + p / 8) 0) (2 ^ (p 
 -- the set at `to` has got the positions of that at `from`
 pub record SetAdded (from to : ℕ) (s t : List ℕ) : Type 0 where
   pub kept : KeptOutside to positionBytes s t
-  pub positions : (p : ℕ) → p < positionCeiling → inSet t to p ≡ inSet s to p || inSet s from p
+  pub positions : (p : ℕ) → p < positionCeiling → hasPosition t to p ≡ hasPosition s to p || hasPosition s from p

@@ -1,9 +1,9 @@
 // Sets of positions in lent bytes, 32 bytes each, eight positions to a byte.
-use automaton::sets::clear_part;
+use buffers::clear_part;
 ghost use mathlib.Core.Path.{_≡_};
 ghost use Prim.Native.Nat.{_+_, _<_, _≤_};
 ghost use lib.ListN.{length};
-ghost use Rattle.rules.specs.Regions.{BytesWritten, SetAdded, inSet, positionCeiling, positionBytes, withPosition};
+ghost use Rattle.rules.specs.Regions.{BytesWritten, SetAdded, hasPosition, positionCeiling, positionBytes, withPosition};
 
 // The bytes of a set of positions, and how many it may have.
 pub const POSITION_BYTES: usize = 32;
@@ -13,7 +13,7 @@ pub const POSITIONS: usize = 8 * POSITION_BYTES;
 // Position p is in the set at `at`.
 pub fn contains(s: &[u8], at: usize, p: usize) -> bool
     requires { ⌜ (p < positionCeiling) × (at + positionBytes ≤ length (now s)) ⌝ }
-    ensures { λ r. ⌜ r ≡ inSet (now (s .entry)) at p ⌝ }
+    ensures { λ r. ⌜ r ≡ hasPosition (now (s .entry)) at p ⌝ }
 {
     (s[at + p / 8] >> (p % 8)) % 2 == 1
 }

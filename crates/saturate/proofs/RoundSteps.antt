@@ -14,17 +14,17 @@ use Rattle.model.specs.Log.{Candidate, Path, Record, addedRecord, additions, in
 use Rattle.model.specs.Records.{letterAt, logBytes, recordLength}
 use Rattle.model.specs.Saturation.{added}
 use Rattle.model.specs.Systems.{Rule, System}
-use Rattle.model.specs.Searches.{ruleHead}
+use Rattle.searches.specs.Searches.{ruleHead}
 use Rattle.model.proofs.Collecting.{logAt-suc}
-use Rattle.model.proofs.FreshPaths.{last-round}
+use Rattle.searches.proofs.FreshPaths.{last-round}
 use Rattle.model.proofs.Lists.{any-of, any-true, each-any, each-map, map-append}
 use Rattle.model.proofs.Order.{lex-irrefl, lex-total, sameDigits}
 use Rattle.model.proofs.RecordBytes.{log-append}
-use Rattle.model.proofs.RoundHeads.{last-head, next-head, no-head, upTo}
-use Rattle.model.proofs.Skipping.{freshIn}
+use Rattle.searches.proofs.RoundHeads.{last-head, next-head, no-head, upTo}
+use Rattle.searches.proofs.Skipping.{freshIn}
 use Rattle.model.proofs.Tests.{and-both, and-left, and-right, by-test, or-right}
-use Rattle.automaton.specs.StateSets.{firstFrom}
-use Rattle.automaton.proofs.StateSets.{first-at}
+use Rattle.states.specs.StateSets.{firstFrom}
+use Rattle.states.proofs.StateSets.{first-at}
 use Rattle.scratch.specs.Regions.{activeAt, keysAt, ringsAt}
 use Rattle.rings.specs.Rings.{Ringed}
 use Rattle.keys.specs.Keys.{Indexed}
@@ -33,10 +33,10 @@ use Rattle.table.specs.Reading.{Holds, ruleIn, saturatedIn, systemIn}
 use Rattle.table.proofs.Layouts.{table-modest}
 use Rattle.logs.proofs.Logs.{skip-stale}
 use Rattle.logs.proofs.Rules.{each-by-elem, rule-number}
-use Rattle.rules.specs.Regions.{inSet, positionCeiling}
+use Rattle.rules.specs.Regions.{hasPosition, positionCeiling}
 use Rattle.rules.specs.Rules.{Ordered, hasLetter, orderedRule}
 use Rattle.rules.proofs.RuleOrder.{heads-rise, same-between}
-use Rattle.heads.specs.declared.Reached.{Reached}
+use Rattle.heads.specs.declared.Progress.{Progress}
 use Rattle.heads.specs.declared.Round.{Round}
 use Rattle.heads.specs.Heads.{HeadAdded, Leading, NextHead, beforeOf, letterOf}
 use Rattle.heads.specs.Rounds.{InRound, Prepared, earlierLog, headAdditions, headAt, isActive}
@@ -107,15 +107,15 @@ module _ {table : List ℕ} {t : Table} {round : Round} {log s : List ℕ} (stan
 -- ---- positions and heads
 -- the heads up to `last` are those of the active positions before this one
 pub record HeadsPassed (table : List ℕ) (t : Table) (last : List ℕ) (position : ℕ) (s : List ℕ) : Type 0 where
-  pub active : position < t .rules → inSet s activeAt position ≡ true
-  pub before : (p : ℕ) → p < position → p < t .rules → inSet s activeAt p ≡ true → lexLess last (headAt table s p) ≡ false
-  pub behind : (p : ℕ) → position ≤ p → p < t .rules → inSet s activeAt p ≡ true → lexLess last (headAt table s p) ≡ true
+  pub active : position < t .rules → hasPosition s activeAt position ≡ true
+  pub before : (p : ℕ) → p < position → p < t .rules → hasPosition s activeAt p ≡ true → lexLess last (headAt table s p) ≡ false
+  pub behind : (p : ℕ) → position ≤ p → p < t .rules → hasPosition s activeAt p ≡ true → lexLess last (headAt table s p) ≡ true
 
 -- before the first active position
-passed-none : (table : List ℕ) (t : Table) → Holds table t → (s : List ℕ) (position : ℕ) → position ≡ firstFrom (inSet s activeAt) 0 (positionCeiling - 0)
+passed-none : (table : List ℕ) (t : Table) → Holds table t → (s : List ℕ) (position : ℕ) → position ≡ firstFrom (hasPosition s activeAt) 0 (positionCeiling - 0)
     → HeadsPassed table t [] position s
 passed-none table t holds s position e =
-    let f = first-at (inSet s activeAt) 0 (positionCeiling - 0) position e in
+    let f = first-at (hasPosition s activeAt) 0 (positionCeiling - 0) position e in
     record {
       active = λ l. f .passes (omega (arith, table-modest table t holds .rules));
       before = λ p l b y. absurd (true≢false (sym y ∙ f .fails p (omega arith) l));
@@ -131,7 +131,7 @@ passed-kept table t holds last position s s′ keeps h = record {
   behind = λ p a b y. ap (lexLess last) (head p b) ∙ h .behind p a b (sym (same p b) ∙ y);
 }
   where
-    same : (p : ℕ) → p < t .rules → inSet s′ activeAt p ≡ inSet s activeAt p
+    same : (p : ℕ) → p < t .rules → hasPosition s′ activeAt p ≡ hasPosition s activeAt p
     same p l = active-kept table t holds s s′ keeps p (omega (arith, table-modest table t holds .rules))
 
     head : (p : ℕ) → p < t .rules → headAt table s′ p ≡ headAt table s p
@@ -211,7 +211,7 @@ pub record HeadsDone (table : List ℕ) (t : Table) (round : Round) (log₀ s₀
 
 module _ {table : List ℕ} {t : Table} {round : Round} {log s : List ℕ} (stands : InRound table t round log s) where
   -- a rule that the round looks at stands at an active position
-  rules-at : (P : Rule → Type 0) → ((p : ℕ) → p < t .rules → inSet s activeAt p ≡ true → P (ruleIn table (orderedRule s p)))
+  rules-at : (P : Rule → Type 0) → ((p : ℕ) → p < t .rules → hasPosition s activeAt p ≡ true → P (ruleIn table (orderedRule s p)))
       → Each (λ (r : Rule). isActive round r ≡ true → P r) (systemIn table .rules)
   rules-at P f = each-by-elem (λ (r : Rule). isActive round r ≡ true → P r) (systemIn table .rules) (λ k r e.
       let is = rule-number table t (stands .holds) k r e in
@@ -220,7 +220,7 @@ module _ {table : List ℕ} {t : Table} {round : Round} {log s : List ℕ} (stan
       λ y. subst P rule (f (x .0) (x .1) (stands .active (x .0) (omega (arith, x .1, table-modest table t (stands .holds) .rules))
       ∙ and-both (ltb (x .0) (t .rules)) (isActive round (ruleIn table (orderedRule s (x .0)))) (lt-ltb (x .0) (t .rules) (x .1)) (ap (isActive round) rule ∙ y))))
 
-  pub heads-start : {position : ℕ} (s₁ : List ℕ) → Keeps s₁ s → position ≡ firstFrom (inSet s₁ activeAt) 0 (positionCeiling - 0) → HeadsAdded table t round log s position (round .base) log s
+  pub heads-start : {position : ℕ} (s₁ : List ℕ) → Keeps s₁ s → position ≡ firstFrom (hasPosition s₁ activeAt) 0 (positionCeiling - 0) → HeadsAdded table t round log s position (round .base) log s
   heads-start {position} s₁ keeps e =
       let log-is = R table (round .number) in
       let none = ap (logWith table (round .number)) (no-head (saturatedIn table) log-is (isActive round) (passed-over stands)) ∙ append-nil log-is in
@@ -272,7 +272,7 @@ module _ {table : List ℕ} {t : Table} {round : Round} {log₀ s₀ : List ℕ}
     pub below : position < t .rules
     below = ltb-true position (t .rules) (and-right (leb count (round .n)) (ltb position (t .rules)) (sym is ∙ goes))
 
-    pub head-active : inSet s activeAt position ≡ true
+    pub head-active : hasPosition s activeAt position ≡ true
     head-active = h .passed .active below
 
     -- it is the first position of its head
@@ -298,7 +298,7 @@ module _ {table : List ℕ} {t : Table} {round : Round} {log₀ s₀ : List ℕ}
     grown = ap (λ (ds : List Candidate). length (logWith table (round .number) ds)) head-news
         ∙ omega (arith, with-length table (round .number) (olds ++ news), length-append olds news, with-length table (round .number) olds, h .logged fits .size)
 
-    module _ {r : Reached} {log′ s′ : List ℕ} (d : HeadAdded table t round position count log s r log′ s′) where
+    module _ {r : Progress} {log′ s′ : List ℕ} (d : HeadAdded table t round position count log s r log′ s′) where
       -- there is room for the head's records
       logged-next : r .count ≤ round .n → Logged (logUpTo table (round .number) (headAt table s position)) (r .count) log′
       logged-next l =

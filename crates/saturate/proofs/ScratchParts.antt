@@ -18,8 +18,9 @@ use Rattle.model.specs.Systems.{System}
 use Rattle.model.proofs.Lists.{each-get, getD-mem}
 use Rattle.model.proofs.RecordBytes.{from-letter, length-log, record-from}
 use Rattle.model.proofs.Tests.{by-test}
-use Rattle.automaton.specs.StateSets.{Cleared, firstFrom, setLength}
-use Rattle.automaton.proofs.StateSets.{first-at}
+use Rattle.buffers.specs.Buffers.{Cleared}
+use Rattle.states.specs.StateSets.{firstFrom, setLength}
+use Rattle.states.proofs.StateSets.{first-at}
 use Rattle.scratch.specs.Regions.{activeAt, keysAt, orderAt, passedAt, ringsAt, writersAt}
 use Rattle.rings.specs.Rings.{Freshened, OutsideSame, Ringed}
 use Rattle.rings.proofs.Keeping.{freshened-scratch, ringed-scratch}
@@ -30,7 +31,7 @@ use Rattle.table.specs.declared.Table.{Table}
 use Rattle.table.specs.Reading.{Holds, ruleIn, saturatedIn}
 use Rattle.table.proofs.Layouts.{table-modest}
 use Rattle.logs.proofs.Logs.{Keyed, log-over}
-use Rattle.rules.specs.Regions.{inSet, positionCeiling}
+use Rattle.rules.specs.Regions.{hasPosition, positionCeiling}
 use Rattle.rules.specs.Rules.{RulesOrdered, Writers, WritersMarked, hasLetter, letterCeiling, orderedRule, writersOf, writesLetter}
 use Rattle.rules.proofs.ActivePositions.{gathered-active}
 use Rattle.rules.proofs.RegionLaws.{bit-or, in-same}
@@ -155,7 +156,7 @@ module _ {table : List ℕ} {t : Table} {lo base n k : ℕ} {log s : List ℕ} {
   prepared-rings : Prepared table t s₁
   prepared-rings = prepared-kept table t (b .holds) s s₁ (λ i p q. o .before i (omega arith)) (λ i p q. o .before i (omega arith)) (b .prepared)
 
-  looked-at : (p : ℕ) → p < positionCeiling → inSet s₂ activeAt p ≡ (ltb p (t .rules) && isActive round (ruleIn table (orderedRule s₂ p)))
+  looked-at : (p : ℕ) → p < positionCeiling → hasPosition s₂ activeAt p ≡ (ltb p (t .rules) && isActive round (ruleIn table (orderedRule s₂ p)))
   unfolding isActive
   looked-at p l = elim (ℕ-discrete (k + 1) 1) [
     | yes e ↦ a .first e .positions p l ∙ rw (eq-eqb (k + 1) 1 e) (by-test (ltb p (t .rules)) (λ y. rw y) (λ f. rw f))
@@ -179,7 +180,7 @@ module _ {table : List ℕ} {t : Table} {lo base n k : ℕ} {log s : List ℕ} {
     indexed-scratch log lo n (keysAt n) s s₂ (omega (arith, b .low, b .fits)) (λ i p q. a .kept .outside i (inr (omega arith)) ∙ o .behind i (omega arith)) (b .indexed),
   )
 
-  module _ {position : ℕ} {s₃ : List ℕ} (first : position ≡ firstFrom (inSet s₂ activeAt) 0 (positionCeiling - 0)) (x : KeysIndexed t base n position log s₂ s₃) where
+  module _ {position : ℕ} {s₃ : List ℕ} (first : position ≡ firstFrom (hasPosition s₂ activeAt) 0 (positionCeiling - 0)) (x : KeysIndexed t base n position log s₂ s₃) where
     pub keys-keep : Keeps s₂ s₃
     keys-keep i p q = x .outside .before i (omega arith)
 
@@ -187,12 +188,12 @@ module _ {table : List ℕ} {t : Table} {lo base n k : ℕ} {log s : List ℕ} {
     links-kept i p q = x .outside .before i q ∙ a .kept .outside i (inr (omega arith))
 
     -- a position that is active is not before the first one
-    indexed-at : (p : ℕ) → p < t .rules → inSet s₃ activeAt p ≡ true → Indexed log base n (keysAt n) s₃
+    indexed-at : (p : ℕ) → p < t .rules → hasPosition s₃ activeAt p ≡ true → Indexed log base n (keysAt n) s₃
     indexed-at p l y =
         let few = table-modest table t (b .holds) .rules in
-        let lit : inSet s₂ activeAt p ≡ true = sym (active-kept table t (b .holds) s₂ s₃ keys-keep p (omega arith)) ∙ y in
+        let lit : hasPosition s₂ activeAt p ≡ true = sym (active-kept table t (b .holds) s₂ s₃ keys-keep p (omega arith)) ∙ y in
         elim (decLt p position) [
-          | yes e ↦ absurd (true≢false (sym lit ∙ first-at (inSet s₂ activeAt) 0 (positionCeiling - 0) position first .fails p (omega arith) e))
+          | yes e ↦ absurd (true≢false (sym lit ∙ first-at (hasPosition s₂ activeAt) 0 (positionCeiling - 0) position first .fails p (omega arith) e))
           | no e ↦ x .indexed (omega arith)
         ]
 

@@ -37,7 +37,8 @@ pub record LetterIn (letters a letters′ : ℕ) : Type 0 where
 
 -- the letters of the records from lo on and below base are among these
 abbrev pub FreshLetters : List ℕ → ℕ → ℕ → ℕ → Type 0
-FreshLetters log lo base letters = (i : ℕ) → lo ≤ i → i < base → hasLetter letters (letterAt log i % letterCeiling) ≡ true
+FreshLetters log lo base letters =
+    (i : ℕ) → lo ≤ i → i < base → hasLetter letters (letterAt log i % letterCeiling) ≡ true
 
 -- the positions that the round looks at are active
 pub record Activated (t : Table) (number fresh : ℕ) (s s′ : List ℕ) : Type 0 where
@@ -51,8 +52,8 @@ pub record KeysIndexed (t : Table) (base n position : ℕ) (log s s′ : List �
   pub indexed : position < t .rules → Indexed log base n (keysAt n) s′
 
 -- ---- rounds
--- Round k + 1 may begin: the log holds the rounds up to k, the records below lo are in rings and indexed, and there is room for n records, as many as the
--- log can hold, and their links.
+-- Round k + 1 may begin: the log holds the rounds up to k, the records below lo are in rings and indexed, and there is
+-- room for n records, as many as the log can hold, and their links.
 pub record RoundBegins (table : List ℕ) (t : Table) (lo base n k : ℕ) (log s : List ℕ) : Type 0 where
   pub holds : Holds table t
   pub handed : HoldsRounds (saturatedIn table) k log
@@ -69,10 +70,11 @@ pub record RoundBegins (table : List ℕ) (t : Table) (lo base n k : ℕ) (log s
   pub indexed : Indexed log lo n (keysAt n) s
   pub prepared : Prepared table t s
 
--- the earlier records are in rings and, where the round adds some and the log can hold them, indexed, and the rules in order; what the rest of the scratch
--- holds is not decided
+-- the earlier records are in rings and, where the round adds some and the log can hold them, indexed, and the rules in
+-- order; what the rest of the scratch holds is not decided
 pub record RoundScratch (table : List ℕ) (t : Table) (base n k : ℕ) (log s s′ : List ℕ) : Type 0 where
   pub ringed : Ringed log base n ringsAt s′
-  pub indexed : base < length (logAt (saturatedIn table) (k + 1)) → length (logAt (saturatedIn table) (k + 1)) ≤ n → Indexed log base n (keysAt n) s′
+  pub indexed : base < length (logAt (saturatedIn table) (k + 1)) → length (logAt (saturatedIn table) (k + 1)) ≤ n
+      → Indexed log base n (keysAt n) s′
   pub prepared : Prepared table t s′
   pub size : length s′ ≡ length s

@@ -1,6 +1,6 @@
 // Rounds: each adds what its rules add to the records of the rounds before it.
-use automaton::sets::clear_part;
-use heads::Reached;
+use buffers::clear_part;
+use heads::Progress;
 use heads::Round;
 use heads::add_head;
 use records::letter_at;
@@ -95,7 +95,7 @@ fn index_keys(
 }
 
 // Whether there is a head left, and the log has room.
-fn goes_on(t: Table, at: Reached, n: usize) -> bool
+fn goes_on(t: Table, at: Progress, n: usize) -> bool
     ensures { λ r. ⌜ r ≡ (leb (at .count) n && ltb (at .position) (t .rules)) ⌝ }
 {
     if n < at.count {
@@ -153,7 +153,7 @@ pub fn add_round(
         fresh,
         n,
     };
-    let mut at = Reached {
+    let mut at = Progress {
         position: first,
         count: base,
     };

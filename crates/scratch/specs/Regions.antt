@@ -1,10 +1,12 @@
--- The regions of the scratch by their offsets, as the code has them. A set of state numbers at an offset is bits of the scratch.
+-- The regions of the scratch by their offsets, as the code has them. A set of state numbers at an offset is bits of the
+-- scratch.
 use mathlib.Core.Bool.{Bool, cond}
 use mathlib.Core.List.{List, [], _∷_}
-use Prim.Native.Nat.{ℕ, _+_, _*_, _≤_}
+use Prim.Native.Nat.{ℕ, _+_, _*_, _≤_, _-_}
 use Rattle.model.specs.Tables.{writtenPlaces}
-use Rattle.automaton.specs.StateNumbers.{stateCount}
-use Rattle.automaton.specs.StateSets.{setLength}
+use Rattle.states.specs.StateNumbers.{stateCount}
+use Rattle.states.specs.StateSets.{setLength}
+use Rattle.model.specs.Calls.{scratchLeast}
 
 -- ---- round 0
 -- the codes of the transitions
@@ -62,7 +64,7 @@ ruleCodesAt = 2424
 
 -- the rings of the records, and behind those of n records the index of their keys
 abbrev pub ringsAt : ℕ
-ringsAt = 34000
+ringsAt = scratchLeast
 
 abbrev pub keysAt : ℕ → ℕ
 keysAt n = ringsAt + 6 * n
@@ -78,7 +80,7 @@ setsAt = 0
 
 -- the stack of record numbers
 abbrev pub stackAt : ℕ
-stackAt = 33872
+stackAt = ringsAt - 128
 
 -- ---- a walk
 -- the states that the letters read so far lead to, and those that one letter more leads to
@@ -95,10 +97,10 @@ pub record Region : Type 0 where
   pub size : ℕ
 
 -- each region ends before the next one begins, and the last one before a byte
-abbrev pub Apart : List Region → ℕ → Type 0
-Apart [] end = Unit {0}
-Apart (r ∷ []) end = r .at + r .size ≤ end
-Apart (r ∷ q ∷ rs) end = (r .at + r .size ≤ q .at) × Apart (q ∷ rs) end
+abbrev pub Disjoint : List Region → ℕ → Type 0
+Disjoint [] end = Unit {0}
+Disjoint (r ∷ []) end = r .at + r .size ≤ end
+Disjoint (r ∷ q ∷ rs) end = (r .at + r .size ≤ q .at) × Disjoint (q ∷ rs) end
 
 abbrev pub region : ℕ → ℕ → Region
 region at size = record { at = at; size = size }
@@ -110,7 +112,8 @@ ruleRegions = region orderAt 200 ∷ region activeAt 32 ∷ region writersAt (32
 -- in a round; what saturation uses beside the links of n records ends before byte 9,000
 abbrev pub roundRegions : List Region
 roundRegions =
-    region seenAt setLength ∷ region newAt setLength ∷ region countsAt 128 ∷ region orderAt 200 ∷ region activeAt 32 ∷ region writersAt (32 * 32)
+    region seenAt setLength ∷ region newAt setLength ∷ region countsAt 128 ∷ region orderAt 200 ∷ region activeAt 32
+    ∷ region writersAt (32 * 32)
     ∷ region passedAt (2 * writtenPlaces * setLength) ∷ []
 
 abbrev pub linkRegions : ℕ → List Region

@@ -1,6 +1,8 @@
 // Where everything stands in the scratch, phase by phase. Round 0 uses eight bytes for each of its records; the other rounds the first 9,000 bytes, the rings
 // and the keys; the start's path 65 sets, the stack and the rings. specs/Regions.antt has the same regions for proofs, and the law that those of one phase do not meet.
-use automaton::states::STATES;
+pub mod stack;
+
+use states::numbering::STATES;
 ghost use mathlib.Core.Path.{_≡_};
 ghost use Prim.Native.Nat.{_≤_};
 ghost use Rattle.scratch.specs.Regions.{keysAt};
@@ -47,7 +49,7 @@ pub const RULE_CODES: usize = 2424;
 
 // ---- rounds and the start's path
 // The rings of the records, 6 bytes for each, and behind those of n records the index of their keys, 4 bytes for each.
-pub const RINGS: usize = 34000;
+pub const RINGS: usize = NEEDED;
 
 pub fn keys_at(n: usize) -> usize
     requires { ⌜ n ≤ 65535 ⌝ }
@@ -58,7 +60,7 @@ pub fn keys_at(n: usize) -> usize
 
 // ---- the start's path and its unfolding
 // The stack of record numbers, 16 bits each: 64 for the start's path, and then over the rings and the keys, which the unfolding does not need.
-pub const STACK: usize = 33872;
+pub const STACK: usize = RINGS - 128;
 
 // ---- a walk
 // The states that the letters read so far lead to, and those that one letter more leads to: two sets.

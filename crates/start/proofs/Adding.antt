@@ -10,11 +10,11 @@ use lib.ListN.{length}
 use Rattle.model.specs.declared.Group.{Group}
 use Rattle.model.specs.Groups.{Processes, processesOf, restrict, merge}
 use Rattle.model.specs.Records.{afterAt}
-use Rattle.model.proofs.Tests.{each-process}
-use Rattle.automaton.specs.StateNumbers.{stateCount, stateNumber, digit, groupNumbered}
-use Rattle.automaton.specs.StateSets.{setLength, member, firstFrom}
-use Rattle.automaton.proofs.StateNumbers.{stateNumber-below}
-use Rattle.automaton.proofs.StateSets.{first-at}
+use Rattle.model.proofs.Tests.{each-process, or-true-right}
+use Rattle.states.specs.StateNumbers.{stateCount, stateNumber, digit, groupNumbered}
+use Rattle.states.specs.StateSets.{setLength, member, firstFrom}
+use Rattle.states.proofs.StateNumbers.{stateNumber-below}
+use Rattle.states.proofs.StateSets.{first-at}
 use Rattle.scratch.specs.Regions.{ringsAt}
 use Rattle.packs.specs.Packs.{packed}
 use Rattle.wordsets.specs.WordSets.{hasBit, inSet, gains, inBlock, OutsideSet, SetsApart, RecordAdded, BlockFits}
@@ -30,10 +30,6 @@ use Rattle.start.proofs.OwnGroups.{own-below, numbered-own, own-fits, o
 
 zero-under : (top : ℕ) → Under top 0
 zero-under top = each-process (λ i. digit 0 i ≤ digit top i) (omega arith) (omega arith) (omega arith) (omega arith)
-
-or-right : (b c : Bool) → c ≡ true → (b || c) ≡ true
-or-right true c e = refl
-or-right false c e = e
 
 or-cases : (b c : Bool) → (b || c) ≡ true → (b ≡ true) ⊎ (c ≡ true)
 or-cases true c e = inl refl
@@ -204,7 +200,7 @@ module _ {log : List ℕ} {count : ℕ} {a : Letter} {f : Frame} {k : ℕ} where
             taken = λ g i e q l y. elim (decLt q r) [
               | yes less ↦ kept-now (stateNumber g) (stateNumber-below g) (w .taken g i e q less y)
               | no later ↦ elim (ℕ-discrete q r) [
-                | yes is ↦ now (stateNumber g) (stateNumber-below g) ∙ or-right (member (setAt t k) (stateNumber g)) (gained (stateNumber g))
+                | yes is ↦ now (stateNumber g) (stateNumber-below g) ∙ or-true-right (member (setAt t k) (stateNumber g)) (gained (stateNumber g))
                     (leads-gained g i e (sym (ap (leads log (setAt s (k + 1)) a g) is) ∙ y))
                 | no ne ↦ absurd (true≢false (sym y ∙ lead-not log (setAt s (k + 1)) a g q
                     (reads-own log a g x before q (w .states) (i .states) e ∙ first .fails q (omega arith) l)))

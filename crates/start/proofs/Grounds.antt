@@ -25,13 +25,13 @@ use Rattle.model.proofs.Soundness.{ControlOn}
 use Rattle.model.proofs.TableProcesses.{ranged-at}
 use Rattle.model.proofs.Tests.{by-test}
 use Rattle.model.proofs.Validity.{each-at}
-use Rattle.automaton.specs.StateNumbers.{Over}
+use Rattle.states.specs.StateNumbers.{Over}
 use Rattle.table.specs.declared.Table.{Table}
 use Rattle.table.specs.Reading.{Holds, itemsIn, pileIn, saturatedIn, systemIn}
 use Rattle.table.proofs.Layouts.{count-in, pile-letter-in}
 use Rattle.table.proofs.Readings.{holds-complete}
-use Rattle.shapes.specs.Shapes.{processesBelow}
-use Rattle.shapes.proofs.Shapes.{loc-within, start-over}
+use Rattle.table.specs.Present.{processesBelow}
+use Rattle.table.proofs.Configurations.{loc-within, start-over}
 use Rattle.copies.specs.declared.Copying.{Copying}
 use Rattle.copies.specs.CopyingOf.{CopyingOf}
 use Rattle.copies.proofs.Groups.{states-few}

@@ -18,9 +18,9 @@ use Rattle.model.proofs.AcceptedTables.{accepted-copyable}
 use Rattle.model.proofs.Groups.{bits-back, ext, sameGroup-true, sameGroup-of}
 use Rattle.model.proofs.Lists.{each-any, each-map, each-of-map, getD-mem, map-append}
 use Rattle.model.proofs.Tests.{by-test, same-test}
-use Rattle.automaton.specs.StateNumbers.{stateCount, digit, Over}
-use Rattle.automaton.specs.StateSets.{setLength, member}
-use Rattle.automaton.proofs.StateSets.{member-inserted}
+use Rattle.states.specs.StateNumbers.{stateCount, digit, Over}
+use Rattle.states.specs.StateSets.{setLength, member}
+use Rattle.states.proofs.StateSets.{member-inserted}
 use Rattle.scratch.specs.Regions.{ringsAt}
 use Rattle.table.specs.declared.Table.{Table}
 use Rattle.table.specs.Reading.{Holds, acceptingIn, itemsIn, saturatedIn, systemIn}
@@ -34,7 +34,7 @@ use Rattle.copies.specs.declared.Copying.{Copying}
 use Rattle.copies.specs.declared.Mixed.{Mixed}
 use Rattle.copies.specs.CopyingOf.{CopyingOf}
 use Rattle.copies.specs.Mixing.{MixedOf, mixtureOf, mixturesBelow, mixturesIn, setsIn}
-use Rattle.shapes.specs.Shapes.{presentIn, processesBelow}
+use Rattle.table.specs.Present.{presentIn, processesBelow}
 use Rattle.copies.proofs.Groups.{copies-room}
 use Rattle.copies.proofs.Mixing.{accepting-mixed, mixtures-all, mixtures-more, mixtures-none, mixtures-same}
 use Rattle.start.proofs.Grounds.{grounds}

@@ -9,9 +9,9 @@ use borrow.Author.Tests.{lt-ltb, ltb-true}
 use Rattle.model.specs.declared.Group.{Group}
 use Rattle.model.specs.Groups.{processesOf, restrict, merge}
 use Rattle.model.specs.Records.{afterAt}
-use Rattle.automaton.specs.StateNumbers.{stateNumber}
-use Rattle.automaton.specs.StateSets.{member, firstFrom}
-use Rattle.automaton.proofs.StateSets.{Fails, fails-join, fails-one, first-is, first-at, first-of}
+use Rattle.states.specs.StateNumbers.{stateNumber}
+use Rattle.states.specs.StateSets.{member, firstFrom}
+use Rattle.states.proofs.StateSets.{Fails, fails-join, fails-one, first-is, first-at, first-of}
 use Rattle.packs.specs.Packs.{packed}
 use Rattle.rings.specs.Rings.{recordReads}
 use Rattle.start.specs.declared.Letter.{Letter}

@@ -7,3 +7,4 @@ pub mod Grounds
 pub mod LastSet
 pub mod RestRight
 pub mod Tracing
+pub mod GreedyPath

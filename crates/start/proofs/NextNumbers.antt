@@ -5,7 +5,7 @@ use native.Mathlib.Decide.{ℕ-discrete}
 use native.Mathlib.Omega.{arith}
 use Rattle.model.specs.Groups.{Process, p0, p1, p2, p3}
 use Rattle.model.proofs.Tests.{each-process}
-use Rattle.automaton.specs.StateNumbers.{stateCount, digit}
+use Rattle.states.specs.StateNumbers.{stateCount, digit}
 use Rattle.start.specs.OwnGroups.{Under, NextUnder}
 
 -- what holds of the shifts of all four processes
@@ -43,7 +43,7 @@ raising-end {top} {x} {k} b h w =
     let low : (z : ℕ) → Under top z → z % 2 ^ 12 ≤ x % 2 ^ 12 = subst (λ (k : ℕ). (z : ℕ) → Under top z → z % 2 ^ k ≤ x % 2 ^ k) e (w .low) in
     record { later = b; under = λ l. absurd (omega arith); next = λ z l u q. absurd (omega (arith, low z u)) }
 
--- the state that can be raised
+-- the state that can be raised-digit
 module _ (top x : ℕ) (b : x < stateCount) (ux : Under top x) where
   raised-under : (r k : ℕ) → k % 3 ≡ 0 → k < 12 → x / 2 ^ k % 8 < top / 2 ^ k % 8 → r ≡ (x / 2 ^ k + 1) * 2 ^ k → Under top r
   raised-under r =
@@ -63,8 +63,8 @@ module _ (top x : ℕ) (b : x < stateCount) (ux : Under top x) where
   raised-fits : (k : ℕ) → k % 3 ≡ 0 → k < 12 → (x / 2 ^ k + 1) * 2 ^ k % 2 ^ 64 ≡ (x / 2 ^ k + 1) * 2 ^ k
   raised-fits = by-shift (λ (k : ℕ). (x / 2 ^ k + 1) * 2 ^ k % 2 ^ 64 ≡ (x / 2 ^ k + 1) * 2 ^ k) (omega arith) (omega arith) (omega arith) (omega arith)
 
-  pub raised : (k : ℕ) → k < 12 → x / 2 ^ k % 8 < top / 2 ^ k % 8 → Raising top x k → NextUnder top x ((x / 2 ^ k + 1) * 2 ^ k % 2 ^ 64)
-  raised k h f w =
+  pub raised-digit : (k : ℕ) → k < 12 → x / 2 ^ k % 8 < top / 2 ^ k % 8 → Raising top x k → NextUnder top x ((x / 2 ^ k + 1) * 2 ^ k % 2 ^ 64)
+  raised-digit k h f w =
       let e = raised-fits k (w .shift) h in
       let n = raised-next ((x / 2 ^ k + 1) * 2 ^ k % 2 ^ 64) k (w .shift) h e in
       record { later = n .0; under = λ l. raised-under ((x / 2 ^ k + 1) * 2 ^ k % 2 ^ 64) k (w .shift) h f e; next = λ z l u q. n .1 z (w .low z u) q }

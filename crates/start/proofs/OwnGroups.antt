@@ -12,9 +12,9 @@ use Rattle.model.specs.Groups.{Process, Processes, p0, p1, p2, p3, at, has, res
 use Rattle.model.specs.Records.{recordLength, groupAt, afterAt}
 use Rattle.model.proofs.Groups.{ext, at-merge, at-restrict}
 use Rattle.model.proofs.Tests.{by-test, each-process}
-use Rattle.automaton.specs.StateNumbers.{stateCount, stateNumber, digit, groupNumbered}
-use Rattle.automaton.proofs.StateNumbers.{stateNumber-below, digit-number, digits-number, at-numbered}
-use Rattle.packs.specs.Packs.{packed, Bytes, maskOf, mergedBits, packNumber, packedAfter}
+use Rattle.states.specs.StateNumbers.{stateCount, stateNumber, digit, groupNumbered}
+use Rattle.states.proofs.StateNumbers.{stateNumber-below, digit-number, digits-number, at-numbered}
+use Rattle.packs.specs.Packs.{packed, Bytes, maskOf, packedMerge, packedNumber, packedAfter}
 use Rattle.packs.proofs.Packs.{bytes-of, merge-bits, pack-group, pack-number}
 use Rattle.packs.proofs.Unpacked.{merge-bytes}
 use Rattle.wordsets.specs.WordSets.{hasBit, inSet, gains, inBlock, BlockFits, RestBits}
@@ -63,14 +63,14 @@ numbered-own L g h = ext (λ i. at-numbered L (ownNumber L g) i ∙ by-test (has
     (λ n. rw (at-restrict L g i, n)))
 
 -- the own number after a record, from its bytes
-pub own-packed : (L : Processes) (log : List ℕ) (r : ℕ) → ((m : ℕ) → getD log m 0 < 256) → packNumber (mergedBits (maskOf L) (packedAfter log r) 0) ≡ ownNumber L (afterAt log r)
+pub own-packed : (L : Processes) (log : List ℕ) (r : ℕ) → ((m : ℕ) → getD log m 0 < 256) → packedNumber (packedMerge (maskOf L) (packedAfter log r) 0) ≡ ownNumber L (afterAt log r)
 unfolding ownNumber afterAt groupAt packed packedAfter
 own-packed L log r bytes =
     let g = groupAt log (r * recordLength + 5) in
     let small : Bytes g = bytes-of g (bytes _) (bytes _) (bytes _) (bytes _) in
     let none : Bytes noStates = λ i. rw (zero-at i) (omega arith) in
-    ap (λ (n : ℕ). packNumber (mergedBits (maskOf L) n 0)) (pack-group log (r * recordLength + 5))
-    ∙ ap packNumber (merge-bits L g noStates small none)
+    ap (λ (n : ℕ). packedNumber (packedMerge (maskOf L) n 0)) (pack-group log (r * recordLength + 5))
+    ∙ ap packedNumber (merge-bits L g noStates small none)
     ∙ pack-number (merge L g noStates) (merge-bytes L g noStates small none)
 
 bit-inside : (x a b : ℕ) → digit x p2 + a < 8 → digit x p3 + b < 8 → x % 64 + (8 * a + b) < 64

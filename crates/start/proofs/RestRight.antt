@@ -3,7 +3,7 @@ use mathlib.Core.Path.{_≡_, ap, sym, subst, _∙_, refl, ap₂}
 use mathlib.Core.Bool.{Bool, true, false, _&&_, true≢false}
 use mathlib.Core.List.{List, [], _∷_}
 use mathlib.Core.Logic.{_⊎_, inr, ⊎-elim}
-use Prim.Native.Nat.{ℕ, suc, _+_, _-_, _<_, _≤_, zero, _*_, _%_}
+use Prim.Native.Nat.{ℕ, suc, _+_, _-_, _<_, _≤_, _*_, _%_}
 use native.Mathlib.Omega.{arith}
 use native.Mathlib.Decide.{decLt}
 use native.Mathlib.Numerals.{add-one}
@@ -22,9 +22,9 @@ use Rattle.model.proofs.Groups.{at-build, at-merge, restrict-merge, restrict-wi
 use Rattle.model.proofs.Lists.{any-of, getD-mem}
 use Rattle.model.proofs.LogPaths.{reads-letter}
 use Rattle.model.proofs.Tests.{by-test, same-test}
-use Rattle.automaton.specs.StateNumbers.{stateCount, stateNumber, Over}
-use Rattle.automaton.specs.StateSets.{setLength, member, firstFrom}
-use Rattle.automaton.proofs.StateSets.{first-of}
+use Rattle.states.specs.StateNumbers.{stateCount, stateNumber, Over}
+use Rattle.states.specs.StateSets.{setLength, member, firstFrom}
+use Rattle.states.proofs.StateSets.{first-of, first-cong}
 use Rattle.scratch.specs.Regions.{ringsAt}
 use Rattle.records.specs.Entries.{Fits, Reads}
 use Rattle.packs.specs.Packs.{packed, Bytes, packedBefore}
@@ -35,8 +35,8 @@ use Rattle.table.specs.declared.Table.{Table}
 use Rattle.table.specs.Reading.{saturatedIn, systemIn, pileIn}
 use Rattle.table.proofs.Layouts.{table-modest, pile-count}
 use Rattle.logs.proofs.Logs.{over-byte}
-use Rattle.stack.specs.RoundLogs.{RoundLog, SomeRound}
-use Rattle.stack.proofs.RoundLogs.{round-fits, round-reads}
+use Rattle.logs.specs.RoundLogs.{RoundLog, SomeRound}
+use Rattle.logs.proofs.RoundLogs.{round-fits, round-reads}
 use Rattle.start.specs.declared.Letter.{Letter}
 use Rattle.start.specs.declared.Frame.{Frame}
 use Rattle.start.specs.Regions.{setPlace, setAt, OnlySet, Linked, SameBut}
@@ -49,11 +49,6 @@ use Rattle.start.proofs.Grounds.{Grounds, grounds}
 use Rattle.start.proofs.LastSet.{any-map}
 
 -- ---- some element passes a test
-first-agree : (test other : ℕ → Bool) (n k : ℕ) → ((j : ℕ) → n ≤ j → j < n + k → test j ≡ other j) → firstFrom test n k ≡ firstFrom other n k
-unfolding firstFrom
-first-agree test other n zero e = refl
-first-agree test other n (suc k) e = rw (e n (omega arith) (omega arith), first-agree test other (suc n) k (λ j p q. e j (omega arith) (omega arith)))
-
 any-none : {A : Type 0} (f : A → Bool) (d : A) (xs : List A) → ((j : ℕ) → j < length xs → f (getD xs j d) ≡ false) → anyOf f xs ≡ false
 any-none f d [] h = refl
 any-none f d (x ∷ xs) h = rw (h 0 (omega arith)) (any-none f d xs (λ j l. h (suc j) (omega arith)))
@@ -143,7 +138,7 @@ module _ {table : List ℕ} {t : Table} {round : ℕ} {log : List ℕ} {count : 
         ≡ firstFrom (goesOn (saturatedIn table) (logAt (saturatedIn table) round) (pileIn table i) (drop (i + 1) (systemIn table .start .word)) g) 0 (length (logAt (saturatedIn table) round))
     unfolding firstLead
     first-is-lead =
-        first-agree (leads log (setAt s (i + 1)) a (zeroedGroup (processesOfTable t) g)) (goesOn sys records (pileIn table i) (drop (i + 1) (sys .start .word)) g) 0 count
+        first-cong (leads log (setAt s (i + 1)) a (zeroedGroup (processesOfTable t) g)) (goesOn sys records (pileIn table i) (drop (i + 1) (sys .start .word)) g) 0 count
         (λ r p q. lead-is r (omega arith))
         ∙ ap (λ (k : ℕ). firstFrom (goesOn sys records (pileIn table i) (drop (i + 1) (sys .start .word)) g) 0 k) (sym (lent .size))
 

@@ -7,8 +7,8 @@ use native.Mathlib.Omega.{arith}
 use lib.ListN.{length, getD, take, drop, length-append, length-take, length-drop, replicate, length-replicate, List·getD-append}
 use lib.Seq.{length-take-le, take-at, drop-at, getD-take, getD-drop, getD-append-add, ext-getD, drop-drop}
 use Rattle.model.specs.Calls.{zeros}
-use Rattle.automaton.specs.StateSets.{setLength, member, inserted}
-use Rattle.automaton.proofs.StateSets.{length-inserted, member-zeros}
+use Rattle.states.specs.StateSets.{setLength, member, inserted}
+use Rattle.states.proofs.StateSets.{length-inserted, member-zeros}
 use Rattle.scratch.specs.Regions.{ringsAt}
 use Rattle.rings.proofs.Keeping.{ringed-scratch}
 use Rattle.start.specs.Regions.{setPlace, setAt, withSet, withState, Linked, SameBut, OnlySet}

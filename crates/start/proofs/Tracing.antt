@@ -20,20 +20,20 @@ use Rattle.model.specs.Log.{Record, Path, push, recordAt, readsAt, keys, stepsC
 use Rattle.model.specs.Systems.{System, accepts, isAccepting}
 use Rattle.model.specs.Unfolding.{acceptingPath, pathSteps}
 use Rattle.model.specs.Records.{afterAt, stepsAt}
-use Rattle.model.proofs.GreedyPath.{pickFrom, greedy, isSome, accepts-is, accepting-path-greedy}
+use Rattle.start.proofs.GreedyPath.{pickFrom, greedy, isSome, accepts-is, accepting-path-greedy}
 use Rattle.model.proofs.Tests.{and-left, and-right}
 use Rattle.numbers.specs.NumberBytes.{withNumber}
 use Rattle.numbers.proofs.NumberBytes.{byte-kept, length-number}
-use Rattle.automaton.specs.StateNumbers.{Over}
-use Rattle.automaton.proofs.StateSets.{First, first-at}
+use Rattle.states.specs.StateNumbers.{Over}
+use Rattle.states.proofs.StateSets.{First, first-at}
 use Rattle.scratch.specs.Regions.{ringsAt, stackAt}
 use Rattle.table.specs.declared.Table.{Table}
 use Rattle.table.specs.Reading.{Holds, saturatedIn, systemIn, pileIn}
 use Rattle.table.proofs.Layouts.{table-modest, pile-count}
-use Rattle.stack.specs.StackNumbers.{stackPlace, numbersDown, stackOf}
-use Rattle.stack.specs.RoundLogs.{RoundLog, SomeRound, EachRound}
-use Rattle.stack.proofs.Numbers.{down-more}
-use Rattle.stack.proofs.RoundLogs.{round-fits, round-reads}
+use Rattle.scratch.specs.StackNumbers.{stackPlace, numbersDown, stackOf}
+use Rattle.logs.specs.RoundLogs.{RoundLog, SomeRound, EachRound}
+use Rattle.scratch.proofs.StackNumbers.{down-more}
+use Rattle.logs.proofs.RoundLogs.{round-fits, round-reads}
 use Rattle.start.specs.declared.Letter.{Letter}
 use Rattle.start.specs.declared.StartPath.the-variants.{NoPath, Found}
 use Rattle.start.specs.declared.Trace.{Trace}
@@ -43,6 +43,7 @@ use Rattle.start.specs.Search.{pathFrom, roundPath, OnPath, Underway, Ad
 use Rattle.start.proofs.ScratchRegions.{same-none, same-join, linked-same}
 use Rattle.start.proofs.Grounds.{grounds}
 use Rattle.start.proofs.RestRight.{right-kept, goesOn, word-from, target-is, first-is-lead, lead-accepts}
+use Rattle.model.proofs.Lists.{sum-snoc}
 
 -- ---- the lowest record that leads on
 pick-first : (sys : System) (b : ℕ) (g : Group) (ok : Group → Bool) (next : Group → Option Path) (rs : List Record) (n j : ℕ) → j < length rs
@@ -141,10 +142,6 @@ prepend-more : (ns : List ℕ) (n : ℕ) (o : Option Path) → Option·map (prep
 prepend-more ns n none = refl
 prepend-more ns n (some p) = ap (λ (l : List ℕ). some (record { numbers = l; end = p .end })) (sym (append-snoc ns n (p .numbers)))
 
-sum-more : (f : ℕ → ℕ) (ns : List ℕ) (n : ℕ) → sumOver f (ns ++ (n ∷ [])) ≡ sumOver f ns + f n
-sum-more f [] n = omega arith
-sum-more f (m ∷ ns) n = ap (λ (k : ℕ). f m + k) (sum-more f ns n) ∙ omega arith
-
 -- the numbers of the first i records, in their places on the stack
 abbrev pub soFar : Table → ℕ → List ℕ → List ℕ
 soFar t i s = numbersDown s (stackPlace (t .pile - i)) i
@@ -226,7 +223,7 @@ module _ {table : List ℕ} {t : Table} {log : List ℕ} {count : ℕ} {n : ℕ}
         ∙ ap (λ (l : List ℕ). Option·map (prepend l) (pathFrom table round (i + 1) (d .state))) (sym more);
     figure = λ round lent.
         let steps : ℕ → ℕ = λ m. recordAt (logAt (saturatedIn table) round) m .steps in
-        let sum : sumOver steps (soFar t (i + 1) s″) ≡ sumOver steps (soFar t i s′) + steps (v .number) = ap (sumOver steps) more ∙ sum-more steps (soFar t i s′) (v .number) in
+        let sum : sumOver steps (soFar t (i + 1) s″) ≡ sumOver steps (soFar t i s′) + steps (v .number) = ap (sumOver steps) more ∙ sum-snoc steps (soFar t i s′) (v .number) in
         let figure : c .steps ≡ min (sumOver steps (soFar t i s′)) stepsCap = w .figure round lent in
         v .steps round lent ∙ omega arith;
   }

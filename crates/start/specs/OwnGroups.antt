@@ -7,8 +7,8 @@ use Prim.Native.Nat.{ℕ, _+_, _-_, _%_, _<_, _≤_}
 use Rattle.model.specs.declared.Group.{Group}
 use Rattle.model.specs.Groups.{Process, Processes, p0, p1, p2, p3, at, has, build, processesOf}
 use Rattle.model.specs.Records.{afterAt}
-use Rattle.automaton.specs.StateNumbers.{stateCount, stateNumber, digit}
-use Rattle.automaton.specs.StateSets.{member}
+use Rattle.states.specs.StateNumbers.{stateCount, stateNumber, digit}
+use Rattle.states.specs.StateSets.{member}
 use Rattle.packs.specs.Packs.{maskOf}
 use Rattle.wordsets.specs.WordSets.{hasBit, RestBits}
 use Rattle.table.specs.declared.Table.{Table}
@@ -41,7 +41,8 @@ pub record NextUnder (top x r : ℕ) : Type 0 where
   pub next : (z : ℕ) → z < stateCount → Under top z → x < z → r ≤ z
 
 -- ---- what is gone through for a letter
--- how many states of each process, beside the letter's own ones; one or eight of processes 2 and 3, as the bits of rest tell
+-- how many states of each process, beside the letter's own ones; one or eight of processes 2 and 3, as the bits of rest
+-- tell
 abbrev pub extent : Frame → Process → ℕ
 extent f p0 = f .rows
 extent f p1 = f .words
@@ -71,12 +72,14 @@ pub record FrameTo (L : Processes) (last : Group) (f : Frame) : Type 0 where
   pub framed : Framed L f
   pub reaches : (g : Group) → Numbered L g → ((i : Process) → at g i % 8 ≤ at last i % 8) → InFrame L f g
 
--- Set k got states from which the letter leads into the set `members`: of those that are gone through, all whose own number passes the test. Nothing
--- else has changed.
-pub record Added (log : List ℕ) (count : ℕ) (members : List ℕ) (a : Letter) (f : Frame) (test : ℕ → Type 0) (k : ℕ) (s t : List ℕ) : Type 0 where
+-- Set k got states from which the letter leads into the set `members`: of those that are gone through, all whose own
+-- number passes the test. Nothing else has changed.
+pub record Added (log : List ℕ) (count : ℕ) (members : List ℕ) (a : Letter) (f : Frame) (test : ℕ → Type 0) (k : ℕ)
+    (s t : List ℕ) : Type 0 where
   pub same : OnlySet k s t
   pub kept : (n : ℕ) → n < stateCount → member (setAt s k) n ≡ true → member (setAt t k) n ≡ true
   pub sound : (g : Group) → Numbered (processesOf (a .bits)) g → member (setAt t k) (stateNumber g) ≡ true
       → (member (setAt s k) (stateNumber g) ≡ true) ⊎ (someLead log count members a g ≡ true)
-  pub complete : (g : Group) → InFrame (processesOf (a .bits)) f g → test (ownNumber (processesOf (a .bits)) g) → someLead log count members a g ≡ true
+  pub complete : (g : Group) → InFrame (processesOf (a .bits)) f g → test (ownNumber (processesOf (a .bits)) g)
+      → someLead log count members a g ≡ true
       → member (setAt t k) (stateNumber g) ≡ true

@@ -3,7 +3,7 @@ use mathlib.Core.Path.{_≡_}
 use mathlib.Core.List.{List, [], _∷_, _++_}
 use Prim.Native.Nat.{ℕ, _+_, _*_, _<_, _≤_}
 use lib.ListN.{length, getD, take, drop}
-use Rattle.automaton.specs.StateSets.{setLength, inserted}
+use Rattle.states.specs.StateSets.{setLength, inserted}
 use Rattle.scratch.specs.Regions.{ringsAt}
 use Rattle.rings.specs.Rings.{RingRoom, Ringed}
 
@@ -13,10 +13,6 @@ setPlace k = setLength * k
 
 unfoldable pub setAt : List ℕ → ℕ → List ℕ
 setAt s k = take setLength (drop (setPlace k) s)
-
--- where the sets end: one for each letter of the longest start word, and the last one
-abbrev pub setsEnd : ℕ
-setsEnd = setPlace 65
 
 -- the scratch with another set k
 abbrev pub withSet : List ℕ → ℕ → List ℕ → List ℕ

@@ -10,13 +10,13 @@ use Rattle.model.specs.Groups.{Processes, build, processesOf, restrict, merge}
 use Rattle.model.specs.Log.{keys, logAt}
 use Rattle.model.specs.Systems.{accepts}
 use Rattle.model.specs.Records.{afterAt}
-use Rattle.automaton.specs.StateNumbers.{stateNumber, Over}
-use Rattle.automaton.specs.StateSets.{member, firstFrom}
+use Rattle.states.specs.StateNumbers.{stateNumber, Over}
+use Rattle.states.specs.StateSets.{member, firstFrom}
 use Rattle.packs.specs.Packs.{packed}
 use Rattle.rings.specs.Rings.{recordReads}
 use Rattle.table.specs.declared.Table.{Table}
 use Rattle.table.specs.Reading.{saturatedIn, systemIn, pileIn, BitsOf}
-use Rattle.stack.specs.RoundLogs.{EachRound}
+use Rattle.logs.specs.RoundLogs.{EachRound}
 use Rattle.start.specs.declared.Letter.{Letter}
 use Rattle.start.specs.Regions.{setAt, Linked}
 
@@ -46,7 +46,8 @@ pub record LetterAt (table : List ℕ) (i : ℕ) (a : Letter) : Type 0 where
 -- record r reads the letter in the state g, and leads into the set
 unfoldable pub leads : List ℕ → List ℕ → Letter → Group → ℕ → Bool
 leads log members a g r =
-    recordReads log (a .number) (packed (restrict (processesOf (a .bits)) g)) r && member members (stateNumber (merge (processesOf (a .bits)) (afterAt log r) g))
+    recordReads log (a .number) (packed (restrict (processesOf (a .bits)) g)) r
+    && member members (stateNumber (merge (processesOf (a .bits)) (afterAt log r) g))
 
 -- the lowest record that does, or count
 unfoldable pub firstLead : List ℕ → ℕ → List ℕ → Letter → Group → ℕ
@@ -63,11 +64,15 @@ EmptySet s k = (x : ℕ) → member (setAt s k) x ≡ false
 -- ---- what a set means
 -- the records up to a round accept the start word from letter k on from the state g
 abbrev pub acceptsFrom : List ℕ → ℕ → ℕ → Group → Bool
-acceptsFrom table round k g = accepts (systemIn table .loc) (keys (logAt (saturatedIn table) round)) (saturatedIn table .accepting) (drop k (systemIn table .start .word)) g
+acceptsFrom table round k g =
+    accepts (systemIn table .loc) (keys (logAt (saturatedIn table) round)) (saturatedIn table .accepting)
+    (drop k (systemIn table .start .word)) g
 
 -- a process that the table lacks counts as 0 in the numbers of the set
 abbrev pub SetRight : List ℕ → Table → ℕ → List ℕ → ℕ → Type 0
-SetRight table t round s k = (g : Group) → Over (processesOfTable t) g → member (setAt s k) (ownNumber (processesOfTable t) g) ≡ acceptsFrom table round k g
+SetRight table t round s k =
+    (g : Group) → Over (processesOfTable t) g
+    → member (setAt s k) (ownNumber (processesOfTable t) g) ≡ acceptsFrom table round k g
 
 -- set k is right for every round whose log this is
 abbrev pub RightForLog : List ℕ → Table → List ℕ → ℕ → List ℕ → ℕ → Type 0

@@ -1,10 +1,6 @@
 // The groups of a letter's processes in turn, and what the records with such a group before add to a set.
 use crate::Frame;
 use crate::Letter;
-use automaton::groups::merged;
-use automaton::states;
-use automaton::states::STATES;
-use automaton::states::numbered;
 use copies::Copying;
 use model::Group;
 use packs::after_at;
@@ -14,13 +10,17 @@ use rings::first_match;
 use rings::next_match;
 use scratch::RINGS;
 use scratch::SET_BYTES;
+use states::groups::merged;
+use states::numbering;
+use states::numbering::STATES;
+use states::numbering::numbered;
 use wordsets::add_record;
 use wordsets::rest_bits;
 ghost use mathlib.Core.Path.{_≡_};
 ghost use mathlib.Core.Bool.{cond};
 ghost use Prim.Native.Nat.{ℕ, _+_, _%_, _<_, _≤_};
 ghost use Rattle.model.specs.Groups.{Process, at, build, processesOf};
-ghost use Rattle.automaton.specs.StateNumbers.{stateCount};
+ghost use Rattle.states.specs.StateNumbers.{stateCount};
 ghost use Rattle.records.specs.Entries.{HasRecord};
 ghost use Rattle.start.specs.Regions.{setAt, Linked};
 ghost use Rattle.start.specs.OwnGroups.{OwnAfter, lastOf, Under, NextUnder, Framed, FrameTo, Added};
@@ -72,7 +72,7 @@ pub fn frame_of(bits: u8, last: Group) -> Frame
     };
     Frame {
         mask: mask_of(bits),
-        own: states::number(merged(bits, last, none)),
+        own: numbering::number(merged(bits, last, none)),
         rows: extent(bits % 2 == 1, last.s0),
         words: extent(bits / 2 % 2 == 1, last.s1),
         rest: rest_bits(

@@ -8,7 +8,8 @@ use lib.Seq.{take-at, drop-at, take-all, length-take-le, paste, length-paste}
 use Rattle.model.specs.declared.Group.{Group}
 use Rattle.model.specs.Calls.{filled, zeros}
 use Rattle.model.specs.Systems.{Configuration}
-use Rattle.shapes.specs.Shapes.{fronted}
+use Rattle.buffers.specs.Buffers.{fronted}
+use Rattle.buffers.proofs.Parts.{part-rest}
 use Rattle.firing.specs.Piles.{configuration}
 
 -- ---- the start
@@ -30,19 +31,15 @@ placed-start pile c n g pile′ e h q f = (
 )
 
 -- ---- the word moved to the front
--- a part from a place on, to the end
-pub part-to-end : (l : List ℕ) (a : ℕ) → take (length l - a) (drop a l) ≡ drop a l
-part-to-end l a = take-all (length l - a) (drop a l) (omega (arith, length-drop a l))
-
-pub settled : (l : List ℕ) (top : ℕ) (s z : List ℕ) → top ≤ length l → s ≡ fronted l top (length l - top) → z ≡ zeros (take (length s - (length l - top)) (drop (length l - top) s))
+pub brought-front : (l : List ℕ) (top : ℕ) (s z : List ℕ) → top ≤ length l → s ≡ fronted l top (length l - top) → z ≡ zeros (take (length s - (length l - top)) (drop (length l - top) s))
     → take (length l - top) s ++ (z ++ drop (length s - (length l - top)) (drop (length l - top) s)) ≡ filled (drop top l) l
 unfolding fronted
-settled l top s z h e f =
+brought-front l top s z h e f =
     let w : length (drop top l) ≡ length l - top = length-drop top l in
     let word : take (length l - top) (drop top l) ≡ drop top l = take-all (length l - top) (drop top l) (omega arith) in
     let size : length s ≡ length l = ap length e ∙ simp (length-append, length-take, length-drop) (omega arith) in
     let front : take (length l - top) s ≡ drop top l = ap (take (length l - top)) e ∙ take-at (take (length l - top) (drop top l)) (drop (length l - top) l) (length l - top) (ap length word ∙ w) ∙ word in
     let back : drop (length s - (length l - top)) (drop (length l - top) s) ≡ [] = drop-of-length-le (drop (length l - top) s) {i = length s - (length l - top)} (omega (arith, length-drop (length l - top) s)) in
     let count : length (take (length s - (length l - top)) (drop (length l - top) s)) ≡ length l - length (drop top l) =
-    ap length (part-to-end s (length l - top)) ∙ length-drop (length l - top) s ∙ omega arith in
+    ap length (part-rest s (length l - top)) ∙ length-drop (length l - top) s ∙ omega arith in
     ap₂ (λ (x y : List ℕ). x ++ y) front (ap₂ (λ (x y : List ℕ). x ++ y) (f ∙ ap (λ (n : ℕ). replicate n 0) count) back ∙ append-nil (replicate (length l - length (drop top l)) 0))

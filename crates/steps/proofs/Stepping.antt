@@ -14,14 +14,14 @@ use Rattle.model.specs.Systems.{System, Configuration, fire, fired}
 use Rattle.model.specs.Tables.{ruleOf}
 use Rattle.model.proofs.Lists.{elem-some}
 use Rattle.model.proofs.Steps.{fire-inv}
-use Rattle.automaton.specs.StateNumbers.{Over}
+use Rattle.states.specs.StateNumbers.{Over}
 use Rattle.table.specs.declared.Table.{Table}
 use Rattle.table.specs.Reading.{Holds, systemIn, ruleIn}
 use Rattle.table.proofs.Layouts.{rule-processes, rules-count}
-use Rattle.shapes.specs.Shapes.{presentIn}
-use Rattle.shapes.proofs.Shapes.{fired-over, fired-lettered}
+use Rattle.table.specs.Present.{presentIn}
+use Rattle.table.proofs.Configurations.{fired-over, fired-lettered}
 use Rattle.firing.specs.declared.Fired.{Fired}
-use Rattle.firing.specs.declared.Placed.{Placed}
+use Rattle.model.specs.declared.Placed.{Placed}
 use Rattle.firing.specs.declared.Firing.the-variants.{Idle, Full, Done}
 use Rattle.firing.specs.Piles.{configuration, Fires, firedPile}
 use Rattle.firing.proofs.Firings.{idle-of, full-of, overfull, fires-fit}

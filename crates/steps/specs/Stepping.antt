@@ -9,12 +9,12 @@ use Rattle.model.specs.Calls.{changesNothing, haltAt, walkFrom}
 use Rattle.model.specs.Groups.{processBits, processesOf}
 use Rattle.model.specs.Participation.{ruleProcesses, withStep}
 use Rattle.model.specs.Systems.{System}
-use Rattle.automaton.specs.StateNumbers.{Over}
+use Rattle.states.specs.StateNumbers.{Over}
 use Rattle.table.specs.declared.Table.{Table}
 use Rattle.table.specs.Reading.{systemIn}
-use Rattle.shapes.specs.Shapes.{presentIn}
+use Rattle.table.specs.Present.{presentIn}
 use Rattle.firing.specs.declared.Fired.{Fired}
-use Rattle.firing.specs.declared.Placed.{Placed}
+use Rattle.model.specs.declared.Placed.{Placed}
 use Rattle.firing.specs.Piles.{configuration, Stands}
 use Rattle.steps.specs.declared.Taken.{Taken}
 use Rattle.steps.specs.declared.Taken.the-variants.{Refused, Onward}
@@ -30,13 +30,17 @@ pub record StepRefused (sys : System) (n : ℕ) (c : Placed) (pile pile′ : Lis
   pub numbered : eqb number 0 ≡ false
   pub late : changesNothing number ≡ false
   pub leaves : pile′ ≡ pile
-  pub halt : (step : ℕ) (ns : List ℕ) → walkFrom sys (length pile) step (n ∷ ns) (configuration pile c) ≡ haltAt number step (n ∷ ns) (configuration pile c)
+  pub halt : (step : ℕ) (ns : List ℕ)
+      → walkFrom sys (length pile) step (n ∷ ns) (configuration pile c)
+      ≡ haltAt number step (n ∷ ns) (configuration pile c)
 
 -- fired: the walk goes on from the configuration after it, and the processes that took part are told
 pub record StepTaken (table : List ℕ) (t : Table) (n : ℕ) (c : Placed) (f : Fired) (pile pile′ : List ℕ) : Type 0 where
   pub shape : InShape t pile′ (f .placed)
   pub size : length pile′ ≡ length pile
-  pub onward : (step : ℕ) (ns : List ℕ) → walkFrom (systemIn table) (length pile) step (n ∷ ns) (configuration pile c) ≡ walkFrom (systemIn table) (length pile) (step + 1) ns (configuration pile′ (f .placed))
+  pub onward : (step : ℕ) (ns : List ℕ)
+      → walkFrom (systemIn table) (length pile) step (n ∷ ns) (configuration pile c)
+      ≡ walkFrom (systemIn table) (length pile) (step + 1) ns (configuration pile′ (f .placed))
   pub tells : f .processes ≡ processBits (ruleProcesses (systemIn table) n)
 
 abbrev pub StepTo : List ℕ → Table → ℕ → Placed → List ℕ → List ℕ → Taken → Type 0

@@ -1,12 +1,15 @@
 // What a walk and a desk have in common: the start's word put at the end of a buffer, one step there, the count of who took part, and the word moved to the
 // front.
-use automaton::sets;
+use buffers::clear;
+use buffers::move_front;
 use firing::Fired;
 use firing::Firing;
-use firing::Placed;
 use firing::fire;
+use model::FULL_PILE;
+use model::IDLE_RULE;
+use model::NO_RULE;
+use model::Placed;
 use numbers::as_bit;
-use shapes::move_front;
 use table::Table;
 use table::pile_letter;
 use table::start_group;
@@ -55,7 +58,7 @@ pub fn place_start(table: &[u8], t: Table, pile: &mut [u8]) -> Placed
 
 // ---- who took part
 // One step more where the process took part in it, up to the ceiling.
-fn raised(count: u64, part: bool, ceiling: u64) -> u64
+fn one_more(count: u64, part: bool, ceiling: u64) -> u64
     ensures { λ r. ⌜ r ≡ min ceiling (count + bit part) ⌝ }
 {
     if count < ceiling {
@@ -69,10 +72,10 @@ fn with_step(counts: [u64; Table::PROCESSES], bits: u8, ceiling: u64) -> [u64; T
     requires { ⌜ length counts ≡ 4 ⌝ }
     ensures { λ r. ⌜ r ≡ withStep ceiling (processesOf bits) counts ⌝ }
 {
-    let c0 = raised(counts[0], bits % 2 == 1, ceiling);
-    let c1 = raised(counts[1], bits / 2 % 2 == 1, ceiling);
-    let c2 = raised(counts[2], bits / 4 % 2 == 1, ceiling);
-    let c3 = raised(counts[3], bits / 8 % 2 == 1, ceiling);
+    let c0 = one_more(counts[0], bits % 2 == 1, ceiling);
+    let c1 = one_more(counts[1], bits / 2 % 2 == 1, ceiling);
+    let c2 = one_more(counts[2], bits / 4 % 2 == 1, ceiling);
+    let c3 = one_more(counts[3], bits / 8 % 2 == 1, ceiling);
     [c0, c1, c2, c3]
 }
 
@@ -92,14 +95,14 @@ pub fn take_step(
 {
     let rules = t.rules;
     if rules <= n {
-        return Taken::Refused(13);
+        return Taken::Refused(NO_RULE);
     }
     match fire(table, t, n, pile, c) {
         Firing::Idle => {
-            return Taken::Refused(12);
+            return Taken::Refused(IDLE_RULE);
         }
         Firing::Full => {
-            return Taken::Refused(14);
+            return Taken::Refused(FULL_PILE);
         }
         Firing::Done(f) => {
             let next = with_step(*counts, f.processes, ceiling);
@@ -111,11 +114,11 @@ pub fn take_step(
 
 // ---- the end
 // Moves the word to the front of the buffer and zeroes the rest.
-pub fn settle(pile: &mut [u8], top: usize)
+pub fn bring_front(pile: &mut [u8], top: usize)
     requires { ⌜ top ≤ length (now pile) ⌝ }
     ensures { λ _. ⌜ now (pile .exit) ≡ filled (drop top (now (pile .entry))) (now (pile .entry)) ⌝ }
 {
     let count = pile.len() - top;
     move_front(pile, top, count);
-    sets::clear(&mut pile[count..]);
+    clear(&mut pile[count..]);
 }

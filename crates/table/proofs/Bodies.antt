@@ -1,15 +1,13 @@
 -- Laws of the bodies at computed places.
-use mathlib.Core.Bool.{Bool, true, false, _||_}
 use mathlib.Core.List.{List, [], _∷_, _++_}
 use mathlib.Core.Path.{_≡_, refl, sym, ap, _∙_}
-use Prim.Native.Nat.{ℕ, zero, suc, _+_, _-_, _*_, _<_, _≤_}
+use Prim.Native.Nat.{ℕ, zero, suc, _+_, _*_, _<_, _≤_}
 use native.Mathlib.Nat.{not-suc-le-zero, le-of-suc-le-suc, suc-mul, zero-mul}
 use native.Mathlib.Numerals.{add-one}
 use native.Mathlib.Omega.{arith}
 use lib.ListN.{length, getD, drop, length-take, length-drop, List·getD-eq-default}
 use lib.Seq.{getD-take, getD-drop}
-use Rattle.model.specs.Lists.{anyOf}
-use Rattle.model.specs.Tables.{byteOf, absent, sameBytes}
+use Rattle.model.specs.Tables.{byteOf, absent}
 use Rattle.table.specs.Places.{bodyAt, bodiesAt}
 
 pub body-length : (bytes : List ℕ) (size place : ℕ) → place + 1 + size ≤ length bytes → length (bodyAt bytes size place) ≡ size
@@ -55,32 +53,3 @@ pub absent-bound : (field : ℕ) → field < 2 → byteOf absent field ≡ 256
 absent-bound zero h = refl
 absent-bound (suc zero) h = refl
 absent-bound (suc (suc field)) h = absurd (omega arith)
-
--- ---- a loop over bodies: `left` of them, from `place` on, are to be compared with the body at `at`
-pub record Left (bytes : List ℕ) (size count at place left : ℕ) : Type 0 where
-  pub room : place + left * (1 + size) ≤ at
-  pub same : anyOf (sameBytes (bodyAt bytes size at)) (bodiesAt bytes size (at - count * (1 + size)) count) ≡ anyOf (sameBytes (bodyAt bytes size at)) (bodiesAt bytes size place left)
-
-module _ {bytes : List ℕ} {size count at place left : ℕ} (g : Left bytes size count at place left) where
-  abbrev seen : Bool
-  seen = anyOf (sameBytes (bodyAt bytes size at)) (bodiesAt bytes size (at - count * (1 + size)) count)
-
-  split : 0 < left → left ≡ suc (left - 1)
-  split h = omega arith
-
-  pub left-room : 0 < left → place + (left - 1) * (1 + size) + 1 + size ≤ at
-  left-room h = let e : place + left * (1 + size) ≡ place + suc (left - 1) * (1 + size) = ap (λ (n : ℕ). place + n * (1 + size)) (split h) in omega (arith, g .room, e, suc-mul (left - 1) (1 + size))
-
-  first-of : 0 < left → seen ≡ (sameBytes (bodyAt bytes size at) (bodyAt bytes size place) || anyOf (sameBytes (bodyAt bytes size at)) (bodiesAt bytes size (place + 1 + size) (left - 1)))
-  unfolding bodiesAt
-  first-of h = g .same ∙ ap (λ (n : ℕ). anyOf (sameBytes (bodyAt bytes size at)) (bodiesAt bytes size place n)) (split h)
-
-  pub left-found : 0 < left → sameBytes (bodyAt bytes size at) (bodyAt bytes size place) ≡ true → seen ≡ true
-  left-found h e = first-of h ∙ rw e
-
-  pub left-turn : 0 < left → sameBytes (bodyAt bytes size at) (bodyAt bytes size place) ≡ false → Left bytes size count at (place + 1 + size) (left - 1)
-  left-turn h e = record { room = omega (arith, left-room h); same = first-of h ∙ rw e }
-
-  pub left-end : left ≤ 0 → seen ≡ false
-  unfolding bodiesAt
-  left-end h = let e : left ≡ 0 = omega arith in g .same ∙ rw e

@@ -1,21 +1,20 @@
 -- Laws of a cursor: what its counts say of the items before it, and the cursor behind one item more.
-use mathlib.Core.Bool.{Bool, false, cond, _&&_}
+use mathlib.Core.Bool.{cond}
 use mathlib.Core.List.{List, [], _∷_, _++_}
 use mathlib.Core.Path.{_≡_, refl, sym, ap, _∙_}
-use Prim.Native.Nat.{ℕ, zero, suc, _+_, _-_, _*_, _<_, _≤_}
+use Prim.Native.Nat.{ℕ, zero, suc, _+_, _*_, _<_, _≤_}
 use native.Mathlib.Decide.{ℕ-discrete}
 use native.Mathlib.Omega.{arith}
-use lib.Dec.{eqb, leb}
+use lib.Dec.{eqb}
 use lib.ListN.{length}
-use borrow.Author.Tests.{eq-eqb, ne-eqb, leb-true}
-use Rattle.model.proofs.Tests.{by-test}
-use Rattle.model.specs.Lists.{anyOf}
-use Rattle.model.specs.Tables.{bodyLength, ceiling, bodies, count, isOutOfTurn, sameBytes}
+use borrow.Author.Tests.{eq-eqb, ne-eqb}
+use Rattle.model.specs.Tables.{bodyLength, ceiling, bodies, count, isOutOfTurn}
 use Rattle.table.specs.Places.{bodyAt, bodiesAt, offset, countsAt, itemsBefore, processesIn, lettersIn, Modest, advanced, Heads, Passed}
 use Rattle.table.specs.Reading.{countsOf, outOfTurn}
 use Rattle.table.specs.declared.Cursor.{Cursor}
 use Rattle.table.proofs.Bodies.{bodies-length}
-use Rattle.table.proofs.Places.{bodies-above, bodies-below, offset-snoc, items-snoc, offset-still, lastKind-snoc, first-item, second-item}
+use Rattle.table.proofs.Places.{bodies-above, bodies-below, offset-snoc, items-snoc, offset-still, first-item, second-item}
+use Rattle.model.proofs.CheckedItems.{lastKind-snoc}
 
 -- ---- places by counts
 module _ (bytes : List ℕ) (c : Cursor) where
@@ -118,21 +117,3 @@ module _ (bytes : List ℕ) (c : Cursor) (k : ℕ) (p : Passed bytes c) (a : Adm
       | no n ↦ rw (count-other j n) (p .ceilings j)
     ];
   }
-
--- what check 8 needs of an item at the cursor: the items of its kind stand right before it
-pub record Seen (bytes : List ℕ) (c : Cursor) (k : ℕ) : Type 0 where
-  pub room : countsAt c k * (1 + bodyLength k) ≤ c .at
-  pub inside : c .at + 1 + bodyLength k ≤ length bytes
-  pub same : anyOf (sameBytes (bodyAt bytes (bodyLength k) (c .at))) (bodiesAt bytes (bodyLength k) (c .at - countsAt c k * (1 + bodyLength k)) (countsAt c k)) ≡ anyOf (sameBytes (bodyAt bytes (bodyLength k) (c .at))) (bodies k (itemsBefore bytes c))
-
-pub seen-of : (bytes : List ℕ) (c : Cursor) (kind k : ℕ) → kind ≡ k → k < 8 → Passed bytes c → c .last ≤ kind → c .at + 1 + bodyLength kind ≤ length bytes → Seen bytes c k
-seen-of bytes c kind k e h p l w =
-    let place = kind-place bytes c p k h (rw e at l) in
-    let first : c .at - countsAt c k * (1 + bodyLength k) ≡ offset (countsAt c) k = omega arith in
-    record { room = omega arith; inside = rw e at w; same = rw (first, bodies-below bytes (countsAt c) k 8 h) refl }
-
--- kinds without check 8
-pub no-twin : (k : ℕ) (b : Bool) → (k ≡ 3 → ⊥) → (k ≡ 4 → ⊥) → (k ≡ 5 → ⊥) → (leb 3 k && leb k 5 && b) ≡ false
-no-twin k b n3 n4 n5 = by-test (leb 3 k)
-    (λ y. by-test (leb k 5) (λ z. absurd (omega (arith, leb-true 3 k y, leb-true k 5 z))) (λ z. rw (y, z)))
-    (λ y. rw y)

@@ -12,11 +12,11 @@ use borrow.Author.Tests.{ltb-true, leb-true}
 use Rattle.model.proofs.Lists.{elem-some}
 use Rattle.model.proofs.Tests.{and-left, and-right}
 use Rattle.model.specs.Automata.{Transition}
-use Rattle.model.specs.Groups.{processesOf}
+use Rattle.model.specs.Groups.{processesOf, numberOf}
 use Rattle.model.specs.Lists.{valueOr}
 use Rattle.model.specs.Participation.{ruleProcesses}
 use Rattle.model.specs.Systems.{Rule}
-use Rattle.model.specs.Tables.{locOf, controlsOf, statesOf, writtenPlaces, bodyLength, bodies, byteOf, groupOf, numberOf, absent, ruleOf, transitionOf, valueFits, systemOf, longest}
+use Rattle.model.specs.Tables.{locOf, controlsOf, statesOf, writtenPlaces, bodyLength, bodies, byteOf, groupOf, absent, ruleOf, transitionOf, valueFits, systemOf, longest}
 use Rattle.table.specs.Places.{boundIn, bodyAt, bodiesAt, offset, placeOf, bodyOf, counts, processesIn, lettersIn, Modest, Heads}
 use Rattle.table.specs.Reading.{Holds, itemsIn, systemIn, ruleIn, transitionIn, acceptingIn, pileIn, processAt}
 use Rattle.table.specs.declared.Table.{Table}

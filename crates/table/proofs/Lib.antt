@@ -7,3 +7,4 @@ pub mod Steps
 pub mod Accepted
 pub mod Layouts
 pub mod Readings
+pub mod Configurations

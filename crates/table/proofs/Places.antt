@@ -8,7 +8,7 @@ use native.Mathlib.Nat.{not-suc-le-zero, le-of-suc-le-suc, zero-mul, one-mul, ad
 use native.Mathlib.Omega.{arith}
 use lib.Dec.{eqb}
 use borrow.Author.Tests.{eq-eqb, ne-eqb}
-use Rattle.model.specs.Tables.{Item, bodyLength, bodies, lastKind}
+use Rattle.model.specs.Tables.{Item, bodyLength, bodies}
 use Rattle.table.specs.Places.{counts, bodyAt, bodiesAt, offset, itemsBelow}
 use Rattle.table.specs.declared.Table.{Table}
 use Rattle.table.proofs.Bodies.{bodies-snoc}
@@ -120,11 +120,6 @@ pub offset-still : (n : ℕ → ℕ) (k m : ℕ) → k < m → ((j : ℕ) → k 
 unfolding offset
 offset-still n k zero h z = absurd (not-suc-le-zero h)
 offset-still n k (suc m) h z = ⊎-elim (λ e. rw (← e)) (λ l. rw (z m l, zero-mul (1 + bodyLength m), offset-still n k m l z) (omega arith)) (eq-or-lt-of-le (le-of-suc-le-suc h))
-
-pub lastKind-snoc : (xs : List Item) (x : Item) → lastKind (xs ++ (x ∷ [])) ≡ x .kind
-lastKind-snoc [] x = refl
-lastKind-snoc (y ∷ []) x = refl
-lastKind-snoc (y ∷ z ∷ xs) x = lastKind-snoc (z ∷ xs) x
 
 -- processes stand first, then letters
 pub first-item : (t : Table) (starts : ℕ) → offset (counts t starts) 1 ≡ 0

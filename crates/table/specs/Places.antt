@@ -1,12 +1,13 @@
--- Where the items of a table stand. Kinds never fall and a kind fixes its body's length, so the counts alone place every item.
+-- Where the items of a table stand. Kinds never fall and a kind fixes its body's length, so the counts alone place
+-- every item.
 use mathlib.Core.Bool.{cond}
 use mathlib.Core.List.{List, [], _∷_, _++_, map}
 use mathlib.Core.Path.{_≡_}
 use Prim.Native.Nat.{ℕ, zero, suc, _+_, _*_, _≤_, _<_}
 use lib.Dec.{eqb}
 use lib.ListN.{length, getD, take, drop}
-use Rattle.model.specs.Groups.{Process}
-use Rattle.model.specs.Tables.{Item, bodyLength, ceiling, lastKind, numberOf, absent, byteOf}
+use Rattle.model.specs.Groups.{Process, numberOf}
+use Rattle.model.specs.Tables.{Item, bodyLength, ceiling, lastKind, absent, byteOf}
 use Rattle.table.specs.declared.Cursor.{Cursor}
 use Rattle.table.specs.declared.Table.{Table}
 
@@ -35,12 +36,15 @@ bodyOf bytes n k j = bodyAt bytes (bodyLength k) (placeOf n k j)
 -- the items of the kinds below k
 unfoldable pub itemsBelow : List ℕ → (ℕ → ℕ) → ℕ → List Item
 itemsBelow bytes n zero = []
-itemsBelow bytes n (suc k) = itemsBelow bytes n k ++ map (λ (body : List ℕ). record { kind = k; body = body }) (bodiesAt bytes (bodyLength k) (offset n k) (n k))
+itemsBelow bytes n (suc k) =
+    itemsBelow bytes n k
+    ++ map (λ (body : List ℕ). record { kind = k; body = body }) (bodiesAt bytes (bodyLength k) (offset n k) (n k))
 
 -- ---- a table, and a cursor behind its items
 -- the number of items of each kind; kind 8 is never before a cursor
 abbrev pub counts : Table → ℕ → ℕ → ℕ
-counts t starts k = getD (0 ∷ t .processes ∷ t .letters ∷ t .rules ∷ t .transitions ∷ t .accepting ∷ starts ∷ t .pile ∷ 0 ∷ []) k 0
+counts t starts k =
+    getD (0 ∷ t .processes ∷ t .letters ∷ t .rules ∷ t .transitions ∷ t .accepting ∷ starts ∷ t .pile ∷ 0 ∷ []) k 0
 
 abbrev pub countsAt : Cursor → ℕ → ℕ
 countsAt c = counts (c .table) (c .starts)

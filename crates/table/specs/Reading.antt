@@ -22,7 +22,14 @@ use Rattle.table.specs.declared.Table.{Table}
 -- ---- what `read` gives
 -- the number of items of each kind, besides the start
 abbrev pub countsOf : List Item → Table
-countsOf items = record { processes = count 1 items; letters = count 2 items; rules = count 3 items; transitions = count 4 items; accepting = count 5 items; pile = count 7 items }
+countsOf items = record {
+  processes = count 1 items;
+  letters = count 2 items;
+  rules = count 3 items;
+  transitions = count 4 items;
+  accepting = count 5 items;
+  pile = count 7 items;
+}
 
 abbrev pub parsed : Reading → Parsed
 parsed (accepted items) = Accepted (countsOf items)
@@ -75,7 +82,9 @@ pub record BitsOf (L : Processes) (bits : ℕ) : Type 0 where
 -- ---- one item
 -- check 3 by what a cursor carries
 unfoldable pub outOfTurn : Cursor → ℕ → Bool
-outOfTurn c k = ltb k (c .last) || (eqb k 6 && ltb 0 (c .starts)) || (eqb (c .table .processes) 0 && ltb 1 k) || (ltb 6 k && eqb (c .starts) 0)
+outOfTurn c k =
+    ltb k (c .last) || (eqb k 6 && ltb 0 (c .starts)) || (eqb (c .table .processes) 0 && ltb 1 k)
+    || (ltb 6 k && eqb (c .starts) 0)
 
 -- the checks 5 to 8
 unfoldable pub bodyRefusal : List Item → ℕ → List ℕ → ℕ

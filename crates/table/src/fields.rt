@@ -1,4 +1,9 @@
 // The parts of an accepted table, read from the caller's bytes at computed places.
+use crate::Table;
+use model::Group;
+use model::WRITTEN_PLACES;
+use numbers::group_at;
+use numbers::wide;
 ghost use mathlib.Core.Path.{_≡_};
 ghost use mathlib.Core.List.{[], _∷_};
 ghost use Prim.Native.Nat.{_+_, _*_, _≤_, _<_};
@@ -6,11 +11,6 @@ ghost use lib.ListN.{length, getD, take, drop};
 ghost use Rattle.model.specs.Tables.{writtenPlaces, absent, bodyLength, byteOf, groupOf};
 ghost use Rattle.table.specs.Places.{bodyAt, processesIn, lettersIn, Heads, Modest};
 ghost use Rattle.table.specs.Reading.{Holds, systemIn, ruleIn, transitionIn, acceptingIn, pileIn, processAt, BitsOf};
-use crate::Table;
-use model::Group;
-use model::WRITTEN_PLACES;
-use numbers::group_at;
-use numbers::wide;
 
 // The bytes of a rule's body, and those of a whole rule.
 pub const RULE_BODY: usize = 10 + WRITTEN_PLACES;
@@ -131,6 +131,15 @@ pub fn rule_letter(bytes: &[u8], t: Table, k: usize) -> u8
 {
     let body = rule_body(bytes, t, k);
     body[0]
+}
+
+// The processes of the letter of rule k, as bits.
+pub fn rule_bits(bytes: &[u8], t: Table, k: usize) -> u8
+    requires { ⌜ Holds (now bytes) t × (k < t .rules) ⌝ }
+    ensures { λ r. ⌜ BitsOf (systemIn (now (bytes .entry)) .loc (ruleIn (now (bytes .entry)) k .letter)) r ⌝ }
+{
+    let a = rule_letter(bytes, t, k);
+    letter_bits(bytes, t, wide(a))
 }
 
 pub fn rule_before(bytes: &[u8], t: Table, k: usize) -> Group

@@ -1,15 +1,17 @@
 // Tests of processes, given as bits, and of the states of a group.
-ghost use mathlib.Core.Path.{_≡_};
-ghost use mathlib.Core.Bool.{not, _||_};
-ghost use lib.Dec.{leb};
-ghost use lib.ListN.{getD};
-ghost use Rattle.model.specs.Groups.{every, at, has, processesOf, withinTest};
-ghost use Rattle.model.specs.Tables.{byteOf, absent};
-ghost use Rattle.table.specs.Places.{processesIn, boundIn, Heads};
 use crate::Table;
 use crate::fields::bound_of;
 use model::Group;
 use numbers::wide;
+ghost use mathlib.Core.Path.{_≡_};
+ghost use mathlib.Core.Bool.{not, _||_};
+ghost use Prim.Native.Nat.{_≤_};
+ghost use lib.Dec.{leb};
+ghost use lib.ListN.{getD};
+ghost use Rattle.model.specs.Groups.{every, at, has, processBits, processesOf, withinTest};
+ghost use Rattle.model.specs.Tables.{byteOf, absent};
+ghost use Rattle.table.specs.Places.{processesIn, boundIn, Heads};
+ghost use Rattle.table.specs.Present.{presentIn};
 
 // If a, then b.
 pub fn implies(a: bool, b: bool) -> bool
@@ -51,4 +53,25 @@ pub fn leaves_control(bytes: &[u8], t: Table, bits: u8, g: Group) -> bool
         & is_outside(bytes, t, 1, bits / 2 % 2 == 1, g.s1)
         & is_outside(bytes, t, 2, bits / 4 % 2 == 1, g.s2)
         & is_outside(bytes, t, 3, bits / 8 % 2 == 1, g.s3)
+}
+
+// The processes of the table, as bits.
+pub fn present(t: Table) -> u8
+    requires { ⌜ t .processes ≤ 4 ⌝ }
+    ensures { λ r. ⌜ r ≡ processBits (presentIn t) ⌝ }
+{
+    let n = t.processes;
+    if n == 0 {
+        return 0;
+    }
+    if n == 1 {
+        return 1;
+    }
+    if n == 2 {
+        return 3;
+    }
+    if n == 3 {
+        return 7;
+    }
+    15
 }

@@ -1,10 +1,4 @@
 // A table: document 01, "Table bytes". It stays in the caller's bytes; what is kept of it are its counts, by which its parts are found there.
-ghost use mathlib.Core.Path.{_≡_};
-ghost use mathlib.Core.List.{[]};
-ghost use Prim.Native.Nat.{_<_};
-ghost use Rattle.model.specs.Tables.{ceiling};
-ghost use Rattle.table.specs.Reading.{countsOf};
-
 mod fields;
 mod groups;
 
@@ -18,6 +12,7 @@ pub use fields::local_states;
 pub use fields::pile_letter;
 pub use fields::rule_after;
 pub use fields::rule_before;
+pub use fields::rule_bits;
 pub use fields::rule_letter;
 pub use fields::start_group;
 pub use fields::transition_after;
@@ -27,8 +22,14 @@ pub use fields::written_count;
 pub use fields::written_letter;
 pub use groups::is_within;
 pub use groups::leaves_control;
+pub use groups::present;
 use model::WRITTEN_PLACES;
 use numbers::wide;
+ghost use mathlib.Core.Path.{_≡_};
+ghost use mathlib.Core.List.{[]};
+ghost use Prim.Native.Nat.{_<_};
+ghost use Rattle.model.specs.Tables.{ceiling};
+ghost use Rattle.table.specs.Reading.{countsOf};
 
 // What an accepted table holds, besides one start: the number of items of each kind.
 #[repr(C)]

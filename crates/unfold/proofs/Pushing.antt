@@ -16,8 +16,8 @@ use Rattle.numbers.specs.NumberBytes.{withNumber}
 use Rattle.numbers.proofs.NumberBytes.{length-number}
 use Rattle.scratch.specs.Regions.{stackAt}
 use Rattle.records.specs.Entries.{pathPlace}
-use Rattle.stack.specs.StackNumbers.{stackPlace, stackOf}
-use Rattle.stack.proofs.Numbers.{length-down, stack-push}
+use Rattle.scratch.specs.StackNumbers.{stackPlace, stackOf}
+use Rattle.scratch.proofs.StackNumbers.{length-down, stack-push}
 use Rattle.unfold.specs.Turns.{lengthFrom, pathLength, placeBelow, places, placesFrom, StackRoom, Pushed}
 
 -- ---- the length of a path

@@ -2,25 +2,22 @@
 use mathlib.Core.Path.{_≡_, refl, ap, ap₂, sym, _∙_}
 use mathlib.Core.Option.{some}
 use mathlib.Core.List.{List, [], _∷_, _++_, append-nil}
-use Prim.Native.Nat.{ℕ, zero, suc, _+_, _*_, _<_, _≤_, max}
+use Prim.Native.Nat.{ℕ, _+_, _*_, _<_, _≤_, max}
 use native.Mathlib.Numerals.{add-one}
 use native.Mathlib.Omega.{arith}
-use lib.ListN.{length, getD, getElem?, take, drop, set, length-append, length-set, take-append-drop}
+use lib.ListN.{length, getD, take, drop, set, length-append, length-set, take-append-drop}
 use lib.Seq.{append-snoc, take-suc-set, drop-set-lt, drop-drop, length-take-le}
 use Rattle.model.specs.Groups.{Process, greatest}
 use Rattle.model.specs.Systems.{Rule, System, Configuration, walk, peak}
 use Rattle.model.specs.Tables.{ruleOf, writtenPlaces}
-use Rattle.model.specs.Words.{Located, height, project}
+use Rattle.model.proofs.Words.{Located}
+use Rattle.model.specs.Words.{height, project}
 use Rattle.model.proofs.Peak.{fire-lengths, greatest-least, greatest-more, greatest-most, greatest-reached, height-under-peak, peak-step}
 use Rattle.model.proofs.Steps.{WalkStep, walk-inv}
 use Rattle.lengths.specs.declared.Lengths.{Lengths}
-use Rattle.lengths.specs.Projections.{Added, Change, LengthsOf, Raised, Within, lengthAt}
+use Rattle.lengths.specs.Projections.{Added, Change, LengthsOf, Raised, AtMost, lengthAt}
 use Rattle.lengths.proofs.Counting.{project-shorter}
-
-elem-place : {A : Type 0} (l : List A) (k : ℕ) (d x : A) → getElem? l k ≡ some x → (k < length l) × (getD l k d ≡ x)
-elem-place [] k d x e = absurd (let z : _≡_ {A = ℕ} 0 1 = cc in omega arith)
-elem-place (y ∷ l) zero d x e = (omega arith, let same : y ≡ x = cc in same)
-elem-place (y ∷ l) (suc k) d x e = let r = elem-place l k d x e in (omega (arith, r .0), r .1)
+use Rattle.model.proofs.Lists.{elem-place}
 
 -- ---- the greatest lengths
 -- no number of l is above that of h
@@ -51,7 +48,7 @@ pub record Going (sys : System) (all page₀ left page : List ℕ) (rules : ℕ)
   pub walks : walk sys left at ≡ some end
   pub lengths : (i : Process) → lengthAt l i ≡ length (project (sys .loc) i (at .word)) + rules
   pub under : Under l h
-  pub small : Within (64 + (1 + writtenPlaces) * rules) h
+  pub small : AtMost (64 + (1 + writtenPlaces) * rules) h
   pub peaks : peak sys all (sys .start) + rules ≡ max (greatest (lengthAt h)) (peak sys left at + rules)
 
 pub going-start : {sys : System} {all page₀ : List ℕ} {end : Configuration} → length (sys .start .word) ≤ 64 → walk sys all (sys .start) ≡ some end

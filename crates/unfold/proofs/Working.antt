@@ -7,15 +7,15 @@ use native.Mathlib.Decide.{ℕ-discrete}
 use native.Mathlib.Omega.{arith}
 use lib.ListN.{length, set, length-append}
 use Rattle.model.specs.Calls.{scratchFor, startPath}
-use Rattle.model.specs.Log.{Record, Path, recordAt, noNumber, stepsCap, limit, saturatedAt}
+use Rattle.model.specs.Log.{Record, Path, recordAt, noNumber, stepsCap, limit, saturatedAt, longestRun}
 use Rattle.model.specs.Groups.{Process, greatest, p0}
 use Rattle.model.specs.Lists.{Each}
 use Rattle.model.specs.Systems.{System}
 use Rattle.model.specs.Tables.{writtenPlaces}
 use Rattle.model.specs.Unfolding.{emitted, pathSteps}
-use Rattle.model.specs.Words.{Located}
+use Rattle.model.proofs.Words.{Located}
 use Rattle.model.specs.Records.{roundAt}
-use Rattle.model.proofs.EmissionStack.{InLog, emitted-skip, emitted-replace, Low, low-start, low-replace, low-height}
+use Rattle.unfold.proofs.EmissionStack.{InLog, emitted-skip, emitted-replace, Low, low-start, low-replace, low-height}
 use Rattle.model.proofs.Lists.{each-append, each-map}
 use Rattle.model.proofs.Reachability.{accepting-path-found, answer-yes, answer-steps}
 use Rattle.model.proofs.Peak.{greatest-most}
@@ -26,12 +26,12 @@ use Rattle.table.specs.declared.Table.{Table}
 use Rattle.table.specs.Reading.{saturatedIn, systemIn, ruleIn}
 use Rattle.table.proofs.Layouts.{table-modest, rules-count, pile-count, written-few}
 use Rattle.lengths.specs.declared.Lengths.{Lengths}
-use Rattle.lengths.specs.Projections.{Added, Change, LengthsOf, Noted, lengthAt, noted}
+use Rattle.lengths.specs.Projections.{Added, Change, LengthsOf, ChangesNoted, lengthAt, noted}
 use Rattle.lengths.proofs.Counting.{project-shorter}
-use Rattle.stack.specs.StackNumbers.{numbersDown, stackOf}
-use Rattle.stack.specs.RoundLogs.{LimitLog}
-use Rattle.stack.proofs.Numbers.{length-down, stack-top}
-use Rattle.stack.proofs.RoundLogs.{holds-well-formed, holds-control, round-fits, round-reads, round-has, limit-earlier}
+use Rattle.scratch.specs.StackNumbers.{numbersDown, stackOf}
+use Rattle.logs.specs.RoundLogs.{LimitLog}
+use Rattle.scratch.proofs.StackNumbers.{length-down, stack-top}
+use Rattle.logs.proofs.RoundLogs.{holds-well-formed, holds-control, round-fits, round-reads, round-has, limit-earlier}
 use Rattle.unfold.specs.declared.Work.{Work}
 use Rattle.unfold.specs.Runs.{Unfoldable, Unfolded}
 use Rattle.unfold.specs.Turns.{places, StackRoom, topRecord, Replaceable, Replaced, Workable, Worked}
@@ -46,7 +46,7 @@ pub record Working (table : List ℕ) (room : ℕ) (ns page₀ s page : List ℕ
   pub going : Going (saturatedIn table) (emitted (limit (saturatedIn table)) ns) page₀ (emitted (limit (saturatedIn table)) (stackOf s (w .top))) page (w .rules) (w .lengths) (w .highest)
 
 module _ {table : List ℕ} {t : Table} {changes log : List ℕ} {count room : ℕ} {ns page₀ : List ℕ}
-    (pre : LimitLog table t log count × (scratchFor count ≤ room) × Unfoldable (saturatedIn table) ns page₀ × Noted table (t .rules) changes) where
+    (pre : LimitLog table t log count × (scratchFor count ≤ room) × Unfoldable (saturatedIn table) ns page₀ × ChangesNoted table (t .rules) changes) where
   abbrev sys : System
   sys = saturatedIn table
 
@@ -69,7 +69,7 @@ module _ {table : List ℕ} {t : Table} {changes log : List ℕ} {count room : �
   }
 
   -- the rules are a number of 32 bits, and the greatest length is counted with them
-  pub working-small : {s page : List ℕ} {w : Work} → Working table room ns page₀ s page w → (w .rules ≤ 1000000) × (w .rules ≤ greatest (lengthAt (w .highest)))
+  pub working-small : {s page : List ℕ} {w : Work} → Working table room ns page₀ s page w → (w .rules ≤ longestRun) × (w .rules ≤ greatest (lengthAt (w .highest)))
   working-small {w = w} v = (omega (arith, going-count (v .going), pre .2 .few), omega (arith, v .going .lengths p0, v .going .under p0, greatest-most (lengthAt (w .highest)) p0))
 
   pub working-end : {s page : List ℕ} {w : Work} → w .top ≤ 0 → Working table room ns page₀ s page w → Unfolded (saturatedIn table) ns page₀ page (greatest (lengthAt (w .highest)) - w .rules)
@@ -213,7 +213,7 @@ module _ {changes log s page : List ℕ} {w : Work} {x round : ℕ} (top : x ≡
 
 -- ---- for the callers: the start's path is unfoldable where its steps fit the page
 pub path-unfoldable : {table : List ℕ} {t : Table} {log : List ℕ} {count : ℕ} → LimitLog table t log count → (p : Path) → startPath (saturatedIn table) ≡ some p → (ns page : List ℕ) → ns ≡ p .numbers
-    → pathSteps (limit (saturatedIn table)) (p .numbers) ≤ length page → pathSteps (limit (saturatedIn table)) (p .numbers) ≤ 1000000 → Unfoldable (saturatedIn table) ns page
+    → pathSteps (limit (saturatedIn table)) (p .numbers) ≤ length page → pathSteps (limit (saturatedIn table)) (p .numbers) ≤ longestRun → Unfoldable (saturatedIn table) ns page
 path-unfoldable {table} {t} {log} {count} lent p is ns page e fits few = rw e (
     let k = saturatedAt (saturatedIn table) in
     let found = accepting-path-found (saturatedIn table) (limit (saturatedIn table)) (systemIn table .start) p is .0 in

@@ -1,16 +1,17 @@
--- One turn of the unfolding, in terms of the log's bytes: the record on top of the stack goes, and its path takes its place.
+-- One turn of the unfolding, in terms of the log's bytes: the record on top of the stack goes, and its path takes its
+-- place.
 use mathlib.Core.Path.{_≡_}
 use mathlib.Core.Bool.{cond}
 use mathlib.Core.List.{List, [], _∷_, _++_}
 use Prim.Native.Nat.{ℕ, zero, suc, _+_, _-_, _<_, _≤_}
 use lib.Dec.{eqb, leb}
 use lib.ListN.{length, set}
-use Rattle.model.specs.Log.{noNumber}
+use Rattle.model.specs.Log.{noNumber, longestRun}
 use Rattle.model.specs.Tables.{writtenPlaces}
 use Rattle.model.specs.Records.{roundAt, ruleAt, placeAt, numberAt}
 use Rattle.records.specs.Entries.{HasRecord}
 use Rattle.lengths.specs.Projections.{Addable, Added, Countable, Raised, changesLength, noted, ruleCeiling}
-use Rattle.stack.specs.StackNumbers.{stackPlace, stackOf}
+use Rattle.scratch.specs.StackNumbers.{stackPlace, stackOf}
 use Rattle.unfold.specs.declared.Work.{Work}
 
 -- how many of k path places of record x from place j on stand before the first that has FFFF
@@ -46,7 +47,7 @@ pub record Pushed (s : List ℕ) (top : ℕ) (ns : List ℕ) (s′ : List ℕ) (
 pub record Replaceable (changes log s page : List ℕ) (w : Work) (x : ℕ) : Type 0 where
   pub room : StackRoom s (w .top - 1 + length (places log x))
   pub page-room : w .rules < length page
-  pub few : w .rules ≤ 1000000
+  pub few : w .rules ≤ longestRun
   pub rule : ruleAt log x < ruleCeiling
   pub size : length changes ≡ changesLength
   pub addable : Addable changes (ruleAt log x) (w .lengths)
@@ -72,5 +73,7 @@ pub record Workable (changes log s page : List ℕ) (w : Work) : Type 0 where
   pub replaceable : (roundAt log (topRecord s w) ≡ 0 → ⊥) → Replaceable changes log s page w (topRecord s w)
 
 pub record Worked (changes log s page : List ℕ) (w : Work) (s′ page′ : List ℕ) (r : Work) : Type 0 where
-  pub skipped : roundAt log (topRecord s w) ≡ 0 → (s′ ≡ s) × (page′ ≡ page) × (r ≡ record { top = w .top - 1; rules = w .rules; lengths = w .lengths; highest = w .highest })
+  pub skipped : roundAt log (topRecord s w) ≡ 0
+      → (s′ ≡ s) × (page′ ≡ page)
+      × (r ≡ record { top = w .top - 1; rules = w .rules; lengths = w .lengths; highest = w .highest })
   pub replaced : (roundAt log (topRecord s w) ≡ 0 → ⊥) → Replaced changes log s page w (topRecord s w) s′ page′ r

@@ -13,8 +13,8 @@ use records::NO_NUMBER;
 use records::place_at;
 use records::round_at;
 use records::rule_at;
-use stack::number_at;
-use stack::put_number;
+use scratch::stack::number_at;
+use scratch::stack::put_number;
 use table::Table;
 ghost use mathlib.Core.Path.{_≡_};
 ghost use Prim.Native.Nat.{_+_, _-_, _<_, _≤_};
@@ -22,10 +22,10 @@ ghost use lib.ListN.{length};
 ghost use Rattle.model.specs.Tables.{writtenPlaces};
 ghost use Rattle.records.specs.Entries.{HasRecord};
 ghost use Rattle.table.specs.Reading.{saturatedIn};
-ghost use Rattle.stack.specs.StackNumbers.{stackOf};
+ghost use Rattle.scratch.specs.StackNumbers.{stackOf};
 ghost use Rattle.model.specs.Calls.{scratchFor};
-ghost use Rattle.stack.specs.RoundLogs.{LimitLog};
-ghost use Rattle.lengths.specs.Projections.{Noted};
+ghost use Rattle.logs.specs.RoundLogs.{LimitLog};
+ghost use Rattle.lengths.specs.Projections.{ChangesNoted};
 ghost use Rattle.unfold.specs.Runs.{Unfoldable, Unfolded};
 ghost use Rattle.unfold.specs.Turns.{pathLength, placeBelow, places, StackRoom, Pushed, Replaceable, Replaced, Workable, Worked};
 
@@ -138,7 +138,7 @@ fn work_off(
     count: usize,
     top: usize,
 ) -> u32
-    requires { ⌜ LimitLog (now table) t (now log) count × (scratchFor count ≤ length (now scratch)) × Unfoldable (saturatedIn (now table)) (stackOf (now scratch) top) (now page) × Noted (now table) (t .rules) (now changes) ⌝ }
+    requires { ⌜ LimitLog (now table) t (now log) count × (scratchFor count ≤ length (now scratch)) × Unfoldable (saturatedIn (now table)) (stackOf (now scratch) top) (now page) × ChangesNoted (now table) (t .rules) (now changes) ⌝ }
     ensures { λ r. ⌜ Unfolded (saturatedIn (now (table .entry))) (stackOf (now (scratch .entry)) top) (now (page .entry)) (now (page .exit)) r ⌝ }
 {
     let lengths = start_lengths(table, t);

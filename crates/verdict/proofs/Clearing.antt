@@ -3,21 +3,14 @@ use mathlib.Core.Path.{_≡_, ap, _∙_}
 use mathlib.Core.List.{List, _++_}
 use Prim.Native.Nat.{ℕ, _-_, _*_, _<_}
 use native.Mathlib.Omega.{arith}
-use lib.ListN.{length, getD, take, drop, replicate, length-append, length-drop, List·getD-append}
+use lib.ListN.{length, getD, take, replicate, length-append, List·getD-append}
 use lib.Seq.{getD-take, length-take-le}
-use Rattle.model.specs.Calls.{zeros}
 use Rattle.model.specs.Records.{recordLength, letterAt}
 use Rattle.numbers.proofs.NumberBytes.{number-same}
 use Rattle.scratch.specs.Regions.{ringsAt}
-use Rattle.records.proofs.Parts.{part-back, part-rest}
 use Rattle.packs.specs.Packs.{packedBefore}
 use Rattle.rings.proofs.Keeping.{ringed-log}
 use Rattle.start.specs.Regions.{Linked}
-
-pub zeros-behind : (l ys : List ℕ) (a : ℕ) → ys ≡ zeros (take (length l - a) (drop a l))
-    → take a l ++ (ys ++ drop (length l - a) (drop a l)) ≡ take a l ++ replicate (length l - a) 0
-zeros-behind l ys a e = part-back l ys a
-    ∙ ap (λ (zs : List ℕ). take a l ++ zs) (e ∙ ap (λ (n : ℕ). replicate {A = ℕ} n 0) (ap length (part-rest l a) ∙ length-drop a l))
 
 -- zeros behind the records leave their rings as they are
 pub linked-cleared : {log log′ : List ℕ} {count n : ℕ} {s : List ℕ} → log′ ≡ take (count * recordLength) log ++ replicate (length log - count * recordLength) 0

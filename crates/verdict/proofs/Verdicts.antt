@@ -11,7 +11,7 @@ use lib.Seq.{take-at}
 use borrow.Author.Tests.{ltb-false}
 use Rattle.model.specs.declared.Ran.{Ran}
 use Rattle.model.specs.Calls.{zeros, filled, verdict, startPath, isLong, pageAfter}
-use Rattle.model.specs.Log.{Record, Path, limit, rounds, saturatedAt}
+use Rattle.model.specs.Log.{Record, Path, limit, rounds, saturatedAt, longestRun}
 use Rattle.model.specs.Unfolding.{emitted, pathSteps}
 use Rattle.model.proofs.Closing.{zeros-same}
 use Rattle.model.proofs.Copies.{peak-copy}
@@ -19,13 +19,13 @@ use Rattle.model.proofs.Reachability.{answer-steps}
 use Rattle.model.proofs.Tests.{or-left, or-right}
 use Rattle.table.specs.declared.Table.{Table}
 use Rattle.table.specs.Reading.{saturatedIn, systemIn}
-use Rattle.stack.specs.StackNumbers.{stackOf}
+use Rattle.scratch.specs.StackNumbers.{stackOf}
 use Rattle.start.specs.declared.StartPath.{StartPath}
 use Rattle.start.specs.declared.StartPath.the-variants.{NoPath, Found}
 use Rattle.start.specs.Search.{startFound, Sought}
 use Rattle.unfold.specs.Runs.{Unfoldable, Unfolded}
 use Rattle.unfold.proofs.Working.{path-unfoldable}
-use Rattle.verdict.specs.Verdicts.{stated, Settled, PathOnStack, startRun, RunLeft}
+use Rattle.verdict.specs.Verdicts.{stated, AtLimit, PathOnStack, startRun, RunLeft}
 
 -- ---- the verdict
 stated-found : (log : List Record) (o : Option Path) → stated (startFound log o) (length log) (rounds log) ≡ verdict log o
@@ -33,14 +33,14 @@ unfolding stated
 stated-found log none = refl
 stated-found log (some p) = refl
 
-pub verdict-stated : {table : List ℕ} {t : Table} {log : List ℕ} {n count most : ℕ} {s : List ℕ} → Settled table t log n count most s → {answer : StartPath} {s′ : List ℕ}
+pub verdict-stated : {table : List ℕ} {t : Table} {log : List ℕ} {n count most : ℕ} {s : List ℕ} → AtLimit table t log n count most s → {answer : StartPath} {s′ : List ℕ}
     → Sought table t (saturatedAt (saturatedIn table)) answer s′ → stated answer count most ≡ verdict (limit (saturatedIn table)) (startPath (saturatedIn table))
 verdict-stated {table} w f = rw (f .given, sym (w .log-of .size), w .highest) (stated-found (limit (saturatedIn table)) (startPath (saturatedIn table)))
 
 -- ---- whether a run is long
-pub short-fits : (steps room : ℕ) → isLong steps room ≡ false → (steps ≤ room) × (steps ≤ 1000000)
+pub short-fits : (steps room : ℕ) → isLong steps room ≡ false → (steps ≤ room) × (steps ≤ longestRun)
 short-fits steps room e =
-    (ltb-false room steps (or-left (ltb room steps) (ltb 1000000 steps) e), ltb-false 1000000 steps (or-right (ltb room steps) (ltb 1000000 steps) e))
+    (ltb-false room steps (or-left (ltb room steps) (ltb longestRun steps) e), ltb-false longestRun steps (or-right (ltb room steps) (ltb longestRun steps) e))
 
 -- ---- the run of a path on the stack
 -- the page with the run, and zeros behind it
@@ -87,7 +87,7 @@ path-found : (log : List Record) (o : Option Path) (steps : ℕ) → Found steps
 path-found log none steps e = let z : _≡_ {A = ℕ} 0 1 = cc in absurd (omega arith)
 path-found log (some p) steps e = (p, refl, cc)
 
-module _ {table : List ℕ} {t : Table} {log : List ℕ} {n count most : ℕ} {s : List ℕ} (w : Settled table t log n count most s) {answer : StartPath} {s₁ : List ℕ}
+module _ {table : List ℕ} {t : Table} {log : List ℕ} {n count most : ℕ} {s : List ℕ} (w : AtLimit table t log n count most s) {answer : StartPath} {s₁ : List ℕ}
     (f : Sought table t (saturatedAt (saturatedIn table)) answer s₁) (size : length s₁ ≡ length s) where
   pub run-none : {page s₂ : List ℕ} → answer ≡ NoPath → s₂ ≡ zeros s₁ → RunLeft table s page (Ran.Refused 16 0) s₂ page
   unfolding pageAfter

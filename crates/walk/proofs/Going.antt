@@ -15,7 +15,7 @@ use Rattle.model.proofs.Participation.{counts-below}
 use Rattle.table.specs.declared.Table.{Table}
 use Rattle.table.specs.Reading.{systemIn}
 use Rattle.firing.specs.declared.Fired.{Fired}
-use Rattle.firing.specs.declared.Placed.{Placed}
+use Rattle.model.specs.declared.Placed.{Placed}
 use Rattle.firing.specs.Piles.{configuration}
 use Rattle.steps.specs.Stepping.{InShape, StepRefused, StepTaken}
 use Rattle.walk.specs.Walking.{Stopped}

@@ -18,15 +18,15 @@ use Rattle.model.proofs.Closing.{refusal-changes-nothing}
 use Rattle.model.proofs.Main.{demand-2-walk, took-part}
 use Rattle.model.proofs.Tests.{by-test}
 use Rattle.model.proofs.WalkDemand.{counted-more, demand-more, figures-behind}
-use Rattle.automaton.specs.StateNumbers.{Over}
+use Rattle.states.specs.StateNumbers.{Over}
 use Rattle.table.specs.declared.Table.{Table}
 use Rattle.table.specs.declared.Parsed.the-variants.{Refused}
 use Rattle.table.specs.Reading.{Holds, parsed, systemIn}
 use Rattle.table.proofs.Readings.{holds-read, refused-reading}
 use Rattle.table.proofs.Layouts.{pile-count}
-use Rattle.shapes.specs.Shapes.{presentIn}
-use Rattle.shapes.proofs.Shapes.{start-over, start-lettered}
-use Rattle.firing.specs.declared.Placed.{Placed}
+use Rattle.table.specs.Present.{presentIn}
+use Rattle.table.proofs.Configurations.{start-over, start-lettered}
+use Rattle.model.specs.declared.Placed.{Placed}
 use Rattle.firing.specs.Piles.{configuration}
 use Rattle.walk.specs.declared.Stop.{Stop}
 use Rattle.walk.specs.declared.Halted.{Halted}

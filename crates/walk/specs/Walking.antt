@@ -31,7 +31,8 @@ pub record Stopped (table : List ℕ) (t : Table) (list : List ℕ) (h : Halt) (
   pub rest : drop (s .at) list ≡ h .rest
   pub answer : answerAt (systemIn table) s (configuration pile′ (s .placed)) ≡ h .answer
   pub counts : s .counts ≡ stepCounts (systemIn table) (firedRules list (h .answer))
-  pub word : (pile : List ℕ) → valueOr pile (λ (w : List ℕ). filled w pile) (h .pile) ≡ filled (drop (s .placed .top) pile′) pile
+  pub word : (pile : List ℕ)
+      → valueOr pile (λ (w : List ℕ). filled w pile) (h .pile) ≡ filled (drop (s .placed .top) pile′) pile
 
 -- ---- the call
 -- refused before the first step, with a list of n rules: the part handed back begins at its end

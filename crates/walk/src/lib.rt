@@ -1,15 +1,15 @@
 // The walk call: rules fired one after the other from the table's start. While it walks, the word stands at the end of the pile buffer.
 use acceptance::is_accepted;
-use automaton::sets;
-use firing::Placed;
+use buffers::clear;
+use model::Placed;
 use model::Walked;
 use numbers::as_bit;
 use numbers::wide_two;
 use reading::read;
 use scratch::NEEDED_BY_WALK;
 use steps::Taken;
+use steps::bring_front;
 use steps::place_start;
-use steps::settle;
 use steps::take_step;
 use table::Parsed;
 use table::Table;
@@ -87,7 +87,7 @@ fn conclude(table: &[u8], t: Table, pile: &[u8], s: Stop, scratch: &mut [u8]) ->
 {
     let number = s.number;
     if number != 0 {
-        sets::clear(scratch);
+        clear(scratch);
         return Walked::Refused {
             number,
             place: s.at,
@@ -114,7 +114,7 @@ fn walk_placed(table: &[u8], t: Table, list: &[u16], pile: &mut [u8], scratch: &
     let stop = take_steps(table, t, list, pile, start);
     let answer = conclude(table, t, pile, stop, scratch);
     let c = stop.placed;
-    settle(pile, c.top);
+    bring_front(pile, c.top);
     let counts = stop.counts;
     Halted {
         answer,
@@ -150,7 +150,7 @@ fn walk_accepted(
     }
     let count = t.pile;
     if pile.len() < count {
-        sets::clear(scratch);
+        clear(scratch);
         return halt_before(14, 0, list);
     }
     walk_placed(table, t, list, pile, scratch)

@@ -10,15 +10,12 @@ use lib.Bits.{bitAnd}
 use lib.Dec.{leb, ltb}
 use lib.ListN.{length}
 use borrow.Author.Tests.{le-leb, lt-leb, lt-ltb, le-ltb, leb-true, ltb-true}
-use Rattle.model.proofs.Tests.{by-test, same-test, and-left, and-right}
+use Rattle.model.proofs.Tests.{by-test, same-test, and-left, and-right, or-true-left}
 use Rattle.model.specs.Records.{numberAt}
 use Rattle.numbers.specs.NumberBytes.{withNumber}
 use Rattle.numbers.proofs.NumberBytes.{AllBytes, byte-kept, length-number, number-bytes}
 use Rattle.wordsets.specs.WordSets.{hasBit, inSet, wordSum, gains, inWords, OutsideSet, SetsApart, RowAdded, inBlock, BlockFits, RecordAdded}
 use Rattle.wordsets.proofs.Bits.{bit-and, bit-shr, number-bit, number-none, written-bit, sum-bit, in-same, in-word}
-
-or-left : (a b : Bool) → a ≡ true → (a || b) ≡ true
-or-left a b e = rw e
 
 or-more : (a b c g : Bool) → (b ≡ true → c ≡ true) → (a || (b && g)) ≡ true → (a || (c && g)) ≡ true
 or-more true b c g m e = refl
@@ -233,6 +230,6 @@ record-turn {from} {to} {y} {x} {rest} {rows} {words} {h} {s} {t} {u} common row
       let place = 64 * (x / 64 + (8 * i + w)) + (x % 64 + j) in
       elim (ℕ-discrete h i) [
         | yes e ↦ r .shared j (8 * i + w) (and-right (hasBit common j) (hasBit row j) both) f (omega arith) (omega arith)
-        | no e ↦ r .members place (omega (arith, fits .before)) ∙ or-left (inSet t to place) _ (b .shared j i w (and-left (hasBit common j) (hasBit row j) both) f (omega arith) q)
+        | no e ↦ r .members place (omega (arith, fits .before)) ∙ or-true-left (inSet t to place) _ (b .shared j i w (and-left (hasBit common j) (hasBit row j) both) f (omega arith) q)
       ];
 }

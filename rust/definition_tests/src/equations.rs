@@ -10,7 +10,7 @@ use mathlib.Core.List.{List, [], _∷_, map}
 use Prim.Native.Nat.{ℕ, suc, _+_}
 use lib.IntN.{ℤ, pos, negsuc}
 use lib.ListN.{take}
-use Rattle.model.specs.declared.Window.{Window}
+use Rattle.plan_model.specs.declared.Window.{Window}
 use Rattle.model.specs.Groups.{greatest, sameGroup, processBits, restrict, merge}
 use Rattle.model.specs.Words.{tops}
 use Rattle.model.specs.Systems.{enabled, fire}
@@ -21,10 +21,11 @@ use Rattle.model.specs.Unfolding.{acceptingPath, emittedBy}
 use Rattle.model.specs.Records.{recordBytes}
 use Rattle.model.specs.Participation.{withStep}
 use Rattle.model.specs.Calls.{recordsOf, runOf, scratchAfter, logAfter, pageAfter, answerGiven, answerCall, runCall, walkCall, answerFigures, runGiven, runFigures, walkCounts, walkGiven, walkFigures}
-use Rattle.model.specs.Desks.{fires, saves, returns, forgets, checks, deskCall}
-use Rattle.model.specs.Hours.{beginOf, beginsFrom, boundOf, delay, endedAt, firstFrom, firstNever, fits, hoursFit, lengthsFit, neverFits, planBegins, planCall, planFits, planGiven, plannedPlace, plannedRefusal, runFits, startFits}
-use Rattle.model.specs.SmallTables.{trace, used}
-use Rattle.model.specs.SmallPlans.{from-to}
+use Rattle.desk_model.specs.Desks.{fires, saves, returns, forgets, findings, deskCall}
+use Rattle.plan_model.specs.Hours.{beginOf, beginsFrom, boundOf, delay, endedAt, firstAmong, firstNever, fits, hoursFit, lengthsFit, neverFits, planBegins, planCall, planFits, planGiven, plannedPlace, plannedRefusal, runFits, startFits}
+use Rattle.model.specs.SmallTables.{used}
+use Rattle.desk_model.specs.SmallDesks.{trace}
+use Rattle.plan_model.specs.SmallPlans.{from-to}
 
 abbrev answered : List ℕ → ℕ → ℕ → List (List ℕ)
 answered table log scratch =
@@ -50,7 +51,7 @@ planned table run hours counts lengths start places =
 ";
 
 /// The definitions that an equation may unfold.
-const UNFOLDING: &str = "unfolding greatest sameGroup processBits restrict merge tops enabled fire leavesControl reenters copies subsets mixed mixtures copied isOutOfTurn groupFits transitionFits writtenFit valueFits cooperates isNarrow isReentry isTwin refusal readFrom read systemOf readsAt keyLess sameKey additions logAt firstSaturated saturatedAt acceptingPath emittedBy recordBytes recordsOf runOf scratchAfter logAfter pageAfter answerGiven answerCall runGiven runCall walkCounts walkGiven withStep walkCall checks deskCall fits firstFrom delay boundOf endedAt beginOf beginsFrom neverFits firstNever hoursFit lengthsFit startFits runFits planFits planGiven planBegins planCall";
+const UNFOLDING: &str = "unfolding greatest sameGroup processBits restrict merge tops enabled fire leavesControl reenters copies subsets mixed mixtures copied isOutOfTurn groupFits transitionFits writtenFit valueFits cooperates isNarrow isReentry isTwin refusal readFrom read systemOf readsAt keyLess sameKey additions logAt firstSaturated saturatedAt acceptingPath emittedBy recordBytes recordsOf runOf scratchAfter logAfter pageAfter answerGiven answerCall runGiven runCall walkCounts walkGiven withStep walkCall findings deskCall fits firstAmong delay boundOf endedAt beginOf beginsFrom neverFits firstNever hoursFit lengthsFit startFits runFits planFits planGiven planBegins planCall";
 
 /// A call's outcome by the definitions, and the lists that it shall be.
 pub struct Equation {

@@ -18,9 +18,23 @@ Inv-loop table t g k₀ k = Unfound (sameGroup g) (systemIn table .accepting) (g
 abbrev μ-loop : tie.MeasureT-loop
 μ-loop table t g k₀ k = t .accepting - k
 
+returns : tie.Need-returns Inv-loop μ-loop
+returns c =
+    let at-loop = c .before .before .before .before .before in
+    let entry = at-loop .before .before in
+    unfound-here _ _ _ (at-loop .loop .k) (omega (arith, accepting-count _ _ (entry .pre))) (at-loop .loop .inv) (ap (sameGroup _) (sym (c .before .before .accepting-group .ensures)) ∙ sym (c .before .same .ensures) ∙ c .if2 .taken)
+
+loop-again : tie.Need-loop-again Inv-loop μ-loop
+loop-again c =
+    let at-loop = c .before .before .before .before .before in
+    let entry = at-loop .before .before in
+    unfound-turn _ _ _ (at-loop .loop .k) (omega (arith, accepting-count _ _ (entry .pre))) (at-loop .loop .inv) (ap (sameGroup _) (sym (c .before .before .accepting-group .ensures)) ∙ sym (c .before .same .ensures) ∙ c .if2 .left)
+
+returns-2 : tie.Need-returns-2 Inv-loop μ-loop
+returns-2 c =
+    let entry = c .before .before .before .before in
+    unfound-end _ _ (groupOf [] 0) (c .before .before .loop .k) (omega (arith, accepting-count _ _ (entry .pre), c .if1 .left)) (c .before .before .loop .inv)
+
 pub is-accepting-spec : {M : Type 1} → statement M
-is-accepting-spec = tie.close (tie.spec Inv-loop μ-loop (λ c. record { same = refl }) (λ c κs. search needs) (λ c κs. search needs)
-    (λ c. unfound-here _ _ _ (c .before .before .before .before .before .loop .k) (omega (arith, accepting-count _ _ (c .before .before .before .before .before .before .before .pre))) (c .before .before .before .before .before .loop .inv) (ap (sameGroup _) (sym (c .before .before .accepting-group .ensures)) ∙ sym (c .before .same .ensures) ∙ c .if2 .taken))
-    (λ c. omega arith) (λ c. omega arith)
-    (λ c. unfound-turn _ _ _ (c .before .before .before .before .before .loop .k) (omega (arith, accepting-count _ _ (c .before .before .before .before .before .before .before .pre))) (c .before .before .before .before .before .loop .inv) (ap (sameGroup _) (sym (c .before .before .accepting-group .ensures)) ∙ sym (c .before .same .ensures) ∙ c .if2 .left))
-    (λ c. unfound-end _ _ (groupOf [] 0) (c .before .before .loop .k) (omega (arith, accepting-count _ _ (c .before .before .before .before .pre), c .if1 .left)) (c .before .before .loop .inv)))
+is-accepting-spec = tie.close (tie.spec Inv-loop μ-loop (λ c. record { same = refl }) (λ c κs. search needs) (λ c κs. search needs) returns
+    (λ c. omega arith) (λ c. omega arith) loop-again returns-2)

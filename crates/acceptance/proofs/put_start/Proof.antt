@@ -1,10 +1,14 @@
 -- The cleared set with one number put in.
 use mathlib.Core.Path.{_∙_, ap₂}
-use Rattle.automaton.specs.StateSets.{inserted}
+use Rattle.states.specs.StateSets.{inserted}
 use borrow.Author.Needs.{needs}
 use Rattle.acceptance.proofs.put_start.Statement.{statement}
 use Rattle.acceptance.proofs.put_start.Tie as tie
 
+returns : tie.Need-returns
+returns c =
+    let at-clear = c .before .before .before .before .before .before .before in
+    c .before .before .insert .ensures ∙ ap₂ inserted (at-clear .clear .ensures) (c .before .before .before .number .ensures .0)
+
 pub put-start-spec : {M : Type 1} → statement M
-put-start-spec = tie.close (tie.spec (λ c κs. search needs) (λ c κs. search needs) (λ c κs. search needs) (λ c. search needs)
-    (λ c. c .before .before .insert .ensures ∙ ap₂ inserted (c .before .before .before .before .before .before .before .clear .ensures) (c .before .before .before .number .ensures .0)))
+put-start-spec = tie.close (tie.spec (λ c κs. search needs) (λ c κs. search needs) (λ c κs. search needs) (λ c. search needs) returns)

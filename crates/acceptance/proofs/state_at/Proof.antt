@@ -2,7 +2,7 @@
 use mathlib.Core.Path.{refl}
 use borrow.Author.Needs.{needs}
 use Rattle.model.proofs.Groups.{bits-back}
-use Rattle.shapes.specs.Shapes.{presentIn}
+use Rattle.table.specs.Present.{presentIn}
 use Rattle.acceptance.proofs.state_at.Statement.{statement}
 use Rattle.acceptance.proofs.state_at.Tie as tie
 

@@ -11,4 +11,5 @@ returns c =
     copying-is (entry .args .table .now) (entry .args .t) _ (c .is-reentered .ensures) (at-last .before .before .before .states-of .ensures) (at-last .before .before .states-of2 .ensures) (at-last .before .states-of3 .ensures) (at-last .states-of4 .ensures)
 
 pub copying-of-spec : {M : Type 1} → statement M
-copying-of-spec = tie.close (tie.spec (λ c κs. search needs) (λ c κs. search needs) (λ c κs. search needs) (λ c κs. search needs) (λ c κs. search needs) returns)
+copying-of-spec = tie.close (tie.spec (λ c κs. search needs) (λ c κs. search needs) (λ c κs. search needs) (λ c κs. search needs)
+    (λ c κs. search needs) returns)

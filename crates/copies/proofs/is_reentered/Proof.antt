@@ -40,5 +40,5 @@ returns-2 c =
 
 pub is-reentered-spec : {M : Type 1} → statement M
 is-reentered-spec = tie.close (tie.spec Inv-loop μ-loop (λ c. record { within = omega arith; passed = refl })
-    (λ c κs. (c .before .before .before .before .pre, c .if1 .taken))
-    returns (λ c. omega arith) (λ c. omega arith) loop-again returns-2)
+    (λ c κs. let entry = c .before .before .before .before in (entry .pre, c .if1 .taken)) returns (λ c. omega arith) (λ c. omega arith) loop-again
+    returns-2)

@@ -21,4 +21,5 @@ returns c =
 
 pub leaves-spec : {M : Type 1} → statement M
 leaves-spec = tie.close (tie.spec (λ c κs. search needs) (λ c κs. search needs) letter-bits-requires (λ c κs. search needs)
-    (λ c κs. let entry = c .before .before .before .before .before in table-heads (entry .args .table .now) (entry .args .t) (entry .pre .0)) returns)
+    (λ c κs. let place = c .before .before .before .before .before in let entry = place in table-heads (entry .args .table .now) (entry .args .t) (entry .pre .0))
+    returns)

@@ -1,32 +1,32 @@
--- A name above 7 is refused by 18, one that is not held by 17; else the name is freed (Moving).
-use mathlib.Core.Path.{refl}
+-- A name that a check stops is refused; else it is freed (Moving).
 use borrow.Author.Needs.{needs}
-use Rattle.model.specs.Desks as Desks
-use Rattle.desk.proofs.Moving.{bad-refused, empty-refused, moves-forgotten}
+use Rattle.desk_model.specs.Desks as Desks
+use Rattle.desk.proofs.Moving.{forget-stop, moves-refused}
+use Rattle.desk.proofs.Moving as moving
 use Rattle.desk.proofs.forgotten.Statement.{statement}
 use Rattle.desk.proofs.forgotten.Tie as tie
 
 returns : tie.Need-returns
 returns c =
     let at-test = c .before in
-    let entry = at-test .before in
+    let stop = at-test .before .name-stop in
+    let at-place = at-test .before .before .before .before in
+    let entry = at-place .before in
     let a = entry .args in
-    bad-refused (a .t1) (entry .pre) (Desks.forgets (a .name)) (a .name) refl refl (at-test .if1 .taken) (c .refused .result) (c .refused .ensures)
+    let place = at-place .name-place in
+    moves-refused (a .t1) (entry .pre) (Desks.forgets (a .name)) (stop .result)
+    (forget-stop (a .t1) (entry .pre) (a .name) (place .result) (stop .result) (place .ensures .0) (stop .ensures)) (at-test .if1 .taken) (c .refused .result) (c .refused .ensures)
 
 returns-2 : tie.Need-returns-2
 returns-2 c =
-    let at-held = c .before in
-    let at-test = at-held .before .before .before in
-    let entry = at-test .before in
+    let at-test = c in
+    let stop = at-test .before .name-stop in
+    let at-place = at-test .before .before .before .before in
+    let entry = at-place .before in
     let a = entry .args in
-    empty-refused (a .t1) (entry .pre) (a .name) (at-test .if1 .left) (Desks.forgets (a .name)) refl refl refl (at-held .if2 .taken) (c .refused2 .result) (c .refused2 .ensures)
-
-returns-3 : tie.Need-returns-3
-returns-3 c =
-    let at-held = c in
-    let at-test = at-held .before .before .before in
-    let entry = at-test .before in
-    moves-forgotten (entry .args .t1) (entry .pre) (entry .args .name) (at-test .if1 .left) (at-held .if2 .left)
+    let place = at-place .name-place in
+    moving.forgotten (a .t1) (entry .pre) (a .name) (place .result) (stop .result) (place .ensures .0) (stop .ensures) (at-test .if1 .left)
 
 pub forgotten-spec : {M : Type 1} → statement M
-forgotten-spec = tie.close (tie.spec (λ c κs. search needs) returns (λ c. search needs) (λ c. search needs) (λ c κs. search needs) returns-2 (λ c. search needs) (λ c. search needs) returns-3)
+forgotten-spec = tie.close (tie.spec (λ c κs. search needs) (λ c. search needs) (λ c. search needs) (λ c κs. search needs) (λ c κs. search needs)
+    returns (λ c. search needs) (λ c. search needs) returns-2)

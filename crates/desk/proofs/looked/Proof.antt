@@ -4,9 +4,11 @@ use Rattle.desk.proofs.Moving.{sight-is}
 use Rattle.desk.proofs.looked.Statement.{statement}
 use Rattle.desk.proofs.looked.Tie as tie
 
+returns : tie.Need-returns
+returns c =
+    let at-front = c .before in
+    let entry = at-front .before .before .before .before .before in
+    sight-is (entry .args .d) (at-front .bring-front .last .0) (entry .pre) (at-front .bring-front .ensures)
+
 pub looked-spec : {M : Type 1} → statement M
-looked-spec = tie.close (tie.spec (λ c. search needs) (λ c κs. search needs) (λ c. search needs)
-    (λ c.
-    let at-settle = c .before in
-    let entry = at-settle .before .before .before .before .before in
-    sight-is (entry .args .d) (at-settle .settle .last .0) (entry .pre) (at-settle .settle .ensures)))
+looked-spec = tie.close (tie.spec (λ c. search needs) (λ c κs. search needs) (λ c. search needs) returns)

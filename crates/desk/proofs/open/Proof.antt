@@ -30,4 +30,5 @@ returns-2 c =
     opens-done (at-read .before .before .args .table .now) t (c .set-up .result) (record { reading = sym (at-read .read .ensures) ∙ e }) (c .set-up .ensures)
 
 pub open-spec : {M : Type 1} → statement M
-open-spec = tie.close (tie.spec (λ c κs. search needs) (λ c. search needs) (λ c κs. search needs) returns (λ c. search needs) set-up-requires returns-2)
+open-spec = tie.close (tie.spec (λ c κs. search needs) (λ c. search needs) (λ c κs. search needs) returns (λ c. search needs) set-up-requires
+    returns-2)

@@ -19,14 +19,15 @@ returns c =
     opened-desk (a .table .now) (a .t) (placed .result) (replicate longest 0) (at-copy .copy .last .1 .0) (placed .last .1 .1 .0) (entry .pre) (length-replicate {A = ℕ} longest 0) (at-copy .copy .ensures)
     (placed .ensures .0) (placed .ensures .1) (placed .kept .1 .1 .0)
 
-pub set-up-spec : {M : Type 1} → statement M
-set-up-spec = tie.close (tie.spec
-    (λ c. search needs)
-    (λ c κs.
+copy-requires : tie.Need-copy-requires
+copy-requires c κs =
     let entry = c .before .before in
-    table-length (entry .args .table .now) (entry .args .t) (entry .pre))
-    (λ c. search needs)
-    (λ c κs.
+    table-length (entry .args .table .now) (entry .args .t) (entry .pre)
+
+place-start-requires : tie.Need-place-start-requires
+place-start-requires c κs =
     let entry = c .before .before .before .before .before in
-    (entry .pre, omega (arith, table-modest (entry .args .table .now) (entry .args .t) (entry .pre) .pile)))
-    returns)
+    (entry .pre, omega (arith, table-modest (entry .args .table .now) (entry .args .t) (entry .pre) .pile))
+
+pub set-up-spec : {M : Type 1} → statement M
+set-up-spec = tie.close (tie.spec (λ c. search needs) copy-requires (λ c. search needs) place-start-requires returns)

@@ -4,7 +4,7 @@ use Prim.Native.Nat.{ℕ, _+_, _-_}
 use Rattle.model.specs.declared.Group.{Group}
 use Rattle.model.specs.Groups.{merge, processesOf}
 use Rattle.table.specs.Reading.{systemIn, ruleIn}
-use Rattle.shapes.proofs.Shapes.{located}
+use Rattle.table.proofs.Configurations.{located}
 use Rattle.firing.specs.Places.{rewritten}
 use Rattle.firing.proofs.Scans.{place-rest}
 use Rattle.firing.proofs.Firings.{fires-idle, fires-full, fires-done}

@@ -2,8 +2,8 @@
 use mathlib.Core.Path.{sym, ap, _∙_, subst}
 use Prim.Native.Nat.{ℕ, _<_}
 use Rattle.minutes.proofs.Signed.{readBack, read-back}
-use Rattle.model.specs.Hours.{minuteOfWeek, weekMinutes, weekOf}
-use Rattle.model.proofs.Weeks.{minute-below}
+use Rattle.plan_model.specs.Hours.{minuteOfWeek, weekMinutes, weekOf}
+use Rattle.plan_model.proofs.Weeks.{minute-below}
 use Rattle.hours.specs.Searching.{stepBy}
 use Rattle.hours.proofs.Skipping.{minutes-told}
 use borrow.Author.Needs.{needs}
@@ -40,5 +40,4 @@ returns-2 c =
 
 pub delay-of-spec : {M : Type 1} → statement M
 delay-of-spec =
-    tie.close
-    (tie.spec (λ c κs. search needs) wait-from-requires (λ c. search needs) returns enum-told returns-2)
+    tie.close (tie.spec (λ c κs. search needs) wait-from-requires (λ c. search needs) returns enum-told returns-2)

@@ -1,6 +1,6 @@
 -- What the search from Monday 00:00 on tells is whether the step ever fits (Skipping).
 use mathlib.Core.Path.{sym, ap, _∙_}
-use Rattle.model.specs.Hours.{weekOf}
+use Rattle.plan_model.specs.Hours.{weekOf}
 use Rattle.hours.specs.Searching.{stepBy}
 use Rattle.hours.proofs.Skipping.{never-told, saysNever}
 use borrow.Author.Needs.{needs}

@@ -10,12 +10,14 @@ returns c = let s = c .before .before .before .args in rw (lt-leb (s .w .opens) 
 
 returns-2 : tie.Need-returns-2
 returns-2 c =
-    let s = c .before .before .before .before .args in
+    let entry = c .before .before .before .before in
+    let s = entry .args in
     rw (le-leb (s .w .opens) (s .m) (omega arith), lt-ltb (s .latest) (s .w .closes) (omega arith)) (c .before .before .wide-two2 .ensures .0)
 
 returns-3 : tie.Need-returns-3
 returns-3 c =
-    let s = c .before .before .before .before .args in
+    let entry = c .before .before .before .before in
+    let s = entry .args in
     rw (le-leb (s .w .opens) (s .m) (omega arith), le-ltb (s .latest) (s .w .closes) (omega arith))
 
 pub later-closing-spec : {M : Type 1} → statement M

@@ -1,7 +1,7 @@
 -- The windows that were looked at keep the process open up to the latest closing (Windows).
 use native.Mathlib.Omega.{arith}
 use Prim.Native.Nat.{_-_, _≤_, _<_}
-use Rattle.model.specs.Hours.{weekMinutes, windowPlaces}
+use Rattle.plan_model.specs.Hours.{weekMinutes, windowPlaces}
 use Rattle.hours.proofs.Windows.{Reaching, reaching-start, reaching-turn, reaching-end}
 use Rattle.hours.proofs.open_until.Statement.{statement}
 use Rattle.hours.proofs.open_until.Tie as tie
@@ -38,16 +38,5 @@ returns-2 c =
 
 pub open-until-spec : {M : Type 1} → statement M
 open-until-spec =
-    tie.close
-    (tie.spec
-    Inv-loop
-    μ-loop
-    loop-holds
-    (λ c. omega arith)
-    (λ c. omega arith)
-    later-closing-requires
-    (λ c. omega arith)
-    (λ c. omega arith)
-    loop-again
-    returns
-    returns-2)
+    tie.close (tie.spec Inv-loop μ-loop loop-holds (λ c. omega arith) (λ c. omega arith) later-closing-requires (λ c. omega arith) (λ c. omega arith)
+    loop-again returns returns-2)

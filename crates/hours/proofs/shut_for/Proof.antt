@@ -5,7 +5,7 @@ use mathlib.Core.Path.{_≡_, ap, _∙_}
 use Prim.Native.Nat.{_-_, _≤_, _<_, min}
 use lib.IntN.{pos}
 use lib.ListN.{take}
-use Rattle.model.specs.Hours.{isOpen, weekMinutes, windowPlaces}
+use Rattle.plan_model.specs.Hours.{isOpen, weekMinutes, windowPlaces}
 use Rattle.hours.proofs.Windows.{Shutting, shutting-start, shutting-turn, shutting-end}
 use Rattle.hours.proofs.shut_for.Statement.{statement}
 use Rattle.hours.proofs.shut_for.Tie as tie
@@ -41,16 +41,5 @@ returns c =
 
 pub shut-for-spec : {M : Type 1} → statement M
 shut-for-spec =
-    tie.close
-    (tie.spec
-    Inv-loop
-    μ-loop
-    loop-holds
-    (λ c. omega arith)
-    (λ c. omega arith)
-    until-opening-requires
-    smaller-of-requires
-    (λ c. omega arith)
-    (λ c. omega arith)
-    loop-again
-    returns)
+    tie.close (tie.spec Inv-loop μ-loop loop-holds (λ c. omega arith) (λ c. omega arith) until-opening-requires smaller-of-requires (λ c. omega arith)
+    (λ c. omega arith) loop-again returns)

@@ -2,7 +2,7 @@
 use native.Mathlib.Omega.{arith}
 use Prim.Native.Nat.{_-_, _≤_, _<_}
 use lib.ListN.{take}
-use Rattle.model.specs.Hours.{longestStep, weekMinutes, windowPlaces}
+use Rattle.plan_model.specs.Hours.{longestStep, weekMinutes, windowPlaces}
 use Rattle.hours.proofs.Skipping.{Staying, staying-end, staying-start, staying-stop, staying-turn}
 use Rattle.hours.proofs.skip_at.Statement.{statement}
 use Rattle.hours.proofs.skip_at.Tie as tie
@@ -58,18 +58,5 @@ returns-2 c =
 
 pub skip-at-spec : {M : Type 1} → statement M
 skip-at-spec =
-    tie.close
-    (tie.spec
-    Inv-loop
-    μ-loop
-    loop-holds
-    (λ c. omega arith)
-    open-until-requires
-    shut-for-requires
-    add-result
-    returns
-    sub-run
-    add-run
-    loop-less
-    loop-again
-    returns-2)
+    tie.close (tie.spec Inv-loop μ-loop loop-holds (λ c. omega arith) open-until-requires shut-for-requires add-result returns sub-run add-run
+    loop-less loop-again returns-2)

@@ -1,7 +1,7 @@
 -- The processes looked at stay open for the whole length, until one does not (Skipping).
 use native.Mathlib.Omega.{arith}
 use Prim.Native.Nat.{_-_, _≤_, _<_}
-use Rattle.model.specs.Hours.{longestStep, weekMinutes, weekOf}
+use Rattle.plan_model.specs.Hours.{longestStep, weekMinutes, weekOf}
 use Rattle.table.specs.Reading.{processAt}
 use Rattle.hours.specs.Searching.{stepBy}
 use Rattle.hours.proofs.Skipping.{OpenBelow, open-below-end, open-below-start, open-below-turn, passes-by}
@@ -41,14 +41,4 @@ returns-2 c =
 
 pub skip-for-spec : {M : Type 1} → statement M
 skip-for-spec =
-    tie.close
-    (tie.spec
-    Inv-loop
-    μ-loop
-    loop-holds
-    skip-process-requires
-    returns
-    (λ c. omega arith)
-    (λ c. omega arith)
-    loop-again
-    returns-2)
+    tie.close (tie.spec Inv-loop μ-loop loop-holds skip-process-requires returns (λ c. omega arith) (λ c. omega arith) loop-again returns-2)

@@ -1,6 +1,6 @@
 -- A process without a part passes over nothing; one with a part, what its windows tell (Skipping).
 use mathlib.Core.Path.{sym, _∙_}
-use Rattle.model.specs.Hours.{weekOf}
+use Rattle.plan_model.specs.Hours.{weekOf}
 use Rattle.table.specs.Reading.{processAt}
 use Rattle.hours.specs.Searching.{stepBy}
 use Rattle.hours.proofs.Skipping.{no-part-passes, part-passes, week-at}
@@ -25,13 +25,5 @@ returns-2 c =
 
 pub skip-process-spec : {M : Type 1} → statement M
 skip-process-spec =
-    tie.close
-    (tie.spec
-    (λ c κs. search needs)
-    (λ c. search needs)
-    (λ c. search needs)
-    (λ c. search needs)
-    (λ c κs. search needs)
-    (λ c κs. search needs)
-    returns
-    returns-2)
+    tie.close (tie.spec (λ c κs. search needs) (λ c. search needs) (λ c. search needs) (λ c. search needs) (λ c κs. search needs)
+    (λ c κs. search needs) returns returns-2)

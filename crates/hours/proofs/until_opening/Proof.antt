@@ -3,7 +3,7 @@ use native.Mathlib.Omega.{arith}
 use mathlib.Core.Path.{ap}
 use Prim.Native.Nat.{ℕ, _+_, _-_}
 use borrow.Author.Tests.{le-ltb, lt-ltb}
-use Rattle.model.specs.Hours.{weekMinutes}
+use Rattle.plan_model.specs.Hours.{weekMinutes}
 use borrow.Author.Needs.{needs}
 use Rattle.hours.proofs.until_opening.Statement.{statement}
 use Rattle.hours.proofs.until_opening.Tie as tie

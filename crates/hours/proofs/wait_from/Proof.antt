@@ -1,7 +1,7 @@
 -- The minutes passed over do not fit; the first that is not passed over does (Skipping).
 use native.Mathlib.Omega.{arith}
 use Prim.Native.Nat.{_-_, _≤_, _<_}
-use Rattle.model.specs.Hours.{longestStep, weekMinutes, weekOf}
+use Rattle.plan_model.specs.Hours.{longestStep, weekMinutes, weekOf}
 use Rattle.hours.specs.Searching.{stepBy}
 use Rattle.hours.proofs.Skipping.{Missed, missed-all, missed-found, missed-start, missed-turn}
 use Rattle.hours.proofs.wait_from.Statement.{statement}
@@ -45,15 +45,4 @@ returns-2 c =
 
 pub wait-from-spec : {M : Type 1} → statement M
 wait-from-spec =
-    tie.close
-    (tie.spec
-    Inv-loop
-    μ-loop
-    loop-holds
-    (λ c. omega arith)
-    skip-for-requires
-    returns
-    add-d
-    loop-less
-    loop-again
-    returns-2)
+    tie.close (tie.spec Inv-loop μ-loop loop-holds (λ c. omega arith) skip-for-requires returns add-d loop-less loop-again returns-2)

@@ -15,5 +15,5 @@ returns c =
     (c .scaled .ensures .0 ∙ ap (λ (y : ℕ). scaledTo (a .n) ((y + 8 * a .letter) * mixer + a .x * endMixer)) (at-as-u64 .as-u64 .ensures .0), c .scaled .ensures .1)
 
 pub bucket-spec : {M : Type 1} → statement M
-bucket-spec = tie.close (tie.spec (λ c κs. search needs) (λ c. search needs) (λ c. search needs) (λ c. search needs) (λ c. search needs) (λ c. search needs)
-    (λ c κs. search needs) returns)
+bucket-spec = tie.close (tie.spec (λ c κs. search needs) (λ c. search needs) (λ c. search needs) (λ c. search needs) (λ c. search needs)
+    (λ c. search needs) (λ c κs. search needs) returns)

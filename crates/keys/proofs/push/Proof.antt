@@ -14,4 +14,5 @@ returns c =
     rw (← (at-record-bucket .record-bucket .ensures .0), ← (at-link-at .link-at .ensures .0), ← (at-put-link .put-link .ensures)) (at-put-link2 .put-link2 .ensures)
 
 pub push-spec : {M : Type 1} → statement M
-push-spec = tie.close (tie.spec (λ c κs. search needs) (λ c κs. search needs) (λ c. search needs) (λ c κs. search needs) (λ c κs. search needs) (λ c. search needs) returns)
+push-spec = tie.close (tie.spec (λ c κs. search needs) (λ c κs. search needs) (λ c. search needs) (λ c κs. search needs) (λ c κs. search needs)
+    (λ c. search needs) returns)

@@ -8,12 +8,10 @@ use Rattle.lengths.proofs.changed.Statement.{statement}
 use Rattle.lengths.proofs.changed.Tie as tie
 
 pub changed-spec : {M : Type 1} → statement M
-changed-spec = tie.close (tie.spec (λ c. search needs) (λ c. search needs) (λ c. search needs)
-    (λ c. omega (arith, c .before .before .pre .2 p0))
+changed-spec = tie.close (tie.spec (λ c. search needs) (λ c. search needs) (λ c. search needs) (λ c. omega (arith, c .before .before .pre .2 p0))
     (λ c. search needs) (λ c. search needs) (λ c. search needs)
-    (λ c. omega (arith, c .before .before .before .before .pre .2 p1))
-    (λ c. search needs) (λ c. search needs) (λ c. search needs)
-    (λ c. omega (arith, c .before .before .before .before .before .before .pre .2 p2))
-    (λ c. search needs) (λ c. search needs) (λ c. search needs)
-    (λ c. omega (arith, c .before .before .before .before .before .before .before .before .pre .2 p3))
+    (λ c. let entry = c .before .before .before .before in omega (arith, entry .pre .2 p1)) (λ c. search needs) (λ c. search needs)
+    (λ c. search needs) (λ c. let entry = c .before .before .before .before .before .before in omega (arith, entry .pre .2 p2)) (λ c. search needs)
+    (λ c. search needs) (λ c. search needs)
+    (λ c. let entry = c .before .before .before .before .before .before .before .before in omega (arith, entry .pre .2 p3))
     (λ c. each-process _ refl refl refl refl))

@@ -11,9 +11,12 @@ use Rattle.listing.proofs.put_counted.Tie as tie
 returns : tie.Need-returns
 unfolding counted
 returns c =
-    let v = length (c .before .before .before .before .before .before .before .before .before .before .before .before .before .before .before .before .args .verdict .now) in
-    puts-then (v + 61) (puts-then (v + 33) (c .before .before .before .before .before .before .before .before .before .before .before .before .put-bytes .ensures) (c .before .before .before .before .before .before .before .put-line .ensures) (omega arith) (omega arith)) (c .before .before .put-line2 .ensures) (omega arith) (omega arith)
+    let at-put-line = c .before .before .before .before .before .before .before in
+    let at-put-bytes = at-put-line .before .before .before .before .before in
+    let entry = at-put-bytes .before .before .before .before in
+    let v = length (entry .args .verdict .now) in
+    puts-then (v + 61) (puts-then (v + 33) (at-put-bytes .put-bytes .ensures) (at-put-line .put-line .ensures) (omega arith) (omega arith)) (c .before .before .put-line2 .ensures) (omega arith) (omega arith)
 
 pub put-counted-spec : {M : Type 1} → statement M
-put-counted-spec = tie.close (tie.spec (λ c κs. search needs) (λ c. search needs) (λ c κs. search needs) (λ c. search needs) (λ c κs. search needs) (λ c. search needs)
-    returns)
+put-counted-spec = tie.close (tie.spec (λ c κs. search needs) (λ c. search needs) (λ c κs. search needs) (λ c. search needs) (λ c κs. search needs)
+    (λ c. search needs) returns)

@@ -11,9 +11,13 @@ use Rattle.listing.proofs.put_line.Tie as tie
 returns : tie.Need-returns
 unfolding line
 returns c =
-    let a = c .before .before .before .before .before .before .before .before .before .before .before .before .before .before .before .args in
-    puts-then (length (a .head .now) + 21) (puts-then (length (a .head .now) + 20) (c .before .before .before .before .before .before .before .before .before .before .before .put-bytes .ensures) (c .before .before .before .before .before .before .before .put-number .ensures) (omega arith) (omega arith))
+    let at-put-number = c .before .before .before .before .before .before .before in
+    let at-put-bytes = at-put-number .before .before .before .before in
+    let entry = at-put-bytes .before .before .before .before in
+    let a = entry .args in
+    puts-then (length (a .head .now) + 21) (puts-then (length (a .head .now) + 20) (at-put-bytes .put-bytes .ensures) (at-put-number .put-number .ensures) (omega arith) (omega arith))
     (c .before .before .put-bytes2 .ensures) (omega arith) (omega arith)
 
 pub put-line-spec : {M : Type 1} → statement M
-put-line-spec = tie.close (tie.spec (λ c κs. search needs) (λ c κs. search needs) (λ c. search needs) (λ c κs. search needs) (λ c. search needs) returns)
+put-line-spec = tie.close (tie.spec (λ c κs. search needs) (λ c κs. search needs) (λ c. search needs) (λ c κs. search needs) (λ c. search needs)
+    returns)

@@ -9,10 +9,11 @@ use Rattle.listing.proofs.put_rule.Tie as tie
 
 returns : tie.Need-returns
 returns c =
-    let rule = c .before .before .before .before .before .before .before .before .before .before .args .rule in
-    puts-as 6 (puts-then 21 (c .before .before .before .before .before .before .put-bytes .ensures) (c .before .before .put-number .ensures) (omega arith) (omega arith)) refl (omega (arith, decimal-most 4 rule (omega arith)))
+    let at-put-bytes = c .before .before .before .before .before .before in
+    let entry = at-put-bytes .before .before .before .before in
+    let rule = entry .args .rule in
+    puts-as 6 (puts-then 21 (at-put-bytes .put-bytes .ensures) (c .before .before .put-number .ensures) (omega arith) (omega arith)) refl (omega (arith, decimal-most 4 rule (omega arith)))
 
 pub put-rule-spec : {M : Type 1} → statement M
 put-rule-spec =
-    tie.close
-    (tie.spec (λ c. search needs) (λ c κs. search needs) (λ c κs. search needs) (λ c. search needs) returns)
+    tie.close (tie.spec (λ c. search needs) (λ c κs. search needs) (λ c κs. search needs) (λ c. search needs) returns)

@@ -14,11 +14,14 @@ Inv-loop out₀ at rules end₀ i₀ out end i = (i ≤ length rules) × Puts ou
 abbrev μ-loop : tie.MeasureT-loop
 μ-loop out₀ at rules end₀ i₀ out end i = length rules - i
 
+loop-again : tie.Need-loop-again Inv-loop μ-loop
+loop-again c =
+    let at-loop = c .before .before .before .before .before .before in
+    let entry = at-loop .before .before .before in
+    let m = at-loop .loop in
+    (omega arith, puts-rule (entry .args .rules .now) (m .i) (m .inv .1) (c .before .before .put-rule .ensures) (omega arith) (omega arith))
+
 pub put-rules-spec : {M : Type 1} → statement M
 put-rules-spec = tie.close (tie.spec Inv-loop μ-loop (λ c. (omega arith, puts-none _ _ _ (omega arith))) (λ c. omega arith) (λ c. omega arith)
-    (λ c κs. omega arith) (λ c. omega arith) (λ c. omega arith)
-    (λ c.
-    let m = c .before .before .before .before .before .before .loop in
-    (omega arith, puts-rule (c .before .before .before .before .before .before .before .before .before .args .rules .now) (m .i) (m .inv .1) (c .before .before .put-rule .ensures) (omega arith) (omega arith)))
-    (λ c. c .before .loop .inv .1 .size)
-    (λ c. puts-rules (c .before .before .before .before .args .rules .now) (c .before .loop .i) (c .before .loop .inv .1) (omega arith)))
+    (λ c κs. omega arith) (λ c. omega arith) (λ c. omega arith) loop-again (λ c. c .before .loop .inv .1 .size)
+    (λ c. let entry = c .before .before .before .before in puts-rules (entry .args .rules .now) (c .before .loop .i) (c .before .loop .inv .1) (omega arith)))

@@ -11,9 +11,12 @@ use Rattle.listing.proofs.put_run.Tie as tie
 returns : tie.Need-returns
 unfolding runLine
 returns c =
-    let n = length (c .before .before .before .before .before .before .before .before .before .before .before .before .before .before .before .before .args .rules .now) in
-    puts-then (6 * n + 4) (puts-then (6 * n + 3) (c .before .before .before .before .before .before .before .before .before .before .before .put-bytes .ensures) (c .before .before .before .before .before .before .before .put-rules .ensures) (omega arith) (omega arith)) (c .before .before .put-bytes2 .ensures) (omega arith) (omega arith)
+    let at-put-rules = c .before .before .before .before .before .before .before in
+    let at-put-bytes = at-put-rules .before .before .before .before in
+    let entry = at-put-bytes .before .before .before .before .before in
+    let n = length (entry .args .rules .now) in
+    puts-then (6 * n + 4) (puts-then (6 * n + 3) (at-put-bytes .put-bytes .ensures) (at-put-rules .put-rules .ensures) (omega arith) (omega arith)) (c .before .before .put-bytes2 .ensures) (omega arith) (omega arith)
 
 pub put-run-spec : {M : Type 1} → statement M
-put-run-spec = tie.close (tie.spec (λ c. search needs) (λ c κs. search needs) (λ c κs. search needs) (λ c. search needs) (λ c κs. search needs) (λ c. search needs)
-    returns)
+put-run-spec = tie.close (tie.spec (λ c. search needs) (λ c κs. search needs) (λ c κs. search needs) (λ c. search needs) (λ c κs. search needs)
+    (λ c. search needs) returns)

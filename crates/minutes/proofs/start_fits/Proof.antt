@@ -4,7 +4,7 @@ use mathlib.Core.Path.{_≡_}
 use mathlib.Core.Bool.{true, false}
 use lib.IntN.{negsuc}
 use lib.Signed.{ltZ}
-use Rattle.model.specs.Hours.{startFits}
+use Rattle.plan_model.specs.Hours.{startFits}
 use Rattle.minutes.proofs.start_fits.Statement.{statement}
 use Rattle.minutes.proofs.start_fits.Tie as tie
 

@@ -11,7 +11,8 @@ use Rattle.numbers.proofs.three_at.Tie as tie
 returns : tie.Need-returns
 unfolding numberAt
 returns c =
-    let a = c .before .before .before .before .before .before .before .args in
+    let entry = c .before .before .before .before .before .before .before in
+    let a = entry .args in
     let l = a .s .now in
     let next : a .i + 1 ≡ suc (a .i) = omega arith in
     let after : a .i + 2 ≡ suc (suc (a .i)) = omega arith in
@@ -20,5 +21,6 @@ returns c =
     omega arith
 
 pub three-at-spec : {M : Type 1} → statement M
-three-at-spec = tie.close (tie.spec (λ c. search needs) (λ c κs. search needs) (λ c. search needs) (λ c. search needs) (λ c κs. search needs) (λ c. search needs)
-    (λ c. search needs) (λ c κs. search needs) (λ c. search needs) (λ c. search needs) (λ c. search needs) (λ c. search needs) returns)
+three-at-spec = tie.close (tie.spec (λ c. search needs) (λ c κs. search needs) (λ c. search needs) (λ c. search needs) (λ c κs. search needs)
+    (λ c. search needs) (λ c. search needs) (λ c κs. search needs) (λ c. search needs) (λ c. search needs) (λ c. search needs) (λ c. search needs)
+    returns)

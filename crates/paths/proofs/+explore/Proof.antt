@@ -3,7 +3,7 @@ use mathlib.Core.Path.{refl, sym, _∙_}
 use mathlib.Core.Logic.{⊎-elim}
 use Prim.Native.Nat.{ℕ, _-_, _<_}
 use native.Mathlib.Omega.{arith}
-use Rattle.automaton.proofs.StateSets.{first-at}
+use Rattle.states.proofs.StateSets.{first-at}
 use Rattle.paths.proofs.Looping.{Looping, explored-passed, last-asks, last-explored, looping-again, looping-asks, looping-end, looping-level, looping-log, looping-longer, looping-next, looping-pass, looping-record, looping-scratch, looping-start}
 use borrow.Author.Needs.{needs}
 use borrow.Fn.Kinds.{In}

@@ -5,8 +5,12 @@ use borrow.Author.Tests.{not-true}
 use Rattle.paths.proofs.is_held.Statement.{statement}
 use Rattle.paths.proofs.is_held.Tie as tie
 
+returns : tie.Need-returns
+returns c =
+    let entry = c .before .before .before .before in
+    sym (entry .pre .0 .unheld (not-true (entry .args .job .held) (c .if1 .taken)) (entry .args .x))
+
 pub is-held-spec : {M : Type 1} → statement M
-is-held-spec = tie.close (tie.spec
-    (λ c. let entry = c .before .before .before .before in sym (entry .pre .0 .unheld (not-true (entry .args .job .held) (c .if1 .taken)) (entry .args .x)))
-    (λ c κs. let pre = c .before .before .before .before .pre in pre .0 .room .short)
-    (λ c κs. let pre = c .before .before .before .before .before .pre in rw (c .keys-at .ensures) (pre .0 .room, pre .0 .indexed, pre .1)) (λ c. search needs))
+is-held-spec = tie.close (tie.spec returns (λ c κs. let entry = c .before .before .before .before in let pre = entry .pre in pre .0 .room .short)
+    (λ c κs. let entry = c .before .before .before .before .before in let pre = entry .pre in rw (c .keys-at .ensures) (pre .0 .room, pre .0 .indexed, pre .1))
+    (λ c. search needs))

@@ -2,7 +2,7 @@
 use mathlib.Core.Path.{_≡_, refl, ap, sym, _∙_}
 use mathlib.Core.Bool.{true}
 use Prim.Native.Nat.{ℕ, _+_}
-use Rattle.automaton.specs.StateSets.{member}
+use Rattle.states.specs.StateSets.{member}
 use Rattle.scratch.specs.Regions.{passedBit}
 use Rattle.paths.specs.Jobs.{isPassed}
 use borrow.Author.Needs.{needs}
@@ -29,5 +29,5 @@ returns-3 c =
     rw (first (at-test .before) ∙ at-test .if1 .left) (c .contains2 .ensures ∙ ap (λ (n : ℕ). member (a .scratch .now) (n + a .x)) (c .before .slot2 .ensures .0))
 
 pub is-passed-spec : {M : Type 1} → statement M
-is-passed-spec = tie.close (tie.spec (λ c κs. search needs) (λ c. search needs) (λ c κs. search needs) returns returns-2 (λ c κs. search needs) (λ c. search needs)
-    (λ c κs. search needs) returns-3)
+is-passed-spec = tie.close (tie.spec (λ c κs. search needs) (λ c. search needs) (λ c κs. search needs) returns returns-2 (λ c κs. search needs)
+    (λ c. search needs) (λ c κs. search needs) returns-3)

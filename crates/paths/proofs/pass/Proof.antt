@@ -2,7 +2,7 @@
 use mathlib.Core.Path.{refl, ap, _∙_}
 use Prim.Native.Nat.{ℕ, _+_}
 use borrow.Author.Tests.{eq-eqb, ne-eqb}
-use Rattle.automaton.specs.StateSets.{inserted}
+use Rattle.states.specs.StateSets.{inserted}
 use Rattle.paths.specs.Jobs.{withPassed}
 use borrow.Author.Needs.{needs}
 use Rattle.paths.proofs.pass.Statement.{statement}

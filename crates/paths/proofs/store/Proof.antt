@@ -22,8 +22,10 @@ returns c =
 
 returns-2 : tie.Need-returns-2
 unfolding storedEnd
-returns-2 c = (omega (arith, c .before .if1 .left, c .before .before .before .before .pre .2), rw (le-ltb _ _ (c .before .if1 .left)) refl)
+returns-2 c =
+    let entry = c .before .before .before .before in
+    (omega (arith, c .before .if1 .left, entry .pre .2), rw (le-ltb _ _ (c .before .if1 .left)) refl)
 
 pub store-spec : {M : Type 1} → statement M
-store-spec = tie.close (tie.spec (λ c κs. search needs) (λ c κs. search needs) (λ c κs. search needs) (λ c. search needs) (λ c. search needs) returns (λ c. search needs)
-    returns-2)
+store-spec = tie.close (tie.spec (λ c κs. search needs) (λ c κs. search needs) (λ c κs. search needs) (λ c. search needs) (λ c. search needs) returns
+    (λ c. search needs) returns-2)

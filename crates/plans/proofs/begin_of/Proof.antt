@@ -2,7 +2,7 @@
 use mathlib.Core.Path.{sym, subst, _∙_}
 use mir.Syntax.{w64}
 use mir.Val.{SFits}
-use Rattle.model.specs.Hours.{weekOf}
+use Rattle.plan_model.specs.Hours.{weekOf}
 use Rattle.hours.specs.Searching.{stepBy}
 use Rattle.minutes.proofs.Signed.{read-back}
 use Rattle.plans.proofs.Minutes.{begin-read, begin-fits}

@@ -1,7 +1,7 @@
 -- Each read end, and each minute so far, is read back as it is.
 use mathlib.Core.Path.{refl, _∙_}
 use Rattle.model.specs.Groups.{p0, p1, p2, p3, processesOf}
-use Rattle.model.specs.Hours.{boundOf}
+use Rattle.plan_model.specs.Hours.{boundOf}
 use Rattle.minutes.proofs.Signed.{read-back}
 use Rattle.plans.proofs.Minutes.{read-later}
 use borrow.Author.Needs.{needs}

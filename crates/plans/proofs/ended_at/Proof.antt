@@ -1,6 +1,6 @@
 -- Each read end, and the minute given, is read back as it is.
 use Rattle.model.specs.Groups.{p0, p1, p2, p3, processesOf}
-use Rattle.model.specs.Hours.{endedAt}
+use Rattle.plan_model.specs.Hours.{endedAt}
 use Rattle.plans.proofs.Minutes.{read-chosen}
 use borrow.Author.Needs.{needs}
 use Rattle.plans.proofs.ended_at.Statement.{statement}

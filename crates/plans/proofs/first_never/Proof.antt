@@ -2,7 +2,7 @@
 use mathlib.Core.Path.{_≡_, refl, sym, ap, _∙_}
 use Prim.Native.Nat.{_-_}
 use lib.ListN.{length, drop}
-use Rattle.model.specs.Hours.{firstNever, stepsOf, weekOf}
+use Rattle.plan_model.specs.Hours.{firstNever, stepsOf, weekOf}
 use Rattle.table.specs.Reading.{systemIn}
 use Rattle.plans.specs.Planning.{Judged, seen}
 use Rattle.plans.proofs.Checks.{judged-none, never-here, never-later, never-over, rule-in-run}
@@ -56,5 +56,5 @@ returns-2 c =
     sym (ap seen (at-loop .loop .inv .0 ∙ never-over (weekOf (a .hours) (a .counts)) (systemIn (a .table .now)) (a .lengths .now) (a .run .now) (at-loop .loop .k) (c .loop-test .left)))
 
 pub first-never-spec : {M : Type 1} → statement M
-first-never-spec = tie.close (tie.spec Inv-loop μ-loop loop-holds (λ c. omega arith) (λ c. omega arith) (λ c κs. tt) judge-requires
-    returns (λ c. omega arith) (λ c. omega arith) loop-again returns-2)
+first-never-spec = tie.close (tie.spec Inv-loop μ-loop loop-holds (λ c. omega arith) (λ c. omega arith) (λ c κs. tt) judge-requires returns
+    (λ c. omega arith) (λ c. omega arith) loop-again returns-2)

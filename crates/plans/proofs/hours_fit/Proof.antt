@@ -3,7 +3,7 @@ use mathlib.Core.Path.{_∙_, sym}
 use mathlib.Core.List.{[]}
 use Prim.Native.Nat.{_-_}
 use lib.ListN.{getD}
-use Rattle.model.specs.Hours.{hoursFit, processFits}
+use Rattle.plan_model.specs.Hours.{hoursFit, processFits}
 use Rattle.plans.proofs.Checks.{Passing, passing-start, passing-turn, passing-fails, passing-end}
 use native.Mathlib.Omega.{arith}
 use Rattle.plans.proofs.hours_fit.Statement.{statement}

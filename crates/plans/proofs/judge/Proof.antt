@@ -1,6 +1,6 @@
 -- A noted rule fits some minute (Judged), and one that is noted now does too (Checks).
 use mathlib.Core.Path.{sym, _∙_}
-use Rattle.model.specs.Hours.{weekOf}
+use Rattle.plan_model.specs.Hours.{weekOf}
 use Rattle.table.specs.Reading.{systemIn}
 use Rattle.table.proofs.Layouts.{table-modest}
 use Rattle.plans.proofs.Checks.{judged-more}
@@ -24,7 +24,9 @@ returns-2 c =
     (sym (c .if2 .taken) ∙ at-never .never-at .ensures, entry .pre .2)
 
 element-write-fitting : tie.Need-element-write-fitting
-element-write-fitting c = let entry = c .before .before .before .before .before .before in omega (arith, entry .pre .1, table-modest _ _ (entry .pre .0 .holds) .rules)
+element-write-fitting c =
+    let entry = c .before .before .before .before .before .before in
+    omega (arith, entry .pre .1, table-modest _ _ (entry .pre .0 .holds) .rules)
 
 returns-3 : tie.Need-returns-3
 returns-3 c =

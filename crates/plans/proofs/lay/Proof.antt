@@ -7,7 +7,7 @@ use lib.ListN.{length, drop}
 use mir.Syntax.{w64}
 use mir.Val.{toZ}
 use Rattle.model.specs.Groups.{processesOf}
-use Rattle.model.specs.Hours.{atStart, beginsFrom, endedAt, startFits, stepOf, stepsOf, weekOf}
+use Rattle.plan_model.specs.Hours.{atStart, beginsFrom, endedAt, startFits, stepOf, stepsOf, weekOf}
 use Rattle.table.specs.Reading.{systemIn}
 use Rattle.hours.specs.Searching.{stepBy}
 use Rattle.minutes.proofs.Signed.{readBack, read-back}
@@ -100,5 +100,6 @@ returns c =
     (laying-end (loop .inv) (c .loop-test .left))
 
 pub lay-spec : {M : Type 1} → statement M
-lay-spec = tie.close (tie.spec Inv-loop μ-loop loop-holds (λ c. omega arith) (λ c. omega arith) (λ c κs. tt) rule-bits-requires (λ c. omega arith) shared-slice-read-wide-two-2
-    (λ c κs. tt) begin-of-requires after-requires (λ c κs. tt) (λ c. omega arith) (λ c. omega arith) (λ c. omega arith) (λ c. omega arith) loop-again (λ c. c .before .loop .inv .size) returns)
+lay-spec = tie.close (tie.spec Inv-loop μ-loop loop-holds (λ c. omega arith) (λ c. omega arith) (λ c κs. tt) rule-bits-requires (λ c. omega arith)
+    shared-slice-read-wide-two-2 (λ c κs. tt) begin-of-requires after-requires (λ c κs. tt) (λ c. omega arith) (λ c. omega arith) (λ c. omega arith)
+    (λ c. omega arith) loop-again (λ c. c .before .loop .inv .size) returns)

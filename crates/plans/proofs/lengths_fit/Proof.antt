@@ -3,7 +3,7 @@ use mathlib.Core.Path.{sym, _∙_}
 use Prim.Native.Nat.{_-_}
 use lib.ListN.{getD}
 use borrow.Author.Tests.{lt-leb, le-leb}
-use Rattle.model.specs.Hours.{lengthFits, lengthsFit}
+use Rattle.plan_model.specs.Hours.{lengthFits, lengthsFit}
 use Rattle.plans.proofs.Checks.{Passing, passing-start, passing-turn, passing-fails, passing-end}
 use native.Mathlib.Omega.{arith}
 use Rattle.plans.proofs.lengths_fit.Statement.{statement}
@@ -36,5 +36,5 @@ unfolding lengthsFit
 returns-3 c = let at-loop = c .before in rw (le-leb _ _ (at-loop .before .if1 .left)) (passing-end (at-loop .loop .inv) (c .loop-test .left))
 
 pub lengths-fit-spec : {M : Type 1} → statement M
-lengths-fit-spec = tie.close (tie.spec Inv-loop μ-loop returns (λ c. passing-start) (λ c. omega arith) (λ c. omega arith) (λ c κs. tt)
-    returns-2 (λ c. omega arith) (λ c. omega arith) loop-again returns-3)
+lengths-fit-spec = tie.close (tie.spec Inv-loop μ-loop returns (λ c. passing-start) (λ c. omega arith) (λ c. omega arith) (λ c κs. tt) returns-2
+    (λ c. omega arith) (λ c. omega arith) loop-again returns-3)

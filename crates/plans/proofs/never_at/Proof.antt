@@ -1,6 +1,6 @@
 -- The step of the rule, by the bits of its letter and its length.
 use mathlib.Core.Path.{ap, _∙_}
-use Rattle.model.specs.Hours.{neverFits, weekOf}
+use Rattle.plan_model.specs.Hours.{neverFits, weekOf}
 use Rattle.plans.proofs.Checks.{length-short, lengths-enough, step-is}
 use native.Mathlib.Omega.{arith}
 use borrow.Author.Needs.{needs}
@@ -11,7 +11,9 @@ mul-wide-two : tie.Need-mul-wide-two
 mul-wide-two c = let entry = c .before .before .before in omega (arith, entry .pre .1, lengths-enough _ _ (entry .pre .0 .lengths-fit))
 
 shared-slice-read-wide-two : tie.Need-shared-slice-read-wide-two
-shared-slice-read-wide-two c = let entry = c .before .before .before .before in omega (arith, entry .pre .1, lengths-enough _ _ (entry .pre .0 .lengths-fit))
+shared-slice-read-wide-two c =
+    let entry = c .before .before .before .before in
+    omega (arith, entry .pre .1, lengths-enough _ _ (entry .pre .0 .lengths-fit))
 
 fits-never-requires : tie.Need-fits-never-requires
 fits-never-requires c κs =

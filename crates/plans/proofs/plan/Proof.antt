@@ -1,7 +1,7 @@
 -- A refused table is the call's answer, and an accepted one is planned with.
 use mathlib.Core.Path.{_≡_, sym, subst, _∙_}
 use lib.IntN.{ℤ}
-use Rattle.model.specs.Hours.{planCall}
+use Rattle.plan_model.specs.Hours.{planCall}
 use Rattle.minutes.proofs.Signed.{read-back}
 use Rattle.table.specs.declared.Parsed.the-variants.{Accepted}
 use Rattle.table.specs.Reading.{Holds}
@@ -38,4 +38,5 @@ returns-2 c =
     (p, plans-mean (a .table .now) (a .run .now) (a .hours) (a .counts) (a .lengths .now) (a .start) (a .begins .now) _ _ p)
 
 pub plan-spec : {M : Type 1} → statement M
-plan-spec = tie.close (tie.spec (λ c κs. search needs) (λ c. search needs) returns (λ c. search needs) plan-accepted-requires (λ c. search needs) returns-2)
+plan-spec = tie.close (tie.spec (λ c κs. search needs) (λ c. search needs) returns (λ c. search needs) plan-accepted-requires (λ c. search needs)
+    returns-2)

@@ -50,4 +50,5 @@ returns-3 c =
     (seen-nowhere _ (sym (at-told .enum-told .given .1) ∙ at-first .first-never .ensures)) (at-lay .lay .ensures)
 
 pub plan-accepted-spec : {M : Type 1} → statement M
-plan-accepted-spec = tie.close (tie.spec (λ c κs. search needs) returns first-never-requires (λ c. search needs) returns-2 (λ c. search needs) lay-requires (λ c. search needs) returns-3)
+plan-accepted-spec = tie.close (tie.spec (λ c κs. search needs) returns first-never-requires (λ c. search needs) returns-2 (λ c. search needs)
+    lay-requires (λ c. search needs) returns-3)

@@ -1,6 +1,6 @@
 -- The parts of check 19 one after the other.
 use mathlib.Core.Path.{ap, sym, _∙_}
-use Rattle.model.specs.Hours.{planFits, startFits}
+use Rattle.plan_model.specs.Hours.{planFits, startFits}
 use Rattle.minutes.proofs.Signed.{read-back}
 use borrow.Author.Needs.{needs}
 use Rattle.plans.proofs.plan_fits.Statement.{statement}
@@ -45,4 +45,5 @@ returns-5 c =
     rw (hours, sym (at-if2 .before .lengths-fit .ensures) ∙ at-if2 .if2 .taken, start, sym (c .before .run-fits .ensures) ∙ c .if4 .taken)
 
 pub plan-fits-spec : {M : Type 1} → statement M
-plan-fits-spec = tie.close (tie.spec (λ c κs. search needs) returns (λ c κs. search needs) returns-2 (λ c κs. search needs) returns-3 (λ c κs. search needs) returns-4 returns-5)
+plan-fits-spec = tie.close (tie.spec (λ c κs. search needs) returns (λ c κs. search needs) returns-2 (λ c κs. search needs) returns-3
+    (λ c κs. search needs) returns-4 returns-5)

@@ -2,7 +2,7 @@
 use mathlib.Core.Path.{sym, _∙_}
 use Prim.Native.Nat.{_-_}
 use borrow.Author.Tests.{lt-leb, le-leb}
-use Rattle.model.specs.Hours.{windowAt, windowFits, windowPlaces}
+use Rattle.plan_model.specs.Hours.{windowAt, windowFits, windowPlaces}
 use Rattle.plans.proofs.Checks.{Passing, passing-start, passing-turn, passing-fails, passing-end}
 use native.Mathlib.Omega.{arith}
 use Rattle.plans.proofs.process_fits.Statement.{statement}

@@ -3,7 +3,7 @@ use Prim.Native.Nat.{_-_}
 use lib.Dec.{ltb}
 use lib.ListN.{length, getD}
 use borrow.Author.Tests.{lt-leb, le-leb, lt-ltb, le-ltb}
-use Rattle.model.specs.Hours.{runFits}
+use Rattle.plan_model.specs.Hours.{runFits}
 use Rattle.plans.proofs.Checks.{Passing, passing-start, passing-turn, passing-fails, passing-end}
 use native.Mathlib.Omega.{arith}
 use Rattle.plans.proofs.run_fits.Statement.{statement}
@@ -40,5 +40,5 @@ unfolding runFits
 returns-3 c = let at-loop = c .before in rw (le-leb _ _ (at-loop .before .if1 .left)) (passing-end (at-loop .loop .inv) (c .loop-test .left))
 
 pub run-fits-spec : {M : Type 1} → statement M
-run-fits-spec = tie.close (tie.spec Inv-loop μ-loop returns (λ c. passing-start) (λ c. omega arith) (λ c. omega arith) (λ c κs. tt)
-    returns-2 (λ c. omega arith) (λ c. omega arith) loop-again returns-3)
+run-fits-spec = tie.close (tie.spec Inv-loop μ-loop returns (λ c. passing-start) (λ c. omega arith) (λ c. omega arith) (λ c κs. tt) returns-2
+    (λ c. omega arith) (λ c. omega arith) loop-again returns-3)

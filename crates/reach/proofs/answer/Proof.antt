@@ -5,15 +5,19 @@ use borrow.Author.Needs.{needs}
 use Rattle.reach.proofs.answer.Statement.{statement}
 use Rattle.reach.proofs.answer.Tie as tie
 
-pub answer-spec : {M : Type 1} → statement M
-answer-spec = tie.close (tie.spec (λ c κs. search needs) (λ c. search needs) (λ c. search needs)
-    (λ c κs. record { reading = sym (c .before .before .before .before .before .read .ensures) ∙ c .before .before .before .t .given .1 })
-    (λ c.
+returns : tie.Need-returns
+returns c =
     let at-read = c .before .before .before in
     let a = at-read .before .before .before .before .args in
-    answer-demands (a .table .now) (a .log .now) (a .scratch .now) (answers-refused (a .table .now) (a .log .now) (a .scratch .now) (sym (at-read .read .ensures) ∙ c .before .number .given .1)))
-    (λ c. search needs) (λ c. search needs)
-    (λ c.
+    answer-demands (a .table .now) (a .log .now) (a .scratch .now) (answers-refused (a .table .now) (a .log .now) (a .scratch .now) (sym (at-read .read .ensures) ∙ c .before .number .given .1))
+
+returns-2 : tie.Need-returns-2
+returns-2 c =
     let at-table = c .before .before .before .before in
     let a = at-table .before .before .before .before .before .before .before .before .before .before .args in
-    answer-demands (a .table .now) (a .log .now) (a .scratch .now) (at-table .answer-table .ensures)))
+    answer-demands (a .table .now) (a .log .now) (a .scratch .now) (at-table .answer-table .ensures)
+
+pub answer-spec : {M : Type 1} → statement M
+answer-spec = tie.close (tie.spec (λ c κs. search needs) (λ c. search needs) (λ c. search needs)
+    (λ c κs. let at-read = c .before .before .before .before .before in record { reading = sym (at-read .read .ensures) ∙ c .before .before .before .t .given .1 })
+    returns (λ c. search needs) (λ c. search needs) returns-2)

@@ -4,19 +4,24 @@ use borrow.Author.Needs.{needs}
 use Rattle.reach.proofs.fill_log.Statement.{statement}
 use Rattle.reach.proofs.fill_log.Tie as tie
 
-pub fill-log-spec : {M : Type 1} → statement M
-fill-log-spec = tie.close (tie.spec (λ c κs. search needs) (λ c. search needs) (λ c κs. search needs) (λ c κs. search needs) (λ c. search needs)
-    (λ c κs.
+clear-behind-requires : tie.Need-clear-behind-requires
+clear-behind-requires c κs =
     let at-count = c .before .before in
     let at-saturate = at-count .before .before .before .before .before .before in
-    behind-room (at-saturate .before .before .before .before .before .before .pre) (rw (at-count .count .given .1) at (at-saturate .saturate .ensures)))
-    (λ c. search needs) (λ c. search needs)
-    (λ c.
+    behind-room (at-saturate .before .before .before .before .before .before .pre) (rw (at-count .count .given .1) at (at-saturate .saturate .ensures))
+
+returns : tie.Need-returns
+returns c =
     let at-clear = c .before .before .before .before .before .before in
     let at-full = at-clear .before .before in
-    none-left (rw (at-full .enum-told .given .1) at (at-full .before .before .before .before .before .before .saturate .ensures)) (at-clear .clear .ensures) (c .before .before .clear2 .ensures))
-    (λ c. search needs) (λ c. search needs)
-    (λ c.
+    none-left (rw (at-full .enum-told .given .1) at (at-full .before .before .before .before .before .before .saturate .ensures)) (at-clear .clear .ensures) (c .before .before .clear2 .ensures)
+
+returns-2 : tie.Need-returns-2
+returns-2 c =
     let at-count = c .before .before .before .before .before in
     let at-saturate = at-count .before .before .before .before .before .before in
-    limit-left (at-saturate .before .before .before .before .before .before .pre) (rw (at-count .count .given .1) at (at-saturate .saturate .ensures)) (c .before .before .clear-behind .ensures)))
+    limit-left (at-saturate .before .before .before .before .before .before .pre) (rw (at-count .count .given .1) at (at-saturate .saturate .ensures)) (c .before .before .clear-behind .ensures)
+
+pub fill-log-spec : {M : Type 1} → statement M
+fill-log-spec = tie.close (tie.spec (λ c κs. search needs) (λ c. search needs) (λ c κs. search needs) (λ c κs. search needs) (λ c. search needs)
+    clear-behind-requires (λ c. search needs) (λ c. search needs) returns (λ c. search needs) (λ c. search needs) returns-2)

@@ -4,9 +4,11 @@ use borrow.Author.Needs.{needs}
 use Rattle.reach.proofs.run.Statement.{statement}
 use Rattle.reach.proofs.run.Tie as tie
 
-pub run-spec : {M : Type 1} → statement M
-run-spec = tie.close (tie.spec (λ c κs. search needs) (λ c. search needs) (λ c. search needs) (λ c. search needs)
-    (λ c.
+returns : tie.Need-returns
+returns c =
     let at-both = c .before .before .before .before .before .before in
     let a = at-both .before .before .before .before .before .before .before .before .args in
-    run-demands (a .table .now) (a .log .now) (a .scratch .now) (a .page .now) (at-both .answer-and-run .ensures .1 .0)))
+    run-demands (a .table .now) (a .log .now) (a .scratch .now) (a .page .now) (at-both .answer-and-run .ensures .1 .0)
+
+pub run-spec : {M : Type 1} → statement M
+run-spec = tie.close (tie.spec (λ c κs. search needs) (λ c. search needs) (λ c. search needs) (λ c. search needs) returns)

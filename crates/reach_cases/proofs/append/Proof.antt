@@ -14,5 +14,5 @@ abbrev μ-loop : tie.MeasureT-loop
 μ-loop out₀ at part place₀ j₀ out place j = length part - j
 
 pub append-spec : {M : Type 1} → statement M
-append-spec = tie.close (tie.spec Inv-loop μ-loop (λ c. (omega arith, refl)) (λ c. omega arith) (λ c κs. search needs) (λ c. omega arith) (λ c. omega arith)
-    (λ c. (omega arith, search needs)) (λ c. search needs) (λ c. search needs))
+append-spec = tie.close (tie.spec Inv-loop μ-loop (λ c. (omega arith, refl)) (λ c. omega arith) (λ c κs. search needs) (λ c. omega arith)
+    (λ c. omega arith) (λ c. (omega arith, search needs)) (λ c. search needs) (λ c. search needs))

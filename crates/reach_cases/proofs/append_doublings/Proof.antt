@@ -14,5 +14,5 @@ abbrev μ-loop : tie.MeasureT-loop
 μ-loop out₀ at last place₀ i₀ out place i = last - i
 
 pub append-doublings-spec : {M : Type 1} → statement M
-append-doublings-spec = tie.close (tie.spec Inv-loop μ-loop (λ c. (omega arith, refl)) (λ c. omega arith) (λ c κs. search needs) (λ c. omega arith) (λ c. omega arith)
-    (λ c. (omega arith, search needs)) (λ c. search needs) (λ c. search needs))
+append-doublings-spec = tie.close (tie.spec Inv-loop μ-loop (λ c. (omega arith, refl)) (λ c. omega arith) (λ c κs. search needs) (λ c. omega arith)
+    (λ c. omega arith) (λ c. (omega arith, search needs)) (λ c. search needs) (λ c. search needs))

@@ -13,5 +13,5 @@ abbrev μ-loop : tie.MeasureT-loop
 μ-loop bytes x n₀ i₀ n i = length bytes - i
 
 pub count-bytes-spec : {M : Type 1} → statement M
-count-bytes-spec = tie.close (tie.spec Inv-loop μ-loop (λ c. (omega arith, omega arith)) (λ c. omega arith) (λ c κs. search needs) (λ c κs. search needs)
-    (λ c. omega arith) (λ c. omega arith) (λ c. omega arith) (λ c. (omega arith, omega arith)) (λ c. search needs))
+count-bytes-spec = tie.close (tie.spec Inv-loop μ-loop (λ c. (omega arith, omega arith)) (λ c. omega arith) (λ c κs. search needs)
+    (λ c κs. search needs) (λ c. omega arith) (λ c. omega arith) (λ c. omega arith) (λ c. (omega arith, omega arith)) (λ c. search needs))

@@ -13,5 +13,5 @@ abbrev μ-loop : tie.MeasureT-loop
 μ-loop page x n₀ i₀ n i = length page - i
 
 pub count-places-spec : {M : Type 1} → statement M
-count-places-spec = tie.close (tie.spec Inv-loop μ-loop (λ c. (omega arith, omega arith)) (λ c. omega arith) (λ c. omega arith) (λ c κs. search needs) (λ c. omega arith)
-    (λ c. omega arith) (λ c. omega arith) (λ c. (omega arith, omega arith)) (λ c. search needs))
+count-places-spec = tie.close (tie.spec Inv-loop μ-loop (λ c. (omega arith, omega arith)) (λ c. omega arith) (λ c. omega arith) (λ c κs. search needs)
+    (λ c. omega arith) (λ c. omega arith) (λ c. omega arith) (λ c. (omega arith, omega arith)) (λ c. search needs))

@@ -7,5 +7,5 @@ use Rattle.reach_cases.proofs.run_on.Statement.{statement}
 use Rattle.reach_cases.proofs.run_on.Tie as tie
 
 pub run-on-spec : {M : Type 1} → statement M
-run-on-spec = tie.close (tie.spec (λ c. sym (length-replicate {0} {A = ℕ} 600 7)) (λ c. sym (length-replicate {0} {A = ℕ} 34200 7)) (λ c κs. search needs)
-    (λ c. search needs) (λ c. search needs))
+run-on-spec = tie.close (tie.spec (λ c. sym (length-replicate {0} {A = ℕ} 600 7)) (λ c. sym (length-replicate {0} {A = ℕ} 34200 7))
+    (λ c κs. search needs) (λ c. search needs) (λ c. search needs))

@@ -7,5 +7,5 @@ use Rattle.reach_cases.proofs.show_answer.Statement.{statement}
 use Rattle.reach_cases.proofs.show_answer.Tie as tie
 
 pub show-answer-spec : {M : Type 1} → statement M
-show-answer-spec = tie.close (tie.spec (λ c. sym (length-replicate {0} {A = ℕ} 600 7)) (λ c. sym (length-replicate {0} {A = ℕ} 34200 7)) (λ c κs. search needs)
-    (λ c. search needs))
+show-answer-spec = tie.close (tie.spec (λ c. sym (length-replicate {0} {A = ℕ} 600 7)) (λ c. sym (length-replicate {0} {A = ℕ} 34200 7))
+    (λ c κs. search needs) (λ c. search needs))

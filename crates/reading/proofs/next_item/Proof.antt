@@ -7,14 +7,45 @@ use Rattle.table.proofs.Steps.{step-end, step-refused, step-next, step-leftover
 use Rattle.reading.proofs.next_item.Statement.{statement}
 use Rattle.reading.proofs.next_item.Tie as tie
 
+returns-2 : tie.Need-returns-2
+returns-2 c =
+    let entry = c .before .before .before .before .before in
+    step-refused _ _ (entry .pre) (c .before .before .before .if1 .left) _ (c .before .check-item .ensures) (c .if2 .taken)
+
+body-length-requires : tie.Need-body-length-requires
+body-length-requires c κs =
+    let at-if1 = c .before .before .before .before in
+    let entry = at-if1 .before .before in
+    omega (arith, next-admitted _ _ (entry .pre) (at-if1 .if1 .left) (sym (c .before .before .check-item .ensures) ∙ c .before .if2 .left) (c .if3 .taken) .known)
+
+add-next-2 : tie.Need-add-next-2
+add-next-2 c =
+    let at-if1 = c .before .before .before .before .before in
+    let entry = at-if1 .before .before in
+    omega (arith, c .body-length .ensures, next-admitted _ _ (entry .pre) (at-if1 .if1 .left) (sym (c .before .before .before .check-item .ensures) ∙ c .before .before .if2 .left) (c .before .if3 .taken) .whole)
+
+returns-3 : tie.Need-returns-3
+returns-3 c =
+    let at-check-item = c .before .before .before .before in
+    let at-if1 = at-check-item .before .before in
+    let entry = at-if1 .before .before in
+    rw (c .advance .ensures, c .before .body-length .ensures) (step-next _ _ (entry .pre) (at-if1 .if1 .left) (sym (at-check-item .check-item .ensures) ∙ c .before .before .before .if2 .left) (c .before .before .if3 .taken))
+
+returns-4 : tie.Need-returns-4
+returns-4 c =
+    let at-if1 = c .before .before .before .before .before in
+    let entry = at-if1 .before .before in
+    step-leftover _ _ (entry .pre) (at-if1 .if1 .left) (sym (c .before .before .before .check-item .ensures) ∙ c .before .before .if2 .left) (c .before .if3 .left) (c .if4 .taken)
+
+returns-5 : tie.Need-returns-5
+returns-5 c =
+    let at-check-item = c .before .before .before .before in
+    let at-if1 = at-check-item .before .before in
+    let entry = at-if1 .before .before in
+    step-accepted _ _ (entry .pre) (at-if1 .if1 .left) (sym (at-check-item .check-item .ensures) ∙ c .before .before .before .if2 .left) (c .before .before .if3 .left) (c .before .if4 .left)
+
 pub next-item-spec : {M : Type 1} → statement M
-next-item-spec = tie.close (tie.spec (λ c. step-end _ _ (c .if1 .taken)) (λ c. search needs) (λ c κs. search needs)
-    (λ c. step-refused _ _ (c .before .before .before .before .before .pre) (c .before .before .before .if1 .left) _ (c .before .check-item .ensures) (c .if2 .taken))
-    (λ c. search needs)
-    (λ c κs. omega (arith, next-admitted _ _ (c .before .before .before .before .before .before .pre) (c .before .before .before .before .if1 .left) (sym (c .before .before .check-item .ensures) ∙ c .before .if2 .left) (c .if3 .taken) .known))
-    (λ c. omega (arith, c .body-length .ensures, next-admitted _ _ (c .before .before .before .before .before .before .before .pre) (c .before .before .before .before .before .if1 .left) (sym (c .before .before .before .check-item .ensures) ∙ c .before .before .if2 .left) (c .before .if3 .taken) .whole))
-    (λ c κs. (modest-of _ _ (c .before .before .before .before .before .before .before .pre), c .before .before .before .before .before .before .before .pre .ceilings 6))
-    (λ c. rw (c .advance .ensures, c .before .body-length .ensures) (step-next _ _ (c .before .before .before .before .before .before .before .before .pre) (c .before .before .before .before .before .before .if1 .left) (sym (c .before .before .before .before .check-item .ensures) ∙ c .before .before .before .if2 .left) (c .before .before .if3 .taken)))
-    (λ c. search needs) (λ c. search needs)
-    (λ c. step-leftover _ _ (c .before .before .before .before .before .before .before .pre) (c .before .before .before .before .before .if1 .left) (sym (c .before .before .before .check-item .ensures) ∙ c .before .before .if2 .left) (c .before .if3 .left) (c .if4 .taken))
-    (λ c. step-accepted _ _ (c .before .before .before .before .before .before .before .before .pre) (c .before .before .before .before .before .before .if1 .left) (sym (c .before .before .before .before .check-item .ensures) ∙ c .before .before .before .if2 .left) (c .before .before .if3 .left) (c .before .if4 .left)))
+next-item-spec = tie.close (tie.spec (λ c. step-end _ _ (c .if1 .taken)) (λ c. search needs) (λ c κs. search needs) returns-2 (λ c. search needs)
+    body-length-requires add-next-2
+    (λ c κs. let entry = c .before .before .before .before .before .before .before in (modest-of _ _ (entry .pre), entry .pre .ceilings 6)) returns-3
+    (λ c. search needs) (λ c. search needs) returns-4 returns-5)

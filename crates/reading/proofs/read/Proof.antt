@@ -14,12 +14,22 @@ Inv-loop bytes c₀ c = Going bytes c
 abbrev μ-loop : tie.MeasureT-loop
 μ-loop bytes c₀ c = length bytes - c .at
 
+loop-less : tie.Need-loop-less Inv-loop μ-loop
+loop-less c =
+    let o = c .before .before .before .next-item .ensures .next _ (c .before .n .given .1) in
+    omega (arith, o .ahead, o .passed .within)
+
+loop-again : tie.Need-loop-again Inv-loop μ-loop
+loop-again c =
+    let at-loop = c .before .before .before .before in
+    going-turn _ _ (at-loop .loop .inv) _ (c .before .before .before .next-item .ensures .next _ (c .before .n .given .1))
+
+returns : tie.Need-returns Inv-loop μ-loop
+returns c =
+    let at-loop = c .before .before .before .before in
+    going-end _ _ (at-loop .loop .inv) _ (c .before .before .before .next-item .ensures .done _ (c .before .p .given .1))
+
 pub read-spec : {M : Type 1} → statement M
 read-spec = tie.close (tie.spec Inv-loop μ-loop (λ c κs. search needs)
     (λ c. going-start (c .before .before .args .bytes .now) _ (rw (c .empty .ensures) refl)) (λ c κs. c .loop .inv .passed) (λ c. search needs)
-    (λ c.
-    let o = c .before .before .before .next-item .ensures .next _ (c .before .n .given .1) in
-    omega (arith, o .ahead, o .passed .within))
-    (λ c. going-turn _ _ (c .before .before .before .before .loop .inv) _ (c .before .before .before .next-item .ensures .next _ (c .before .n .given .1)))
-    (λ c. search needs)
-    (λ c. going-end _ _ (c .before .before .before .before .loop .inv) _ (c .before .before .before .next-item .ensures .done _ (c .before .p .given .1))))
+    loop-less loop-again (λ c. search needs) returns)

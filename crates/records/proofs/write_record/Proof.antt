@@ -5,7 +5,7 @@ use Rattle.model.specs.Tables.{writtenPlaces}
 use Rattle.model.specs.Records.{recordLength}
 use Rattle.model.proofs.RecordBytes.{length-path}
 use Rattle.records.specs.Entries.{entryBytes}
-use Rattle.records.proofs.Parts.{front-none, front-more, front-number}
+use Rattle.buffers.proofs.Parts.{front-none, front-more, front-number}
 use native.Mathlib.Omega.{arith}
 use lib.ListN.{length}
 use borrow.Author.Needs.{needs}
@@ -31,5 +31,6 @@ returns c =
     steps .same
 
 pub write-record-spec : {M : Type 1} → statement M
-write-record-spec = tie.close (tie.spec (λ c. search needs) (λ c. search needs) (λ c. search needs) (λ c κs. search needs) (λ c κs. search needs) (λ c κs. search needs)
-    (λ c. search needs) (λ c. search needs) (λ c. search needs) (λ c κs. search needs) (λ c κs. search needs) (λ c. search needs) returns)
+write-record-spec = tie.close (tie.spec (λ c. search needs) (λ c. search needs) (λ c. search needs) (λ c κs. search needs) (λ c κs. search needs)
+    (λ c κs. search needs) (λ c. search needs) (λ c. search needs) (λ c. search needs) (λ c κs. search needs) (λ c κs. search needs)
+    (λ c. search needs) returns)

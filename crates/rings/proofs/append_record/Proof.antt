@@ -65,5 +65,6 @@ returns-3 c =
     rw (← (at-record-bucket .record-bucket .ensures .0), ← (at-link-at .link-at .ensures .0), ne-eqb _ _ (at-if1 .if1 .left), le-ltb _ _ (at-if2 .if2 .left)) (at-lengthen-ring2 .lengthen-ring2 .ensures)
 
 pub append-record-spec : {M : Type 1} → statement M
-append-record-spec = tie.close (tie.spec (λ c κs. search needs) (λ c κs. search needs) (λ c κs. search needs) (λ c. search needs) returns (λ c. search needs)
-    (λ c. search needs) (λ c κs. search needs) lengthen-ring-requires (λ c. search needs) returns-2 lengthen-ring-requires-2 (λ c. search needs) returns-3)
+append-record-spec = tie.close (tie.spec (λ c κs. search needs) (λ c κs. search needs) (λ c κs. search needs) (λ c. search needs) returns
+    (λ c. search needs) (λ c. search needs) (λ c κs. search needs) lengthen-ring-requires (λ c. search needs) returns-2 lengthen-ring-requires-2
+    (λ c. search needs) returns-3)

@@ -3,8 +3,8 @@ use mathlib.Core.Path.{ap, ap₂, _∙_}
 use mathlib.Core.List.{List}
 use Prim.Native.Nat.{ℕ}
 use borrow.Author.Needs.{needs}
-use Rattle.automaton.specs.StateNumbers.{stateNumber}
-use Rattle.automaton.specs.StateSets.{member}
+use Rattle.states.specs.StateNumbers.{stateNumber}
+use Rattle.states.specs.StateSets.{member}
 use Rattle.start.specs.RestSets.{processesOfTable, zeroedGroup, ownNumber}
 use Rattle.start.proofs.ScratchRegions.{set-part}
 use Rattle.start.proofs.is_accepted.Statement.{statement}
@@ -22,5 +22,5 @@ returns c =
     (c .before .number .ensures .0 ∙ ap stateNumber (at-zeroed .zeroed .ensures ∙ ap (zeroedGroup (processesOfTable (a .t))) (at-start-group .start-group .ensures)))
 
 pub is-accepted-spec : {M : Type 1} → statement M
-is-accepted-spec = tie.close (tie.spec (λ c κs. search needs) (λ c. search needs) (λ c. search needs) (λ c. search needs) (λ c κs. search needs) (λ c κs. search needs)
-    (λ c κs. search needs) returns)
+is-accepted-spec = tie.close (tie.spec (λ c κs. search needs) (λ c. search needs) (λ c. search needs) (λ c. search needs) (λ c κs. search needs)
+    (λ c κs. search needs) (λ c κs. search needs) returns)

@@ -6,9 +6,12 @@ use borrow.Author.Needs.{needs}
 use Rattle.steps.proofs.place_start.Statement.{statement}
 use Rattle.steps.proofs.place_start.Tie as tie
 
-pub place-start-spec : {M : Type 1} → statement M
-place-start-spec = tie.close (tie.spec (λ c κs. search needs) (λ c. search needs) (λ c κs. search needs) (λ c. search needs)
-    (λ c.
+returns : tie.Need-returns
+returns c =
+    let at-start-group = c .before .before .before .before in
     let s = c .before .before .before .before .before .before .before in
     let a = s .args in
-    placed-start (a .pile .now) (systemIn (a .table .now) .start) (a .t .pile) (c .before .before .before .before .start-group .result) (c .before .before .write-start .last .1 .1 .0) (pile-count (a .table .now) (a .t) (s .pre .0)) (s .pre .1) (c .before .before .before .before .start-group .ensures) (c .before .before .write-start .ensures)))
+    placed-start (a .pile .now) (systemIn (a .table .now) .start) (a .t .pile) (at-start-group .start-group .result) (c .before .before .write-start .last .1 .1 .0) (pile-count (a .table .now) (a .t) (s .pre .0)) (s .pre .1) (at-start-group .start-group .ensures) (c .before .before .write-start .ensures)
+
+pub place-start-spec : {M : Type 1} → statement M
+place-start-spec = tie.close (tie.spec (λ c κs. search needs) (λ c. search needs) (λ c κs. search needs) (λ c. search needs) returns)

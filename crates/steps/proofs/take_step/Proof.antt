@@ -40,5 +40,5 @@ returns-4 c =
     (step-done (a .table .now) (a .t) (entry .pre .0) (a .n) (a .pile .now) (a .c) (omega arith) (at-fire .fire .last .1 .1 .1 .0) f (entry .pre .1) (rw e at (at-fire .fire .ensures)), c .with-step .ensures)
 
 pub take-step-spec : {M : Type 1} → statement M
-take-step-spec = tie.close (tie.spec returns (λ c κs. search needs) (λ c. search needs) (λ c. search needs) returns-2 (λ c. search needs) (λ c. search needs)
-    returns-3 (λ c. search needs) (λ c κs. search needs) (λ c. search needs) returns-4)
+take-step-spec = tie.close (tie.spec returns (λ c κs. search needs) (λ c. search needs) (λ c. search needs) returns-2 (λ c. search needs)
+    (λ c. search needs) returns-3 (λ c. search needs) (λ c κs. search needs) (λ c. search needs) returns-4)

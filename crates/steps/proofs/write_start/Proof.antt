@@ -4,7 +4,7 @@ use Prim.Native.Nat.{_≤_, _-_}
 use lib.Seq.{paste}
 use Rattle.table.specs.Reading.{systemIn}
 use Rattle.table.proofs.Layouts.{pile-count}
-use Rattle.shapes.proofs.Buffers.{Pasting, pasting-start, pasting-turn}
+use Rattle.buffers.proofs.Writing.{Pasting, pasting-start, pasting-turn}
 use native.Mathlib.Omega.{arith}
 use borrow.Author.Needs.{needs}
 use Rattle.steps.proofs.write_start.Statement.{statement}
@@ -25,11 +25,15 @@ loop-again c =
           (omega (arith, pile-count (s .args .table .now) (s .args .t) (s .pre .0))) (c .pile-letter .ensures),
     )
 
+returns : tie.Need-returns Inv-loop μ-loop
+returns c =
+    let entry = c .before .before .before .before in
+    let a = entry .args in
+    let e : c .before .loop .j ≡ a .t .pile = omega arith in
+    c .before .loop .inv .1 .is ∙ ap (paste (a .pile .now) (a .at) (systemIn (a .table .now) .start .word)) e
+
 pub write-start-spec : {M : Type 1} → statement M
 write-start-spec = tie.close (tie.spec Inv-loop μ-loop
     (λ c. (omega arith, pasting-start (c .before .before .args .pile .now) (systemIn (c .before .before .args .table .now) .start .word) (c .before .before .args .at)))
     (λ c κs. search needs) (λ c. omega arith) (λ c. omega arith) (λ c. omega arith) (λ c. omega arith) loop-again (λ c. c .before .loop .inv .1 .size)
-    (λ c.
-    let a = c .before .before .before .before .args in
-    let e : c .before .loop .j ≡ a .t .pile = omega arith in
-    c .before .loop .inv .1 .is ∙ ap (paste (a .pile .now) (a .at) (systemIn (a .table .now) .start .word)) e))
+    returns)

@@ -14,5 +14,6 @@ abbrev μ-loop : tie.MeasureT-loop
 μ-loop out₀ list j₀ out j = length list - j
 
 pub change-all-spec : {M : Type 1} → statement M
-change-all-spec = tie.close (tie.spec Inv-loop μ-loop (λ c. (omega arith, refl)) (λ c. omega arith) (λ c. omega arith) (λ c. omega arith) (λ c. omega arith)
-    (λ c. omega arith) (λ c κs. search needs) (λ c. omega arith) (λ c. omega arith) (λ c. (omega arith, search needs)) (λ c. search needs) (λ c. search needs))
+change-all-spec = tie.close (tie.spec Inv-loop μ-loop (λ c. (omega arith, refl)) (λ c. omega arith) (λ c. omega arith) (λ c. omega arith)
+    (λ c. omega arith) (λ c. omega arith) (λ c κs. search needs) (λ c. omega arith) (λ c. omega arith) (λ c. (omega arith, search needs))
+    (λ c. search needs) (λ c. search needs))

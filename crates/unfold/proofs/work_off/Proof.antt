@@ -5,7 +5,7 @@ use native.Mathlib.Omega.{arith}
 use lib.ListN.{length}
 use Rattle.model.specs.Tables.{writtenPlaces}
 use borrow.Author.Needs.{needs}
-use Rattle.stack.specs.StackNumbers.{stackOf}
+use Rattle.scratch.specs.StackNumbers.{stackOf}
 use Rattle.unfold.proofs.Working.{Working, working-start, working-workable, working-turn, working-less, working-small, working-end}
 use Rattle.unfold.proofs.work_off.Statement.{statement}
 use Rattle.unfold.proofs.work_off.Tie as tie
@@ -16,28 +16,41 @@ Inv-loop table changes log scratch₀ page₀ count top w₀ scratch page w = Wo
 abbrev μ-loop : tie.MeasureT-loop
 μ-loop table changes log scratch₀ page₀ count top w₀ scratch page w = (1 + writtenPlaces) * (length page₀ - w .rules) + w .top
 
+work-one-requires : tie.Need-work-one-requires Inv-loop μ-loop
+work-one-requires c κs =
+    let at-loop = c .before .before .before .before in
+    working-workable (at-loop .before .before .before .before .before .before .before .pre) (c .before .before .if1 .taken) (at-loop .loop .inv)
+
+loop-less : tie.Need-loop-less Inv-loop μ-loop
+loop-less c =
+    let at-call = c .before .before .before .before in
+    let at-loop = at-call .before .before .before .before .before in
+    working-less (at-loop .before .before .before .before .before .before .before .pre) (at-call .before .before .before .if1 .taken) (at-loop .loop .inv) (at-call .work-one .ensures)
+
+loop-again : tie.Need-loop-again Inv-loop μ-loop
+loop-again c =
+    let at-call = c .before .before .before .before in
+    let at-loop = at-call .before .before .before .before .before in
+    working-turn (at-loop .before .before .before .before .before .before .before .pre) (at-call .before .before .before .if1 .taken) (at-loop .loop .inv) (at-call .work-one .ensures)
+
+cast-result : tie.Need-cast-result Inv-loop μ-loop
+cast-result c =
+    let at-loop = c .before .before .before .before in
+    omega (arith, working-small (at-loop .before .before .before .before .before .before .before .pre) (at-loop .loop .inv) .0)
+
+sub-result : tie.Need-sub-result Inv-loop μ-loop
+sub-result c =
+    let at-loop = c .before .before .before .before in
+    omega (arith, c .before .highest .ensures, working-small (at-loop .before .before .before .before .before .before .before .pre) (at-loop .loop .inv) .1)
+
+returns : tie.Need-returns Inv-loop μ-loop
+returns c =
+    let at-loop = c .before .before .before .before in
+    rw (c .before .highest .ensures) (working-end (at-loop .before .before .before .before .before .before .before .pre) (c .before .before .if1 .left) (at-loop .loop .inv))
+
 pub work-off-spec : {M : Type 1} → statement M
-work-off-spec = tie.close (tie.spec Inv-loop μ-loop (λ c κs. c .before .before .before .before .before .pre .0 .holds)
-    (λ c. working-start (c .before .before .before .before .before .before .pre) refl refl (c .start-lengths .result) (c .start-lengths .ensures))
-    (λ c κs.
-    let at-loop = c .before .before .before .before in
-    working-workable (at-loop .before .before .before .before .before .before .before .pre) (c .before .before .if1 .taken) (at-loop .loop .inv))
-    (λ c.
-    let at-call = c .before .before .before .before in
-    let at-loop = at-call .before .before .before .before .before in
-    working-less (at-loop .before .before .before .before .before .before .before .pre) (at-call .before .before .before .if1 .taken) (at-loop .loop .inv) (at-call .work-one .ensures))
-    (λ c.
-    let at-call = c .before .before .before .before in
-    let at-loop = at-call .before .before .before .before .before in
-    working-turn (at-loop .before .before .before .before .before .before .before .pre) (at-call .before .before .before .if1 .taken) (at-loop .loop .inv) (at-call .work-one .ensures))
-    (λ c κs. search needs)
-    (λ c.
-    let at-loop = c .before .before .before .before in
-    omega (arith, working-small (at-loop .before .before .before .before .before .before .before .pre) (at-loop .loop .inv) .0))
-    (λ c.
-    let at-loop = c .before .before .before .before in
-    omega (arith, c .before .highest .ensures, working-small (at-loop .before .before .before .before .before .before .before .pre) (at-loop .loop .inv) .1))
-    (λ c. c .before .before .before .before .loop .inv .size) (λ c. c .before .before .before .before .loop .inv .going .size)
-    (λ c.
-    let at-loop = c .before .before .before .before in
-    rw (c .before .highest .ensures) (working-end (at-loop .before .before .before .before .before .before .before .pre) (c .before .before .if1 .left) (at-loop .loop .inv))))
+work-off-spec = tie.close (tie.spec Inv-loop μ-loop (λ c κs. let entry = c .before .before .before .before .before in entry .pre .0 .holds)
+    (λ c. let entry = c .before .before .before .before .before .before in working-start (entry .pre) refl refl (c .start-lengths .result) (c .start-lengths .ensures))
+    work-one-requires loop-less loop-again (λ c κs. search needs) cast-result sub-result
+    (λ c. let at-loop = c .before .before .before .before in at-loop .loop .inv .size)
+    (λ c. let at-loop = c .before .before .before .before in at-loop .loop .inv .going .size) returns)

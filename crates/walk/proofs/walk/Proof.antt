@@ -4,7 +4,7 @@ use mathlib.Core.List.{List, _++_}
 use Prim.Native.Nat.{ℕ}
 use Rattle.model.specs.declared.Walked.{Walked}
 use Rattle.model.specs.Calls.{walkFigures}
-use Rattle.steps.proofs.Placing.{part-to-end}
+use Rattle.buffers.proofs.Parts.{part-rest}
 use Rattle.walk.proofs.Outcomes.{walk-told}
 use borrow.Author.Needs.{needs}
 use Rattle.walk.proofs.walk.Statement.{statement}
@@ -19,7 +19,7 @@ returns c =
     let halted = at-walk-table .walk-table in
     let h = halted .ensures in
     let f = at-put-figures .put-figures .ensures ∙ ap₂ (λ (x : Walked) (counts : List ℕ). walkFigures x ++ counts) (h .answer) (h .counts) in (
-      record { figures = f; rest = part-to-end (a .list .now) (halted .result .from) ∙ h .rest; pile = h .pile; scratch = h .scratch },
+      record { figures = f; rest = part-rest (a .list .now) (halted .result .from) ∙ h .rest; pile = h .pile; scratch = h .scratch },
       walk-told (a .table .now) (a .list .now) (a .pile .now) (a .scratch .now) _ _ f (h .pile),
     )
 

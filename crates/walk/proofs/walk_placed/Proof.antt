@@ -14,8 +14,8 @@ take-steps-requires c κs =
 
 returns : tie.Need-returns
 returns c =
-    let at-settle = c .before .before .before in
-    let at-conclude = at-settle .before .before .before .before .before in
+    let at-front = c .before .before .before in
+    let at-conclude = at-front .before .before .before .before .before in
     let at-take-steps = at-conclude .before .before .before .before .before in
     let at-place-start = at-take-steps .before .before .before .before in
     let entry = at-place-start .before .before .before .before .before .before in
@@ -23,8 +23,8 @@ returns c =
     let placed = at-place-start .place-start in
     let steps = at-take-steps .take-steps in
     let end = at-conclude .conclude in
-    placed-halts (a .table .now) (a .t) (a .list .now) (a .pile .now) (a .scratch .now) (placed .result) (placed .last .1 .1 .0) (steps .last .1 .1 .1 .0) (at-settle .settle .last .0) (end .last .1 .1 .1 .1 .0) (steps .result) (end .result)
-    (placed .ensures .0) (placed .kept .1 .1 .0) (steps .kept .1 .1 .1 .0) (steps .ensures) (end .ensures .0) (end .ensures .1) (at-settle .settle .ensures)
+    placed-halts (a .table .now) (a .t) (a .list .now) (a .pile .now) (a .scratch .now) (placed .result) (placed .last .1 .1 .0) (steps .last .1 .1 .1 .0) (at-front .bring-front .last .0) (end .last .1 .1 .1 .1 .0) (steps .result) (end .result)
+    (placed .ensures .0) (placed .kept .1 .1 .0) (steps .kept .1 .1 .1 .0) (steps .ensures) (end .ensures .0) (end .ensures .1) (at-front .bring-front .ensures)
 
 pub walk-placed-spec : {M : Type 1} → statement M
 walk-placed-spec = tie.close (tie.spec (λ c κs. search needs) take-steps-requires (λ c κs. search needs) (λ c κs. search needs) (λ c. search needs)

@@ -12,5 +12,5 @@ abbrev μ-loop : tie.MeasureT-loop
 μ-loop figures i₀ i = 12 - i
 
 pub print-figures-spec : {M : Type 1} → statement M
-print-figures-spec = tie.close (tie.spec Inv-loop μ-loop (λ c. omega arith) (λ c. omega arith) (λ c. search needs) (λ c κs. search needs) (λ c. omega arith)
-    (λ c. omega arith) (λ c. search needs) (λ c. search needs))
+print-figures-spec = tie.close (tie.spec Inv-loop μ-loop (λ c. omega arith) (λ c. omega arith) (λ c. search needs) (λ c κs. search needs)
+    (λ c. omega arith) (λ c. omega arith) (λ c. search needs) (λ c. search needs))

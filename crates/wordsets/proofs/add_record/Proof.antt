@@ -15,8 +15,9 @@ abbrev μ-loop : tie.MeasureT-loop
 
 add-row-requires : tie.Need-add-row-requires Inv-loop μ-loop
 add-row-requires c κs =
-    let sep = c .before .before .before .before .pre .0 in
-    let fits = c .before .before .before .before .pre .1 in
+    let entry = c .before .before .before .before in
+    let sep = entry .pre .0 in
+    let fits = entry .pre .1 in
     let size = c .before .before .loop .inv .1 .outside .size in (
       record { apart = sep .apart; from-room = omega (arith, sep .from-room, size); to-room = omega (arith, sep .to-room, size) },
       omega arith,
@@ -24,17 +25,25 @@ add-row-requires c κs =
       omega (arith, fits .before),
     )
 
-pub add-record-spec : {M : Type 1} → statement M
-add-record-spec = tie.close (tie.spec Inv-loop μ-loop
-    (λ c. let a = c .before .args in (omega arith, record-start (a .from) (a .to) (a .y) (a .x) (a .rest) (a .words) (a .s .now)))
-    (λ c. omega (arith, c .before .before .before .before .pre .1 .before)) (λ c. omega (arith, c .before .before .before .before .pre .1 .before))
-    (λ c. omega (arith, c .before .before .before .before .pre .1 .before)) add-row-requires (λ c. omega arith) (λ c. omega arith)
-    (λ c.
-    let p = c .before .before .before .before .before .before .before .pre in
-    (omega arith, record-turn (c .before .before .before .before .before .loop .common) (c .before .before .add-row .result) (p .0) (p .1) (c .before .before .before .before .loop-test .taken) (c .before .before .before .before .before .loop .inv .1) (c .before .before .add-row .ensures)))
-    (λ c. c .before .loop .inv .1 .outside .size)
-    (λ c.
+loop-again : tie.Need-loop-again Inv-loop μ-loop
+loop-again c =
+    let at-loop-test = c .before .before .before .before in
+    let at-loop = at-loop-test .before in
+    let entry = at-loop .before .before in
+    let p = entry .pre in
+    (omega arith, record-turn (at-loop .loop .common) (c .before .before .add-row .result) (p .0) (p .1) (at-loop-test .loop-test .taken) (at-loop .loop .inv .1) (c .before .before .add-row .ensures))
+
+returns : tie.Need-returns Inv-loop μ-loop
+returns c =
     let a = c .before .before .before .args in
     let t = c .before .loop in
     let e : t .h ≡ a .rows = omega (arith, t .inv .0) in
-    subst (λ (k : ℕ). RecordAdded (a .from) (a .to) (a .y) (a .x) (a .rest) k (a .words) (a .s .now) (t .s) (t .common)) e (t .inv .1)))
+    subst (λ (k : ℕ). RecordAdded (a .from) (a .to) (a .y) (a .x) (a .rest) k (a .words) (a .s .now) (t .s) (t .common)) e (t .inv .1)
+
+pub add-record-spec : {M : Type 1} → statement M
+add-record-spec = tie.close (tie.spec Inv-loop μ-loop
+    (λ c. let a = c .before .args in (omega arith, record-start (a .from) (a .to) (a .y) (a .x) (a .rest) (a .words) (a .s .now)))
+    (λ c. let entry = c .before .before .before .before in omega (arith, entry .pre .1 .before))
+    (λ c. let entry = c .before .before .before .before in omega (arith, entry .pre .1 .before))
+    (λ c. let entry = c .before .before .before .before in omega (arith, entry .pre .1 .before)) add-row-requires (λ c. omega arith)
+    (λ c. omega arith) loop-again (λ c. c .before .loop .inv .1 .outside .size) returns)

@@ -42,12 +42,13 @@ returns-3 c =
       λ e z. absurd (omega (arith, some at-letter, z)),
     )
 
-pub is-idle-spec : {M : Type 1} → statement M
-is-idle-spec = tie.close (tie.spec (λ c. (λ e. absurd (false≢true e), λ e z. c .if1 .taken)) (λ c κs. search needs)
-    (λ c.
+returns-2 : tie.Need-returns-2
+returns-2 c =
     let at-count = c .before in
     let start = at-count .before .before .before .before .before .before in
-    (λ e. idle-plain (start .pre .0) (start .pre .1) (at-count .before .if1 .left) (sym (at-count .written-count .ensures) ∙ c .if2 .taken), λ e. absurd (true≢false e)))
-    (λ c κs. search needs) (λ c κs. search needs)
-    (λ c κs. (entry (c .before) .pre .0 .holds, omega (arith, c .wide .ensures .0, small (c .before)))) (λ c κs. search needs) (λ c κs. search needs) (λ c κs. search needs)
-    (λ c κs. search needs) (λ c κs. search needs) returns-3)
+    (λ e. idle-plain (start .pre .0) (start .pre .1) (at-count .before .if1 .left) (sym (at-count .written-count .ensures) ∙ c .if2 .taken), λ e. absurd (true≢false e))
+
+pub is-idle-spec : {M : Type 1} → statement M
+is-idle-spec = tie.close (tie.spec (λ c. (λ e. absurd (false≢true e), λ e z. c .if1 .taken)) (λ c κs. search needs) returns-2 (λ c κs. search needs)
+    (λ c κs. search needs) (λ c κs. (entry (c .before) .pre .0 .holds, omega (arith, c .wide .ensures .0, small (c .before)))) (λ c κs. search needs)
+    (λ c κs. search needs) (λ c κs. search needs) (λ c κs. search needs) (λ c κs. search needs) returns-3)

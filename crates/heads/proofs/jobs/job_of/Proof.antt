@@ -28,7 +28,10 @@ returns c =
       n = refl;
     }
 
+cast-t12 : tie.Need-cast-t12
+cast-t12 c =
+    let start = c .before .before .before .before .before .before in
+    omega (arith, start .pre .1, table-modest (start .args .table .now) (start .args .t) (start .pre .0) .rules)
+
 pub job-of-spec : {M : Type 1} → statement M
-job-of-spec = tie.close (tie.spec (λ c κs. search needs) (λ c κs. search needs) (λ c κs. search needs)
-    (λ c. let start = c .before .before .before .before .before .before in omega (arith, start .pre .1, table-modest (start .args .table .now) (start .args .t) (start .pre .0) .rules))
-    (λ c κs. search needs) returns)
+job-of-spec = tie.close (tie.spec (λ c κs. search needs) (λ c κs. search needs) (λ c κs. search needs) cast-t12 (λ c κs. search needs) returns)

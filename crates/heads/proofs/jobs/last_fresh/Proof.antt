@@ -6,11 +6,15 @@ use borrow.Author.Needs.{needs}
 use Rattle.heads.proofs.jobs.last_fresh.Statement.{statement}
 use Rattle.heads.proofs.jobs.last_fresh.Tie as tie
 
+returns : tie.Need-returns
+returns c =
+    let a = c .before .args in
+    rw (eq-eqb (a .fresh / 2 ^ a .a % 2) 1 (c .if1 .taken)) refl
+
+returns-2 : tie.Need-returns-2
+returns-2 c =
+    let a = c .before .args in
+    rw (ne-eqb (a .fresh / 2 ^ a .a % 2) 1 (c .if1 .left)) refl
+
 pub last-fresh-spec : {M : Type 1} → statement M
-last-fresh-spec = tie.close (tie.spec (λ c. search needs) (λ c. search needs)
-    (λ c.
-    let a = c .before .args in
-    rw (eq-eqb (a .fresh / 2 ^ a .a % 2) 1 (c .if1 .taken)) refl)
-    (λ c.
-    let a = c .before .args in
-    rw (ne-eqb (a .fresh / 2 ^ a .a % 2) 1 (c .if1 .left)) refl))
+last-fresh-spec = tie.close (tie.spec (λ c. search needs) (λ c. search needs) returns returns-2)

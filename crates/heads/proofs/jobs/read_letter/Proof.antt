@@ -43,11 +43,13 @@ returns c =
     (at-mask .mask-of .ensures ∙ ap (λ (L : Processes). maskOf L) processes) (c .with-letter .ensures .2 ∙ chosen) (entry at-letter .pre .3)
     _ _ (c .with-letter .ensures .0) (c .with-letter .ensures .1)
 
+last-fresh-requires : tie.Need-last-fresh-requires
+last-fresh-requires c κs =
+    let at-letter = c .before .before .before .before in
+    let start = entry at-letter in
+    omega (arith, c .wide2 .ensures .0, small at-letter, table-modest (start .args .table .now) (start .args .t) (start .pre .0) .letters)
+
 pub read-letter-spec : {M : Type 1} → statement M
 read-letter-spec = tie.close (tie.spec (λ c κs. search needs) (λ c κs. search needs)
     (λ c κs. (entry (c .before) .pre .0, omega (arith, c .wide .ensures .0, small (c .before)))) (λ c κs. search needs) (λ c κs. search needs)
-    (λ c κs.
-    let at-letter = c .before .before .before .before in
-    let start = entry at-letter in
-    omega (arith, c .wide2 .ensures .0, small at-letter, table-modest (start .args .table .now) (start .args .t) (start .pre .0) .letters))
-    (λ c κs. few (c .before .before .before .before .before)) returns)
+    last-fresh-requires (λ c κs. let place = c .before .before .before .before .before in few (place)) returns)

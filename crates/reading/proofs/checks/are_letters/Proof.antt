@@ -16,9 +16,16 @@ Inv-loop part letters j₀ j = Tested (λ a. ltb a letters) part j
 abbrev μ-loop : tie.MeasureT-loop
 μ-loop part letters j₀ j = length part - j
 
+returns : tie.Need-returns Inv-loop μ-loop
+returns c =
+    let at-loop = c .before .before .before .before in
+    tested-fails (at-loop .loop .inv) 0 (c .before .before .before .loop-test .taken) (rw (← (c .before .wide .ensures .0)) (le-ltb _ _ (c .if1 .left)))
+
+loop-again : tie.Need-loop-again Inv-loop μ-loop
+loop-again c =
+    let at-loop = c .before .before .before .before in
+    tested-more (at-loop .loop .inv) 0 (c .before .before .before .loop-test .taken) (rw (← (c .before .wide .ensures .0)) (lt-ltb _ _ (c .if1 .taken)))
+
 pub are-letters-spec : {M : Type 1} → statement M
 are-letters-spec = tie.close (tie.spec Inv-loop μ-loop (λ c. record { within = omega arith; passed = refl }) (λ c. omega arith) (λ c κs. search needs)
-    (λ c. tested-fails (c .before .before .before .before .loop .inv) 0 (c .before .before .before .loop-test .taken) (rw (← (c .before .wide .ensures .0)) (le-ltb _ _ (c .if1 .left))))
-    (λ c. omega arith) (λ c. omega arith)
-    (λ c. tested-more (c .before .before .before .before .loop .inv) 0 (c .before .before .before .loop-test .taken) (rw (← (c .before .wide .ensures .0)) (lt-ltb _ _ (c .if1 .taken))))
-    (λ c. tested-end (c .before .loop .inv) (c .loop-test .left)))
+    returns (λ c. omega arith) (λ c. omega arith) loop-again (λ c. tested-end (c .before .loop .inv) (c .loop-test .left)))

@@ -43,7 +43,11 @@ returns-2 c =
     let at-loop = c .before .before in
     tested-end (at-loop .loop .inv) (omega (arith, c .if1 .left, size (at-loop .before .before .args .bytes .now) (at-loop .before .before .args .t .processes)))
 
+loop-less : tie.Need-loop-less Inv-loop μ-loop
+loop-less c =
+    let at-loop = c .before .before .before .before in
+    omega (arith, c .before .before .if1 .taken, size (at-loop .before .before .args .bytes .now) (at-loop .before .before .args .t .processes))
+
 pub is-narrow-spec : {M : Type 1} → statement M
-is-narrow-spec = tie.close (tie.spec Inv-loop μ-loop (λ c. record { within = omega arith; passed = refl }) (λ c κs. search needs) returns (λ c. omega arith)
-    (λ c. let at-loop = c .before .before .before .before in omega (arith, c .before .before .if1 .taken, size (at-loop .before .before .args .bytes .now) (at-loop .before .before .args .t .processes)))
-    loop-again returns-2)
+is-narrow-spec = tie.close (tie.spec Inv-loop μ-loop (λ c. record { within = omega arith; passed = refl }) (λ c κs. search needs) returns
+    (λ c. omega arith) loop-less loop-again returns-2)

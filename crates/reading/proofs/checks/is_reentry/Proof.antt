@@ -14,7 +14,7 @@ use Rattle.model.specs.Groups.{at, every, has, processesOf}
 use Rattle.model.specs.Tables.{byteOf, groupOf, isReentry, locOf, transitionOf}
 use Rattle.table.specs.declared.Table.{Table}
 use Rattle.table.specs.Places.{boundIn, lettersIn}
-use Rattle.table.proofs.Values.{whole-size, whole-transition}
+use Rattle.reading.proofs.Values.{whole-size, whole-transition}
 use Rattle.reading.proofs.checks.is_reentry.Statement.{statement}
 use Rattle.reading.proofs.checks.is_reentry.Tie as tie
 
@@ -45,10 +45,16 @@ returns-3 c =
       c .is-narrow .ensures,
     )
 
+bits-of-requires : tie.Need-bits-of-requires
+unfolding isReentry
+bits-of-requires c κs =
+    let entry = c .before .before .before .before .before in
+    (entry .pre .0 .heads, rw (c .wide .ensures .0) (whole-transition (entry .pre .0) (c .before .before .if1 .left) (entry .pre .1)))
+
 pub is-reentry-spec : {M : Type 1} → statement M
 unfolding isReentry
 is-reentry-spec = tie.close (tie.spec (λ c. rw (ne-eqb _ _ (c .if1 .taken)))
-    (λ c. omega (arith, whole-size (c .before .before .before .before .pre .0) (c .before .if1 .left))) (λ c κs. search needs)
-    (λ c κs. let entry = c .before .before .before .before .before in (entry .pre .0 .heads, rw (c .wide .ensures .0) (whole-transition (entry .pre .0) (c .before .before .if1 .left) (entry .pre .1))))
-    (λ c κs. omega (arith, whole-size (c .before .before .before .before .before .before .pre .0) (c .before .before .before .if1 .left)))
+    (λ c. let entry = c .before .before .before .before in omega (arith, whole-size (entry .pre .0) (c .before .if1 .left))) (λ c κs. search needs)
+    bits-of-requires
+    (λ c κs. let entry = c .before .before .before .before .before .before in omega (arith, whole-size (entry .pre .0) (c .before .before .before .if1 .left)))
     (λ c κs. search needs) returns-2 (λ c κs. search needs) returns-3)

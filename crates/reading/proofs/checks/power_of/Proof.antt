@@ -1,6 +1,6 @@
 -- The list of five numbers holds the powers (Values).
 use borrow.Author.Needs.{needs}
-use Rattle.table.proofs.Values.{powers}
+use Rattle.reading.proofs.Values.{powers}
 use Rattle.reading.proofs.checks.power_of.Statement.{statement}
 use Rattle.reading.proofs.checks.power_of.Tie as tie
 

@@ -8,19 +8,31 @@ use Rattle.reading.proofs.items.check_item.Statement.{statement}
 use Rattle.reading.proofs.items.check_item.Tie as tie
 
 returns-2 : tie.Need-returns-2
-returns-2 c = early-refused _ _ _ (c .before .before .before .before .before .pre .0) (c .before .before .before .before .before .pre .1) (sym (c .before .before .before .is-stranger .ensures) ∙ c .before .before .if1 .left) _ (c .before .early-refusal .ensures) (c .if2 .taken)
+returns-2 c =
+    let entry = c .before .before .before .before .before in
+    early-refused _ _ _ (entry .pre .0) (entry .pre .1) (sym (c .before .before .before .is-stranger .ensures) ∙ c .before .before .if1 .left) _ (c .before .early-refusal .ensures) (c .if2 .taken)
 
 body-at-requires : tie.Need-body-at-requires
-body-at-requires c κs = omega (arith, c .body-length .ensures, early-of _ _ _ (c .before .before .before .before .before .before .pre .0) (c .before .before .before .before .before .before .pre .1) (sym (c .before .before .before .before .is-stranger .ensures) ∙ c .before .before .before .if1 .left) (sym (c .before .before .early-refusal .ensures) ∙ c .before .if2 .left) .inside)
+body-at-requires c κs =
+    let at-is-stranger = c .before .before .before .before in
+    let entry = at-is-stranger .before .before in
+    omega (arith, c .body-length .ensures, early-of _ _ _ (entry .pre .0) (entry .pre .1) (sym (at-is-stranger .is-stranger .ensures) ∙ c .before .before .before .if1 .left) (sym (c .before .before .early-refusal .ensures) ∙ c .before .if2 .left) .inside)
 
 check-body-requires : tie.Need-check-body-requires
 check-body-requires c κs =
-    let f = early-of _ _ _ (c .before .before .before .before .before .before .before .pre .0) (c .before .before .before .before .before .before .before .pre .1) (sym (c .before .before .before .before .before .is-stranger .ensures) ∙ c .before .before .before .before .if1 .left) (sym (c .before .before .before .early-refusal .ensures) ∙ c .before .before .if2 .left) in
-    rw (c .body-at .ensures .0, c .before .body-length .ensures) (c .before .before .before .before .before .before .before .pre .0, f .turn, f .inside, refl, f .whole)
+    let at-if1 = c .before .before .before .before in
+    let at-is-stranger = at-if1 .before in
+    let entry = at-is-stranger .before .before in
+    let f = early-of _ _ _ (entry .pre .0) (entry .pre .1) (sym (at-is-stranger .is-stranger .ensures) ∙ at-if1 .if1 .left) (sym (c .before .before .before .early-refusal .ensures) ∙ c .before .before .if2 .left) in
+    rw (c .body-at .ensures .0, c .before .body-length .ensures) (entry .pre .0, f .turn, f .inside, refl, f .whole)
 
 returns-3 : tie.Need-returns-3
 returns-3 c =
-    let f = early-of _ _ _ (c .before .before .before .before .before .before .before .before .pre .0) (c .before .before .before .before .before .before .before .before .pre .1) (sym (c .before .before .before .before .before .before .is-stranger .ensures) ∙ c .before .before .before .before .before .if1 .left) (sym (c .before .before .before .before .early-refusal .ensures) ∙ c .before .before .before .if2 .left) in
+    let at-early-refusal = c .before .before .before .before in
+    let at-if1 = at-early-refusal .before in
+    let at-is-stranger = at-if1 .before in
+    let entry = at-is-stranger .before .before in
+    let f = early-of _ _ _ (entry .pre .0) (entry .pre .1) (sym (at-is-stranger .is-stranger .ensures) ∙ at-if1 .if1 .left) (sym (at-early-refusal .early-refusal .ensures) ∙ c .before .before .before .if2 .left) in
     rw (c .check-body .ensures, c .before .body-at .ensures .0, c .before .before .body-length .ensures) (f .same)
 
 pub check-item-spec : {M : Type 1} → statement M

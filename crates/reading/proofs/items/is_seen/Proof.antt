@@ -2,7 +2,7 @@
 use mathlib.Core.Path.{refl, sym, _∙_}
 use native.Mathlib.Omega.{arith}
 use borrow.Author.Needs.{needs}
-use Rattle.table.proofs.Bodies.{Left, left-room, left-found, left-turn, left-end}
+use Rattle.reading.proofs.Twins.{Left, left-room, left-found, left-turn, left-end}
 use Rattle.reading.proofs.items.is_seen.Statement.{statement}
 use Rattle.reading.proofs.items.is_seen.Tie as tie
 

@@ -5,7 +5,7 @@ use lib.ListN.{drop}
 use borrow.Author.Needs.{needs}
 use borrow.Author.Tests.{eq-eqb, ne-eqb}
 use Rattle.numbers.proofs.NumberBytes.{AllBytes}
-use Rattle.table.proofs.Scans.{same-front, same-numbers}
+use Rattle.reading.proofs.Twins.{same-front, same-numbers}
 use Rattle.reading.proofs.items.same_bytes.Statement.{statement}
 use Rattle.reading.proofs.items.same_bytes.Tie as tie
 
@@ -36,5 +36,5 @@ same-from-requires-2 c κs =
     )
 
 pub same-bytes-spec : {M : Type 1} → statement M
-same-bytes-spec = tie.close (tie.spec (λ c κs. search needs) (λ c. search needs) (λ c κs. search needs) (λ c κs. search needs) returns-2 same-from-requires-2
-    (λ c. search needs))
+same-bytes-spec = tie.close (tie.spec (λ c κs. search needs) (λ c. search needs) (λ c κs. search needs) (λ c κs. search needs) returns-2
+    same-from-requires-2 (λ c. search needs))

@@ -6,7 +6,7 @@ use native.Mathlib.Omega.{arith}
 use lib.ListN.{take, drop, length-drop}
 use lib.Seq.{getD-drop}
 use Rattle.model.specs.Tables.{sameBytes}
-use Rattle.table.proofs.Scans.{same-more, same-fails}
+use Rattle.reading.proofs.Twins.{same-more, same-fails}
 use Rattle.reading.proofs.items.same_from.Statement.{statement}
 use Rattle.reading.proofs.items.same_from.Tie as tie
 
@@ -36,10 +36,12 @@ loop-again c =
           (rw (getD-drop (x .a) (x .bytes .now) j 0, getD-drop (x .b) (x .bytes .now) j 0) (c .if1 .taken)),
     )
 
-pub same-from-spec : {M : Type 1} → statement M
-same-from-spec = tie.close (tie.spec Inv-loop μ-loop (λ c. (c .pre .2, c .pre .3)) (λ c. omega arith) (λ c. omega arith) (λ c. omega arith)
-    (λ c. omega arith) returns (λ c. omega arith) (λ c. omega arith) loop-again
-    (λ c.
+returns-2 : tie.Need-returns-2 Inv-loop μ-loop
+returns-2 c =
     let at-loop = c .before in
     let e : at-loop .loop .j ≡ at-loop .before .args .n = omega arith in
-    sym (rw e at (at-loop .loop .inv .1))))
+    sym (rw e at (at-loop .loop .inv .1))
+
+pub same-from-spec : {M : Type 1} → statement M
+same-from-spec = tie.close (tie.spec Inv-loop μ-loop (λ c. (c .pre .2, c .pre .3)) (λ c. omega arith) (λ c. omega arith) (λ c. omega arith)
+    (λ c. omega arith) returns (λ c. omega arith) (λ c. omega arith) loop-again returns-2)

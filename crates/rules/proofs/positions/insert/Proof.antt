@@ -2,7 +2,7 @@
 use Prim.Native.Nat.{_%_}
 use native.Mathlib.Omega.{arith}
 use borrow.Author.Needs.{needs}
-use Rattle.automaton.proofs.StateSets.{one-shifted}
+use Rattle.states.proofs.StateSets.{one-shifted}
 use Rattle.rules.specs.Regions.{withPosition}
 use Rattle.rules.proofs.positions.insert.Statement.{statement}
 use Rattle.rules.proofs.positions.insert.Tie as tie
@@ -12,4 +12,5 @@ unfolding withPosition
 returns c = rw (one-shifted (c .before .args .p % 8) (omega arith))
 
 pub insert-spec : {M : Type 1} → statement M
-insert-spec = tie.close (tie.spec (λ c. search needs) (λ c. search needs) (λ c. search needs) (λ c. search needs) (λ c. search needs) (λ c. search needs) returns)
+insert-spec = tie.close (tie.spec (λ c. search needs) (λ c. search needs) (λ c. search needs) (λ c. search needs) (λ c. search needs)
+    (λ c. search needs) returns)

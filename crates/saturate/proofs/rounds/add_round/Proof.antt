@@ -32,47 +32,67 @@ loop-holds c =
     let keys = at-index .index-keys .ensures in
     heads-start (round-stands begins (rings .0) letters active first keys (rings .1) (rings .2)) _ (keys-keep begins (rings .0) letters active first keys) first
 
-pub add-round-spec : {M : Type 1} → statement M
-add-round-spec = tie.close (tie.spec Inv-loop μ-loop (λ c κs. search needs) (λ c κs. search needs)
-    (λ c. let begins = c .before .before .before .before .before .before .before .before .before .before .pre in omega (arith, begins .late, begins .fits, begins .room))
-    (λ c κs.
+add-number : tie.Need-add-number Inv-loop μ-loop
+add-number c =
+    let entry = c .before .before .before .before .before .before .before .before .before .before in
+    let begins = entry .pre in omega (arith, begins .late, begins .fits, begins .room)
+
+set-active-requires : tie.Need-set-active-requires Inv-loop μ-loop
+set-active-requires c κs =
     let at-append = c .before .before .before .before .before in
     let entry = at-append .before .before .before .before .before .before in
     let modest = table-modest (entry .args .table .now) (entry .args .t) (entry .pre .holds) in
-    (modest .rules, modest .letters, omega (arith, entry .pre .scratch, at-append .append .ensures .0 .size)))
-    (λ c κs.
+    (modest .rules, modest .letters, omega (arith, entry .pre .scratch, at-append .append .ensures .0 .size))
+
+next-active-requires : tie.Need-next-active-requires Inv-loop μ-loop
+next-active-requires c κs =
     let at-active = c .before .before .before in
     let at-append = at-active .before .before .before .before .before .before in
-    omega (arith, at-append .before .before .before .before .before .before .pre .scratch, at-append .append .ensures .0 .size, at-active .set-active .ensures .kept .size))
-    (λ c κs.
+    omega (arith, at-append .before .before .before .before .before .before .pre .scratch, at-append .append .ensures .0 .size, at-active .set-active .ensures .kept .size)
+
+index-keys-requires : tie.Need-index-keys-requires Inv-loop μ-loop
+index-keys-requires c κs =
     let at-active = c .before .before .before .before .before .before in
     let at-letters = at-active .before .before in
     let at-append = at-letters .before .before .before .before in
-    may-index (at-append .before .before .before .before .before .before .pre) (at-append .append .ensures .0) (at-letters .fresh-letters .ensures) (at-active .set-active .ensures))
-    loop-holds (λ c κs. search needs)
-    (λ c κs.
+    may-index (at-append .before .before .before .before .before .before .pre) (at-append .append .ensures .0) (at-letters .fresh-letters .ensures) (at-active .set-active .ensures)
+
+add-head-requires : tie.Need-add-head-requires Inv-loop μ-loop
+add-head-requires c κs =
     let at-test = c .before .before in
     let is = at-test .before .goes-on .ensures in
     let goes = at-test .if1 .taken in
     let inv = at-test .before .before .loop .inv in
-    (inv .standing, below inv is goes, head-active inv is goes, head-leading inv is goes, inv .large, fits inv is goes))
-    (λ c.
+    (inv .standing, below inv is goes, head-active inv is goes, head-leading inv is goes, inv .large, fits inv is goes)
+
+loop-less : tie.Need-loop-less Inv-loop μ-loop
+loop-less c =
     let at-head = c .before .before .before .before in
     let at-test = at-head .before .before .before in
-    rules-fewer (at-test .before .before .loop .inv) (at-test .before .goes-on .ensures) (at-test .if1 .taken) (at-head .add-head .ensures))
-    (λ c.
+    rules-fewer (at-test .before .before .loop .inv) (at-test .before .goes-on .ensures) (at-test .if1 .taken) (at-head .add-head .ensures)
+
+loop-again : tie.Need-loop-again Inv-loop μ-loop
+loop-again c =
     let at-head = c .before .before .before .before in
     let at-test = at-head .before .before .before in
-    heads-turn (at-test .before .before .loop .inv) (at-test .before .goes-on .ensures) (at-test .if1 .taken) (at-head .add-head .ensures))
-    (λ c κs. search needs) (λ c. c .before .before .before .loop .inv .log-length)
-    (λ c.
+    heads-turn (at-test .before .before .loop .inv) (at-test .before .goes-on .ensures) (at-test .if1 .taken) (at-head .add-head .ensures)
+
+same-length-2 : tie.Need-same-length-2 Inv-loop μ-loop
+same-length-2 c =
     let at-index = c .before .before .before .before .before .before in
     let at-active = at-index .before .before .before .before .before .before .before in
     c .before .before .before .loop .inv .scratch-length ∙ at-index .index-keys .ensures .outside .size ∙ at-active .set-active .ensures .kept .size
-    ∙ at-active .before .before .before .before .before .before .append .ensures .0 .size)
-    (λ c.
+    ∙ at-active .before .before .before .before .before .before .append .ensures .0 .size
+
+returns : tie.Need-returns Inv-loop μ-loop
+returns c =
     let at-index = c .before .before .before .before .before .before in
     let at-active = at-index .before .before .before .before .before .before .before in
     let at-append = at-active .before .before .before .before .before .before in
     round-ends (at-append .before .before .before .before .before .before .pre) (heads-end (c .before .before .before .loop .inv) (c .before .before .goes-on .ensures) (c .before .if1 .left))
-    (at-index .index-keys .ensures .outside .size ∙ at-active .set-active .ensures .kept .size ∙ at-append .append .ensures .0 .size) (c .told .ensures)))
+    (at-index .index-keys .ensures .outside .size ∙ at-active .set-active .ensures .kept .size ∙ at-append .append .ensures .0 .size) (c .told .ensures)
+
+pub add-round-spec : {M : Type 1} → statement M
+add-round-spec = tie.close (tie.spec Inv-loop μ-loop (λ c κs. search needs) (λ c κs. search needs) add-number set-active-requires next-active-requires
+    index-keys-requires loop-holds (λ c κs. search needs) add-head-requires loop-less loop-again (λ c κs. search needs)
+    (λ c. c .before .before .before .loop .inv .log-length) same-length-2 returns)

@@ -17,7 +17,9 @@ abbrev μ-loop : tie.MeasureT-loop
 μ-loop log scratch₀ n count k a f x before r₀ scratch r = count - r
 
 abbrev entry : tie.At-loop Inv-loop μ-loop → tie.Start Inv-loop μ-loop
-entry c = c .before .before .before .before .before .before .before
+entry c =
+    let place = c .before .before .before .before .before .before .before in
+    place
 
 next-match-requires : tie.Need-next-match-requires Inv-loop μ-loop
 next-match-requires c κs =
@@ -28,28 +30,40 @@ next-match-requires c κs =
     let linked = taking-linked (entry (test .before) .pre) inv (add .before .before .own-after .ensures) less (add .add-record .ensures) in
     (linked .room, linked .ringed, less, inv .reading less)
 
-pub add-group-spec : {M : Type 1} → statement M
-add-group-spec = tie.close (tie.spec Inv-loop μ-loop (λ c κs. search needs) (λ c κs. search needs)
-    (λ c κs. let p = c .before .before .before .before .before .pre in (p .0 .room, p .0 .ringed))
-    (λ c.
+loop-holds : tie.Need-loop-holds Inv-loop μ-loop
+loop-holds c =
     let at-pack = c .before .before in
-    taking-start _ (at-pack .pack .ensures .0 ∙ ap packed (at-pack .before .numbered .ensures)) (c .first-match .ensures))
-    (λ c κs. omega (arith, c .before .before .before .before .before .before .before .before .pre .0 .room .records)) (λ c. omega arith)
-    (λ c. omega arith) (λ c. omega arith)
-    (λ c κs. let at-loop = c .before .before .before in taking-fits (entry at-loop .pre) (at-loop .loop .inv) (c .before .own-after .ensures))
-    (λ c.
+    taking-start _ (at-pack .pack .ensures .0 ∙ ap packed (at-pack .before .numbered .ensures)) (c .first-match .ensures)
+
+same-length : tie.Need-same-length Inv-loop μ-loop
+same-length c =
     let at-add-record = c .before .before .before .before in
-    at-add-record .add-record .ensures .outside .size ∙ at-add-record .before .before .before .before .loop .inv .added .same .size)
-    (λ c.
+    at-add-record .add-record .ensures .outside .size ∙ at-add-record .before .before .before .before .loop .inv .added .same .size
+
+returns : tie.Need-returns Inv-loop μ-loop
+returns c =
     let add = c .before .before .before .before in
     let test = add .before .before .before in
     taking-full (entry (test .before) .pre) (test .before .loop .inv) (add .before .before .own-after .ensures) (test .loop-test .taken)
-    (add .add-record .ensures) (c .if1 .taken))
-    next-match-requires
-    (λ c. omega (arith, reads-later _ _ _ _ _ _ (c .next-match .ensures), c .before .before .before .before .before .before .before .before .before .loop-test .taken))
-    (λ c.
+    (add .add-record .ensures) (c .if1 .taken)
+
+loop-less : tie.Need-loop-less Inv-loop μ-loop
+loop-less c =
+    let at-loop-test = c .before .before .before .before .before .before .before .before .before in
+    omega (arith, reads-later _ _ _ _ _ _ (c .next-match .ensures), at-loop-test .loop-test .taken)
+
+loop-again : tie.Need-loop-again Inv-loop μ-loop
+loop-again c =
     let add = c .before .before .before .before .before .before in
     let test = add .before .before .before in
     taking-turn (entry (test .before) .pre) (test .before .loop .inv) (add .before .before .own-after .ensures) (test .loop-test .taken)
-    (add .add-record .ensures) (c .next-match .ensures))
-    (λ c. c .before .loop .inv .added .same .size) (λ c. taking-end (c .loop-test .left) (c .before .loop .inv)))
+    (add .add-record .ensures) (c .next-match .ensures)
+
+pub add-group-spec : {M : Type 1} → statement M
+add-group-spec = tie.close (tie.spec Inv-loop μ-loop (λ c κs. search needs) (λ c κs. search needs)
+    (λ c κs. let entry = c .before .before .before .before .before in let p = entry .pre in (p .0 .room, p .0 .ringed)) loop-holds
+    (λ c κs. let entry = c .before .before .before .before .before .before .before .before in omega (arith, entry .pre .0 .room .records))
+    (λ c. omega arith) (λ c. omega arith) (λ c. omega arith)
+    (λ c κs. let at-loop = c .before .before .before in taking-fits (entry at-loop .pre) (at-loop .loop .inv) (c .before .own-after .ensures))
+    same-length returns next-match-requires loop-less loop-again (λ c. c .before .loop .inv .added .same .size)
+    (λ c. taking-end (c .loop-test .left) (c .before .loop .inv)))

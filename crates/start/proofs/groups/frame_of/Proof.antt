@@ -1,6 +1,6 @@
 -- What is gone through for a letter.
 use mathlib.Core.Path.{ap, _∙_}
-use Rattle.automaton.specs.StateNumbers.{stateNumber}
+use Rattle.states.specs.StateNumbers.{stateNumber}
 use borrow.Author.Needs.{needs}
 use Rattle.model.specs.Groups.{processesOf}
 use Rattle.start.specs.RestSets.{ownNumber}

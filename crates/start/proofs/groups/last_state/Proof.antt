@@ -6,5 +6,6 @@ use Rattle.start.proofs.groups.last_state.Statement.{statement}
 use Rattle.start.proofs.groups.last_state.Tie as tie
 
 pub last-state-spec : {M : Type 1} → statement M
-last-state-spec = tie.close (tie.spec (λ c. rw (c .if1 .taken) (sym (last-none (c .before .args .copied)))) (λ c. omega (arith, c .before .before .pre))
-    (λ c. omega (arith, c .before .if1 .left)) (λ c. rw (c .if2 .taken)) (λ c. omega (arith, c .before .if1 .left)) (λ c. rw (c .if2 .left)))
+last-state-spec = tie.close (tie.spec (λ c. rw (c .if1 .taken) (sym (last-none (c .before .args .copied))))
+    (λ c. omega (arith, c .before .before .pre)) (λ c. omega (arith, c .before .if1 .left)) (λ c. rw (c .if2 .taken))
+    (λ c. omega (arith, c .before .if1 .left)) (λ c. rw (c .if2 .left)))

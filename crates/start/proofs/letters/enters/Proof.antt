@@ -5,8 +5,8 @@ use Prim.Native.Nat.{ℕ}
 use borrow.Author.Needs.{needs}
 use Rattle.model.specs.declared.Group.{Group}
 use Rattle.model.specs.Groups.{processesOf, merge}
-use Rattle.automaton.specs.StateNumbers.{stateNumber}
-use Rattle.automaton.specs.StateSets.{member}
+use Rattle.states.specs.StateNumbers.{stateNumber}
+use Rattle.states.specs.StateSets.{member}
 use Rattle.start.proofs.ScratchRegions.{set-part}
 use Rattle.start.proofs.letters.enters.Statement.{statement}
 use Rattle.start.proofs.letters.enters.Tie as tie
@@ -23,5 +23,5 @@ returns c =
     (at-number .number .ensures .0 ∙ ap stateNumber (at-merged .merged .ensures ∙ ap (λ (h : Group). merge (processesOf (a .bits)) h (a .g)) (at-after-at .after-at .ensures)))
 
 pub enters-spec : {M : Type 1} → statement M
-enters-spec = tie.close (tie.spec (λ c κs. search needs) (λ c κs. search needs) (λ c κs. search needs) (λ c. search needs) (λ c. search needs) (λ c. search needs)
-    (λ c. search needs) (λ c. search needs) (λ c κs. search needs) returns)
+enters-spec = tie.close (tie.spec (λ c κs. search needs) (λ c κs. search needs) (λ c κs. search needs) (λ c. search needs) (λ c. search needs)
+    (λ c. search needs) (λ c. search needs) (λ c. search needs) (λ c κs. search needs) returns)

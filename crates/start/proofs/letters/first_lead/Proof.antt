@@ -15,19 +15,23 @@ Inv-loop log scratch n count k a g before r₀ r = Seeking log (setAt scratch k)
 abbrev μ-loop : tie.MeasureT-loop
 μ-loop log scratch n count k a g before r₀ r = count - r
 
-pub first-lead-spec : {M : Type 1} → statement M
-first-lead-spec = tie.close (tie.spec Inv-loop μ-loop (λ c κs. search needs) (λ c κs. search needs)
-    (λ c κs. let p = c .before .before .before .before .pre in (p .0 .room, p .0 .ringed))
-    (λ c. seeking-start (c .before .pack .ensures .0 ∙ ap packed (c .before .before .restricted .ensures)) (c .first-match .ensures))
-    (λ c κs. let p = c .before .before .before .before .before .before .before .pre in omega (arith, p .0 .room .records, p .0 .room .room, p .1))
-    (λ c. seeking-found (c .before .before .before .loop .inv) (c .before .before .loop-test .taken) (c .before .enters .ensures) (c .if1 .taken))
-    (λ c κs.
+next-match-requires : tie.Need-next-match-requires Inv-loop μ-loop
+next-match-requires c κs =
     let at-loop = c .before .before .before in
     let p = at-loop .before .before .before .before .before .before .pre in
     let less = c .before .before .loop-test .taken in
-    (p .0 .room, p .0 .ringed, less, at-loop .loop .inv .reading less))
-    (λ c. omega (arith, reads-later _ _ _ _ _ _ (c .next-match .ensures), c .before .before .before .loop-test .taken))
-    (λ c.
+    (p .0 .room, p .0 .ringed, less, at-loop .loop .inv .reading less)
+
+loop-again : tie.Need-loop-again Inv-loop μ-loop
+loop-again c =
     let at-enters = c .before .before in
-    seeking-turn (at-enters .before .before .loop .inv) (at-enters .before .loop-test .taken) (at-enters .enters .ensures) (c .before .if1 .left) (c .next-match .ensures))
+    seeking-turn (at-enters .before .before .loop .inv) (at-enters .before .loop-test .taken) (at-enters .enters .ensures) (c .before .if1 .left) (c .next-match .ensures)
+
+pub first-lead-spec : {M : Type 1} → statement M
+first-lead-spec = tie.close (tie.spec Inv-loop μ-loop (λ c κs. search needs) (λ c κs. search needs)
+    (λ c κs. let entry = c .before .before .before .before in let p = entry .pre in (p .0 .room, p .0 .ringed))
+    (λ c. seeking-start (c .before .pack .ensures .0 ∙ ap packed (c .before .before .restricted .ensures)) (c .first-match .ensures))
+    (λ c κs. let entry = c .before .before .before .before .before .before .before in let p = entry .pre in omega (arith, p .0 .room .records, p .0 .room .room, p .1))
+    (λ c. seeking-found (c .before .before .before .loop .inv) (c .before .before .loop-test .taken) (c .before .enters .ensures) (c .if1 .taken))
+    next-match-requires (λ c. omega (arith, reads-later _ _ _ _ _ _ (c .next-match .ensures), c .before .before .before .loop-test .taken)) loop-again
     (λ c. seeking-none (c .before .loop .inv) (c .loop-test .left)))

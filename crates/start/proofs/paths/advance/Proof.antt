@@ -7,7 +7,7 @@ use Rattle.model.specs.declared.Group.{Group}
 use Rattle.model.specs.Groups.{processesOf, merge}
 use Rattle.model.specs.Log.{stepsCap}
 use Rattle.table.proofs.Layouts.{table-modest}
-use Rattle.stack.proofs.RoundLogs.{round-has}
+use Rattle.logs.proofs.RoundLogs.{round-has}
 use Rattle.start.proofs.Tracing.{step-inside, step-steps, advanced}
 use Rattle.start.proofs.paths.advance.Statement.{statement}
 use Rattle.start.proofs.paths.advance.Tie as tie
@@ -36,18 +36,30 @@ returns c =
     (at-merged .merged .ensures ∙ ap (λ (h : Group). merge (processesOf (letter found .letter-at .result .bits)) h (a .c .state)) (at-merged .before .after-at .ensures))
     (c .add-steps .ensures ∙ ap (λ (k : ℕ). min (a .c .steps + k) stepsCap) (c .before .steps-at .ensures))
 
-pub advance-spec : {M : Type 1} → statement M
-advance-spec = tie.close (tie.spec (λ c κs. search needs) (λ c. search needs) (λ c κs. search needs)
-    (λ c κs. let start = c .before .before .before .before .before .before .before in
-    (start .pre .linked, omega (arith, start .pre .inside, few start)))
-    (λ c. search needs) (λ c. search needs) (λ c. let found = c .before .before in omega (arith, inside found, entry found .pre .some .1 .short))
-    (λ c κs. let start =
-    c .before .before .before .before .before .before .before .before .before .before in omega (arith, start .pre .linked .room .room, start .pre .inside, few start))
-    (λ c κs. let found = c .before .before .before .before .before in round-has (entry found .pre .some .1) _ (inside found)) (λ c κs. search needs)
-    (λ c κs. let found = c .before .before .before .before .before .before .before in
-    round-has (entry found .pre .some .1) _ (inside found))
-    (λ c κs.
+first-lead-requires : tie.Need-first-lead-requires
+first-lead-requires c κs =
+    let start = c .before .before .before .before .before .before .before in
+    (start .pre .linked, omega (arith, start .pre .inside, few start))
+
+put-number-requires : tie.Need-put-number-requires
+put-number-requires c κs =
+    let place = c .before .before .before .before .before .before .before .before .before .before in
+    let start =
+    place in omega (arith, start .pre .linked .room .room, start .pre .inside, few start)
+
+steps-at-requires : tie.Need-steps-at-requires
+steps-at-requires c κs =
+    let found = c .before .before .before .before .before .before .before in
+    round-has (entry found .pre .some .1) _ (inside found)
+
+add-steps-requires : tie.Need-add-steps-requires
+add-steps-requires c κs =
     let found = c .before .before .before .before .before .before .before .before in
     let u = entry found .pre in
-    (u .on-path .steps, omega (arith, c .steps-at .ensures, step-steps u (letter found .letter-at .ensures) (found .before .zeroed .ensures) (found .first-lead .ensures))))
-    (λ c. search needs) returns)
+    (u .on-path .steps, omega (arith, c .steps-at .ensures, step-steps u (letter found .letter-at .ensures) (found .before .zeroed .ensures) (found .first-lead .ensures)))
+
+pub advance-spec : {M : Type 1} → statement M
+advance-spec = tie.close (tie.spec (λ c κs. search needs) (λ c. search needs) (λ c κs. search needs) first-lead-requires (λ c. search needs)
+    (λ c. search needs) (λ c. let found = c .before .before in omega (arith, inside found, entry found .pre .some .1 .short)) put-number-requires
+    (λ c κs. let place = c .before .before .before .before .before in let found = place in round-has (entry found .pre .some .1) _ (inside found))
+    (λ c κs. search needs) steps-at-requires add-steps-requires (λ c. search needs) returns)

@@ -57,11 +57,13 @@ returns c =
     mixtures-end (a .table .now) (a .t) (entry .pre .0) (a .c) (entry .pre .1) (a .j) (entry .pre .2) _ (at-mixed .before .present .ensures) _ (at-mixed .mixed-of .result) (at-mixed .before .before .accepting-group .ensures) (at-mixed .mixed-of .ensures)
     (at-sets .set-count .result) (at-loop .loop .m) (at-sets .set-count .ensures) (at-loop .loop .inv .0) (c .loop-test .left) (a .scratch .now) (at-loop .loop .scratch) (at-loop .loop .inv .1)
 
-pub add-accepting-spec : {M : Type 1} → statement M
-add-accepting-spec = tie.close (tie.spec Inv-loop μ-loop (λ c κs. search needs)
-    (λ c κs. let entry = c .before .before .before in table-modest (entry .args .table .now) (entry .args .t) (entry .pre .0) .processes) mixed-of-requires (λ c κs. search needs)
-    (λ c.
+loop-holds : tie.Need-loop-holds Inv-loop μ-loop
+loop-holds c =
     let at-mixed = c .before in
     let a = at-mixed .before .before .before .before .before .args in
-    (omega arith, mixtures-start (a .t) (at-mixed .mixed-of .result) (a .scratch .now)))
-    add-mixture-requires (λ c. omega arith) (λ c. omega arith) loop-again same-length returns)
+    (omega arith, mixtures-start (a .t) (at-mixed .mixed-of .result) (a .scratch .now))
+
+pub add-accepting-spec : {M : Type 1} → statement M
+add-accepting-spec = tie.close (tie.spec Inv-loop μ-loop (λ c κs. search needs)
+    (λ c κs. let entry = c .before .before .before in table-modest (entry .args .table .now) (entry .args .t) (entry .pre .0) .processes)
+    mixed-of-requires (λ c κs. search needs) loop-holds add-mixture-requires (λ c. omega arith) (λ c. omega arith) loop-again same-length returns)

@@ -1,7 +1,7 @@
 -- The number of the mixture is put into the last set, where its set is within the table's processes.
 use mathlib.Core.Path.{_∙_, ap, sym}
 use borrow.Author.Needs.{needs}
-use Rattle.automaton.specs.StateNumbers.{stateNumber}
+use Rattle.states.specs.StateNumbers.{stateNumber}
 use Rattle.start.specs.Regions.{withState}
 use Rattle.start.specs.RestSets.{ownNumber, processesOfTable, zeroedGroup}
 use Rattle.start.proofs.sets.add_mixture.Statement.{statement}
@@ -20,5 +20,5 @@ returns c =
     (at-number .number .ensures .0 ∙ ap stateNumber (at-number .before .zeroed .ensures ∙ ap (zeroedGroup (processesOfTable (a .t))) (at-mixture .mixture .ensures))))
 
 pub add-mixture-spec : {M : Type 1} → statement M
-add-mixture-spec = tie.close (tie.spec (λ c κs. search needs) (λ c κs. search needs) (λ c κs. search needs) (λ c κs. search needs) (λ c κs. search needs) (λ c. search needs) returns
-    (λ c. rw (sym (c .before .is-within .ensures) ∙ c .if1 .left)))
+add-mixture-spec = tie.close (tie.spec (λ c κs. search needs) (λ c κs. search needs) (λ c κs. search needs) (λ c κs. search needs)
+    (λ c κs. search needs) (λ c. search needs) returns (λ c. rw (sym (c .before .is-within .ensures) ∙ c .if1 .left)))

@@ -5,11 +5,13 @@ use Rattle.start.proofs.ScratchRegions.{set-cleared}
 use Rattle.start.proofs.sets.clear_set.Statement.{statement}
 use Rattle.start.proofs.sets.clear_set.Tie as tie
 
-pub clear-set-spec : {M : Type 1} → statement M
-clear-set-spec = tie.close (tie.spec (λ c. search needs) (λ c. search needs) (λ c. search needs) (λ c. search needs) (λ c. search needs)
-    (λ c κs. search needs) (λ c. search needs)
-    (λ c.
+returns : tie.Need-returns
+returns c =
     let at-clear = c .before .before in
     let entry = at-clear .before .before .before in
     let a = entry .args in
-    set-cleared (a .scratch .now) (a .k) (at-clear .clear .last .0) (omega (arith, entry .pre)) (at-clear .clear .ensures)))
+    set-cleared (a .scratch .now) (a .k) (at-clear .clear .last .0) (omega (arith, entry .pre)) (at-clear .clear .ensures)
+
+pub clear-set-spec : {M : Type 1} → statement M
+clear-set-spec = tie.close (tie.spec (λ c. search needs) (λ c. search needs) (λ c. search needs) (λ c. search needs) (λ c. search needs)
+    (λ c κs. search needs) (λ c. search needs) returns)

@@ -17,7 +17,9 @@ abbrev cleared : tie.At-loop Inv-loop μ-loop → tie.After-clear-set Inv-loop �
 cleared c = c .before .before .before
 
 abbrev entry : tie.At-loop Inv-loop μ-loop → tie.Start Inv-loop μ-loop
-entry c = c .before .before .before .before .before .before .before
+entry c =
+    let place = c .before .before .before .before .before .before .before in
+    place
 
 add-accepting-requires : tie.Need-add-accepting-requires Inv-loop μ-loop
 add-accepting-requires c κs =
@@ -29,16 +31,21 @@ add-accepting-requires c κs =
           (arith, entry at-loop .pre .2, at-loop .loop .inv .same .size, cleared at-loop .clear-set .ensures .0 .size),
     )
 
+loop-again : tie.Need-loop-again Inv-loop μ-loop
+loop-again c =
+    let at-loop-test = c .before .before .before .before in
+    let at-loop = c .before .before .before .before .before in
+    numbering-turn (entry at-loop .pre .0) (omega (arith, entry at-loop .pre .2, cleared at-loop .clear-set .ensures .0 .size))
+    (at-loop-test .loop-test .taken) (at-loop .loop .inv) (c .before .before .add-accepting .ensures)
+
+returns : tie.Need-returns Inv-loop μ-loop
+returns c =
+    let filled = numbering-end (entry (c .before) .pre .0) (c .loop-test .left) (c .before .loop .inv) in
+    (same-join (cleared (c .before) .clear-set .ensures .0) (filled .same), λ round. set-last (entry (c .before) .pre .0) round _ _ filled)
+
 pub fill-accepting-spec : {M : Type 1} → statement M
 fill-accepting-spec = tie.close (tie.spec Inv-loop μ-loop
     (λ c κs. let start = c .before .before .before in (table-modest (start .args .table .now) (start .args .t) (start .pre .0) .pile, start .pre .2))
-    (λ c. numbering-start (c .before .before .before .before .before .before .pre .0) _ (c .before .before .clear-set .ensures .1)) (λ c. omega arith)
-    add-accepting-requires (λ c. omega arith)
-    (λ c.
-    let at-loop = c .before .before .before .before .before in
-    numbering-turn (entry at-loop .pre .0) (omega (arith, entry at-loop .pre .2, cleared at-loop .clear-set .ensures .0 .size))
-    (c .before .before .before .before .loop-test .taken) (at-loop .loop .inv) (c .before .before .add-accepting .ensures))
-    (λ c. c .before .loop .inv .same .size ∙ cleared (c .before) .clear-set .ensures .0 .size)
-    (λ c.
-    let filled = numbering-end (entry (c .before) .pre .0) (c .loop-test .left) (c .before .loop .inv) in
-    (same-join (cleared (c .before) .clear-set .ensures .0) (filled .same), λ round. set-last (entry (c .before) .pre .0) round _ _ filled)))
+    (λ c. let entry = c .before .before .before .before .before .before in numbering-start (entry .pre .0) _ (c .before .before .clear-set .ensures .1))
+    (λ c. omega arith) add-accepting-requires (λ c. omega arith) loop-again
+    (λ c. c .before .loop .inv .same .size ∙ cleared (c .before) .clear-set .ensures .0 .size) returns)

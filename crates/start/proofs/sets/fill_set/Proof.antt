@@ -30,7 +30,10 @@ returns c =
     set-filled (p .0, p .1, p .2, p .3) (at-letter-at .letter-at .ensures) (at-clear-set .clear-set .ensures) (p .4) (at-frame-of .frame-of .ensures)
     (c .before .before .add-groups .ensures)
 
+clear-set-requires : tie.Need-clear-set-requires
+clear-set-requires c κs =
+    let start = c .before .before .before .before .before in
+    (omega (arith, start .pre .2, few start), omega (arith, start .pre .1 .room .room))
+
 pub fill-set-spec : {M : Type 1} → statement M
-fill-set-spec = tie.close (tie.spec (λ c κs. search needs)
-    (λ c κs. let start = c .before .before .before .before .before in (omega (arith, start .pre .2, few start), omega (arith, start .pre .1 .room .room)))
-    (λ c κs. search needs) add-groups-requires (λ c. search needs) returns)
+fill-set-spec = tie.close (tie.spec (λ c κs. search needs) clear-set-requires (λ c κs. search needs) add-groups-requires (λ c. search needs) returns)

@@ -30,26 +30,36 @@ fill-set-requires c κs =
       at-last .last-states .ensures ∙ last-are (start .args .table .now) (start .args .t) holds (at-copying .copying-of .result) (at-copying .copying-of .ensures),
     )
 
-pub fill-sets-spec : {M : Type 1} → statement M
-fill-sets-spec = tie.close (tie.spec Inv-loop μ-loop
-    (λ c κs. c .before .before .before .pre .0 .1 .holds)
-    (λ c κs. let p = c .before .before .before .before .before .pre in
-    (p .0 .1 .holds, c .before .copying-of .ensures, omega (arith, p .1 .room .room)))
-    (λ c κs.
+fill-accepting-requires : tie.Need-fill-accepting-requires Inv-loop μ-loop
+fill-accepting-requires c κs =
+    let entry = c .before .before .before .before .before in
+    let p = entry .pre in
+    (p .0 .1 .holds, c .before .copying-of .ensures, omega (arith, p .1 .room .room))
+
+last-states-requires : tie.Need-last-states-requires Inv-loop μ-loop
+last-states-requires c κs =
     let at-copying = c .before .before .before .before in
     let start = at-copying .before .before .before .before in
-    states-small (start .args .table .now) (start .args .t) (start .pre .0 .1 .holds) (at-copying .copying-of .result) (at-copying .copying-of .ensures))
-    (λ c.
+    states-small (start .args .table .now) (start .args .t) (start .pre .0 .1 .holds) (at-copying .copying-of .result) (at-copying .copying-of .ensures)
+
+loop-holds : tie.Need-loop-holds Inv-loop μ-loop
+loop-holds c =
     let at-fill = c .before .before .before in
     let filled = at-fill .fill-accepting .ensures in
     let start = at-fill .before .before .before .before .before .before in
     let few = table-modest (start .args .table .now) (start .args .t) (start .pre .0 .1 .holds) .pile in
-    backwards-start _ (linked-same (omega (arith, few)) (filled .0) (start .pre .1)) (λ round lent. filled .1 round))
-    (λ c. omega arith) fill-set-requires (λ c. omega arith)
-    (λ c.
+    backwards-start _ (linked-same (omega (arith, few)) (filled .0) (start .pre .1)) (λ round lent. filled .1 round)
+
+loop-again : tie.Need-loop-again Inv-loop μ-loop
+loop-again c =
+    let at-loop-test = c .before .before .before .before in
     let at-loop = c .before .before .before .before .before in
     let start = at-loop .before .before .before .before .before .before .before .before .before .before in
-    backwards-turn (start .pre .0) (c .before .before .before .before .loop-test .taken)
-    (at-loop .loop .inv) (c .before .before .fill-set .ensures))
-    (λ c. c .before .loop .inv .size ∙ c .before .before .before .before .before .fill-accepting .ensures .0 .size)
+    backwards-turn (start .pre .0) (at-loop-test .loop-test .taken)
+    (at-loop .loop .inv) (c .before .before .fill-set .ensures)
+
+pub fill-sets-spec : {M : Type 1} → statement M
+fill-sets-spec = tie.close (tie.spec Inv-loop μ-loop (λ c κs. c .before .before .before .pre .0 .1 .holds) fill-accepting-requires
+    last-states-requires loop-holds (λ c. omega arith) fill-set-requires (λ c. omega arith) loop-again
+    (λ c. let at-fill-accepting = c .before .before .before .before .before in c .before .loop .inv .size ∙ at-fill-accepting .fill-accepting .ensures .0 .size)
     (λ c. let inv = c .before .loop .inv in record { linked = inv .linked; right = λ k h. inv .right k (omega (arith, c .loop-test .left)) h }))

@@ -19,5 +19,5 @@ returns c =
     }
 
 pub letter-bits-spec : {M : Type 1} → statement M
-letter-bits-spec = tie.close (tie.spec (λ c κs. (table-heads (c .before .args .bytes .now) (c .before .args .t) (c .before .pre .0), c .before .pre .1))
-    returns)
+letter-bits-spec = tie.close (tie.spec
+    (λ c κs. (table-heads (c .before .args .bytes .now) (c .before .args .t) (c .before .pre .0), c .before .pre .1)) returns)

@@ -5,4 +5,5 @@ use Rattle.table.proofs.fields.transition_after.Statement.{statement}
 use Rattle.table.proofs.fields.transition_after.Tie as tie
 
 pub transition-after-spec : {M : Type 1} → statement M
-transition-after-spec = tie.close (tie.spec (λ c κs. search needs) (λ c κs. search needs) (λ c. c .group-at .ensures ∙ c .before .transition-body .ensures .2))
+transition-after-spec = tie.close (tie.spec (λ c κs. search needs) (λ c κs. search needs)
+    (λ c. c .group-at .ensures ∙ c .before .transition-body .ensures .2))

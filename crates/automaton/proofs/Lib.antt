@@ -1,3 +1,0 @@
-pub mod StateNumbers
-pub mod StateSets
-pub mod Clearing

@@ -1,0 +1,4 @@
+pub mod FreshPaths
+pub mod RoundHeads
+pub mod Skipping
+pub mod UniqueRound

@@ -1,0 +1,1 @@
+// How a round is searched: definitions and laws, no code.

@@ -1,2 +1,0 @@
-pub mod StackNumbers
-pub mod RoundLogs
