@@ -12,12 +12,19 @@
  * At a desk, which roskavel_desk_open opens on a table, rules are fired one by one, and
  * configurations are saved under names to return to.
  *
- * Link with libexports.a, which `rt staticlib exports` writes to target/staticlib/.
+ * Link with libexports.a, which `rt staticlib exports` writes to target/staticlib/. It is for
+ * x86-64, by the System V calling convention, has no variables of its own, allocates nothing and
+ * imports memcpy and memset alone. So calls on different memory may be made at once by any threads.
  *
- * Buffers. The calls allocate nothing and keep nothing: all memory is the caller's. Each array
- * is passed as a pointer and a length in elements. It may have any length, and what it holds
- * before is of no account. A pointer must not be null, not even where the length is 0: pass the
- * address of any object then. The arrays of one call, the figures among them, must not overlap.
+ * Buffers. The calls keep nothing: all memory is the caller's. Each array is passed as a pointer
+ * and a length in elements. It may have any length, and what it holds before is of no account. Its
+ * pointer may be null where the length is 0, and only there. The pointers to figures and to a desk
+ * must not be null. The arrays of one call, the figures among them, must not overlap: with log and
+ * scratch in one place, a verdict can be wrong. GCC and clang warn of some of these mistakes.
+ *
+ * Stack. ROSKAVEL_.._STACK, before each call, is the most bytes of the stack that it takes, its
+ * return address included, as measured on the archive. What is passed or given by value is the
+ * caller's and comes to it, as does what memcpy and memset take.
  *
  * Refusals. Any bytes may be given as a table and any length as a buffer: what does not serve is
  * refused with a number and a place. Refusals 1 to 9, 15, 19 and 20 change no buffer; every other
@@ -29,6 +36,35 @@
 
 #include <stddef.h>
 #include <stdint.h>
+
+/*
+ * What a compiler is told of pointers, if it listens. RESTRICT: no other array of the call overlaps.
+ * NONNULL: the argument of this number is not null. READS, WRITES: the array that is the argument of
+ * this number has as many elements as that other argument says, and is only read, or written.
+ */
+#ifdef __GNUC__
+#define ROSKAVEL_RESTRICT __restrict
+#elif !defined(__cplusplus)
+#define ROSKAVEL_RESTRICT restrict
+#else
+#define ROSKAVEL_RESTRICT
+#endif
+#ifdef __has_attribute
+#if __has_attribute(nonnull)
+#define ROSKAVEL_NONNULL(argument) __attribute__((nonnull(argument)))
+#endif
+#if __has_attribute(access)
+#define ROSKAVEL_READS(array, length) __attribute__((access(read_only, array, length)))
+#define ROSKAVEL_WRITES(array, length) __attribute__((access(write_only, array, length)))
+#endif
+#endif
+#ifndef ROSKAVEL_NONNULL
+#define ROSKAVEL_NONNULL(argument)
+#endif
+#ifndef ROSKAVEL_READS
+#define ROSKAVEL_READS(array, length)
+#define ROSKAVEL_WRITES(array, length)
+#endif
 
 #ifdef __cplusplus
 extern "C" {
@@ -74,7 +110,7 @@ enum roskavel_figure {
     ROSKAVEL_PLACE = 1,   /* where: an offset in the table, a step of the list, or 0 */
 
     /* roskavel_answer and roskavel_run */
-    ROSKAVEL_REACHABLE = 2,   /* 1 reachable, 0 unreachable */
+    ROSKAVEL_VERDICT = 2,     /* one of roskavel_verdict */
     ROSKAVEL_TRANSITIONS = 3, /* records of the limit automaton; see roskavel_answer for copies */
     ROSKAVEL_ROUNDS = 4,      /* the highest round of a record */
     ROSKAVEL_STEPS = 5,       /* rules of the run; 0 if unreachable */
@@ -84,13 +120,33 @@ enum roskavel_figure {
                                  buffer, which holds the whole pile, may need more */
 
     /* roskavel_walk */
-    ROSKAVEL_WATCHED = 2,     /* 1 if the configuration at the end is watched, else 0 */
+    ROSKAVEL_WATCHED = 2,     /* one of roskavel_watched */
     ROSKAVEL_PILE_LENGTH = 3, /* letters of the pile at the end */
     ROSKAVEL_STATES = 4,      /* 4 to 7: the state of each process, 255 if the table lacks it */
     ROSKAVEL_REST = 8,        /* where the part of the list that is handed back begins */
     ROSKAVEL_COUNTS = 9       /* 9 to 12: the number of steps that each process took part in, which
                                  are the fires of rules whose letter has it; refused at a step, of
                                  the steps before it; 0 with any other refusal */
+};
+
+/*
+ * The figure ROSKAVEL_VERDICT of an answer or a run. It tells by itself: figures of a refused call,
+ * or zeros of none, are no verdict. A run is reachable or refused.
+ */
+enum roskavel_verdict {
+    ROSKAVEL_NO_VERDICT = 0,         /* refused */
+    ROSKAVEL_VERDICT_REACHABLE = 1,  /* some run leads into the watched set */
+    ROSKAVEL_VERDICT_UNREACHABLE = 2 /* none does, of whatever length */
+};
+
+/*
+ * The figure ROSKAVEL_WATCHED of a walk. Compare it with these: that it is not 0 says only that
+ * there is an answer.
+ */
+enum roskavel_watched {
+    ROSKAVEL_NO_ANSWER = 0,   /* refused */
+    ROSKAVEL_WATCHED_YES = 1, /* the configuration at the end is watched */
+    ROSKAVEL_WATCHED_NO = 2   /* it is not */
 };
 
 /*
@@ -151,9 +207,11 @@ static inline size_t roskavel_scratch_bytes(size_t log_bytes)
  *          accepts what the table's automaton accepts.
  * scratch  work memory, at least roskavel_scratch_bytes(log_length) bytes.
  */
-void roskavel_answer(const uint8_t *table, size_t table_length,
-                     uint8_t *log, size_t log_length,
-                     uint8_t *scratch, size_t scratch_length,
+#define ROSKAVEL_ANSWER_STACK 3456
+ROSKAVEL_READS(1, 2) ROSKAVEL_WRITES(3, 4) ROSKAVEL_WRITES(5, 6) ROSKAVEL_NONNULL(7)
+void roskavel_answer(const uint8_t *ROSKAVEL_RESTRICT table, size_t table_length,
+                     uint8_t *ROSKAVEL_RESTRICT log, size_t log_length,
+                     uint8_t *ROSKAVEL_RESTRICT scratch, size_t scratch_length,
                      uint64_t figures[ROSKAVEL_FIGURES]);
 
 /*
@@ -162,10 +220,13 @@ void roskavel_answer(const uint8_t *table, size_t table_length,
  * log, scratch  as in roskavel_answer; the log holds its records after 16 and 11 too.
  * page          holds the numbers of the run's rules, then zeros; unchanged if refused.
  */
-void roskavel_run(const uint8_t *table, size_t table_length,
-                  uint8_t *log, size_t log_length,
-                  uint8_t *scratch, size_t scratch_length,
-                  uint16_t *page, size_t page_length,
+#define ROSKAVEL_RUN_STACK 6736
+ROSKAVEL_READS(1, 2) ROSKAVEL_WRITES(3, 4) ROSKAVEL_WRITES(5, 6) ROSKAVEL_WRITES(7, 8)
+ROSKAVEL_NONNULL(9)
+void roskavel_run(const uint8_t *ROSKAVEL_RESTRICT table, size_t table_length,
+                  uint8_t *ROSKAVEL_RESTRICT log, size_t log_length,
+                  uint8_t *ROSKAVEL_RESTRICT scratch, size_t scratch_length,
+                  uint16_t *ROSKAVEL_RESTRICT page, size_t page_length,
                   uint64_t figures[ROSKAVEL_FIGURES]);
 
 /*
@@ -180,10 +241,13 @@ void roskavel_run(const uint8_t *table, size_t table_length,
  * Refused at a step, the part of the list from that step on is handed back: figures
  * [ROSKAVEL_REST] is the step. Else the empty part is: it is rules_length.
  */
-void roskavel_walk(const uint8_t *table, size_t table_length,
-                   const uint16_t *rules, size_t rules_length,
-                   uint8_t *pile, size_t pile_length,
-                   uint8_t *scratch, size_t scratch_length,
+#define ROSKAVEL_WALK_STACK 944
+ROSKAVEL_READS(1, 2) ROSKAVEL_READS(3, 4) ROSKAVEL_WRITES(5, 6) ROSKAVEL_WRITES(7, 8)
+ROSKAVEL_NONNULL(9)
+void roskavel_walk(const uint8_t *ROSKAVEL_RESTRICT table, size_t table_length,
+                   const uint16_t *ROSKAVEL_RESTRICT rules, size_t rules_length,
+                   uint8_t *ROSKAVEL_RESTRICT pile, size_t pile_length,
+                   uint8_t *ROSKAVEL_RESTRICT scratch, size_t scratch_length,
                    uint64_t figures[ROSKAVEL_FIGURES]);
 
 /* A window of minutes of the week, Monday 00:00 being 0. The minute of closing is not in it. */
@@ -230,12 +294,14 @@ typedef struct roskavel_planned {
  * rule of the table is looked at for 19, whether the run has it or not. Windows past the count, and
  * what is given for processes or rules that the table lacks, are not looked at.
  */
-roskavel_planned roskavel_plan(const uint8_t *table, size_t table_length,
-                               const uint16_t *run, size_t run_length,
+#define ROSKAVEL_PLAN_STACK 1184
+ROSKAVEL_READS(1, 2) ROSKAVEL_READS(3, 4) ROSKAVEL_READS(6, 7) ROSKAVEL_WRITES(9, 10)
+roskavel_planned roskavel_plan(const uint8_t *ROSKAVEL_RESTRICT table, size_t table_length,
+                               const uint16_t *ROSKAVEL_RESTRICT run, size_t run_length,
                                roskavel_week week,
-                               const uint16_t *lengths, size_t lengths_length,
+                               const uint16_t *ROSKAVEL_RESTRICT lengths, size_t lengths_length,
                                int64_t start,
-                               int64_t *begins, size_t begins_length);
+                               int64_t *ROSKAVEL_RESTRICT begins, size_t begins_length);
 
 /*
  * A desk on a table. It stands in a configuration, at first the start, and holds up to
@@ -278,6 +344,8 @@ typedef struct roskavel_counts {
  * Opens a desk on a table: it stands at the start, no name is held and nothing is counted. Refused
  * by 1 to 9; there is then no desk.
  */
+#define ROSKAVEL_DESK_OPEN_STACK 6912
+ROSKAVEL_READS(1, 2)
 roskavel_opening roskavel_desk_open(const uint8_t *table, size_t table_length);
 
 /*
@@ -290,25 +358,37 @@ roskavel_opening roskavel_desk_open(const uint8_t *table, size_t table_length);
  */
 
 /* Fires a rule. Refused by 13, by 12, and by 14 if more than ROSKAVEL_DESK_PILE letters result. */
+#define ROSKAVEL_DESK_FIRE_STACK 17624
+ROSKAVEL_NONNULL(1)
 roskavel_fire roskavel_desk_fire(roskavel_desk *desk, uint16_t rule);
 
 /* Saves under a name, in place of what the name held before. Refused by 18. */
+#define ROSKAVEL_DESK_SAVE_STACK 8600
+ROSKAVEL_NONNULL(1)
 uint8_t roskavel_desk_save(roskavel_desk *desk, uint8_t name);
 
 /* Returns to a name. Every name stays held, this one too, and the counts begin again at 0. Refused
    by 18 and by 17. */
+#define ROSKAVEL_DESK_RETURN_STACK 17144
+ROSKAVEL_NONNULL(1)
 uint8_t roskavel_desk_return(roskavel_desk *desk, uint8_t name);
 
 /* Forgets a name. Refused by 18 and by 17. */
+#define ROSKAVEL_DESK_FORGET_STACK 17128
+ROSKAVEL_NONNULL(1)
 uint8_t roskavel_desk_forget(roskavel_desk *desk, uint8_t name);
 
 /* Where the desk stands. Changes nothing and is never refused. */
+#define ROSKAVEL_DESK_LOOK_STACK 312
+ROSKAVEL_NONNULL(1)
 roskavel_sight roskavel_desk_look(const roskavel_desk *desk);
 
 /*
  * For each process the number of steps that it took part in, since the desk was opened or last
  * returned; each stops at ROSKAVEL_COUNT_CEILING. Changes nothing and is never refused.
  */
+#define ROSKAVEL_DESK_COUNT_STACK 8
+ROSKAVEL_NONNULL(1)
 roskavel_counts roskavel_desk_count(const roskavel_desk *desk);
 
 #ifdef __cplusplus

@@ -1,6 +1,7 @@
 /*
- * The calls from C: table T, the empty table, and a walk refused at a step and at its start. Every
- * figure and every byte of every buffer is checked. Plans: the layout of the hours, given and
+ * The calls from C: table T, T without its last rule, the empty table, null pointers to empty
+ * arrays, and a walk refused at a step and at its start. Every figure and every byte of every buffer
+ * is checked. Plans: the layout of the hours, given and
  * refused ones with every place of the list. Then a desk: every call and each of its refusals, with
  * all that it shows and counts, and counts that stop. Argument: the path of table T.
  */
@@ -87,9 +88,31 @@ static void test_answer(void)
 {
     make_dirty();
     roskavel_answer(table, TABLE, log_buffer, LOG, scratch, SCRATCH, figures);
-    check_figures((figure_list){0, 0, 1, 3, 2, 3}, "figures of the answer");
+    check_figures((figure_list){0, 0, ROSKAVEL_VERDICT_REACHABLE, 3, 2, 3},
+                  "figures of the answer");
     check_bytes(log_buffer, LOG, limit, sizeof limit, 0, "log of the answer");
     check_all(scratch, SCRATCH, 0, "scratch of the answer");
+}
+
+/* T without rule 2, whose item has 17 bytes from place 46 on. */
+static void test_unreachable(void)
+{
+    uint8_t without[TABLE - 17];
+    memcpy(without, table, 46);
+    memcpy(without + 46, table + 63, TABLE - 63);
+    make_dirty();
+    roskavel_answer(without, sizeof without, log_buffer, LOG, scratch, SCRATCH, figures);
+    check_figures((figure_list){0, 0, ROSKAVEL_VERDICT_UNREACHABLE, 1, 1},
+                  "figures of an unreachable answer");
+    check_bytes(log_buffer, LOG, limit, ROSKAVEL_RECORD_BYTES, 0, "log of an unreachable answer");
+    check_all(scratch, SCRATCH, 0, "scratch of an unreachable answer");
+
+    make_dirty();
+    roskavel_run(without, sizeof without, log_buffer, LOG, scratch, SCRATCH, page, PAGE, figures);
+    check_figures((figure_list){ROSKAVEL_NO_RUN, 0, ROSKAVEL_NO_VERDICT}, "figures of no run");
+    check_bytes(log_buffer, LOG, limit, ROSKAVEL_RECORD_BYTES, 0, "log of no run");
+    check_all(scratch, SCRATCH, 0, "scratch of no run");
+    check_all(page, sizeof page, DIRT, "page of no run");
 }
 
 static void test_run(void)
@@ -97,7 +120,8 @@ static void test_run(void)
     const uint16_t rules[3] = {0, 1, 2};
     make_dirty();
     roskavel_run(table, TABLE, log_buffer, LOG, scratch, SCRATCH, page, PAGE, figures);
-    check_figures((figure_list){0, 0, 1, 3, 2, 3, 1}, "figures of the run");
+    check_figures((figure_list){0, 0, ROSKAVEL_VERDICT_REACHABLE, 3, 2, 3, 1},
+                  "figures of the run");
     check_bytes(log_buffer, LOG, limit, sizeof limit, 0, "log of the run");
     check_all(scratch, SCRATCH, 0, "scratch of the run");
     check_bytes(page, sizeof page, rules, sizeof rules, 0, "page of the run");
@@ -117,14 +141,22 @@ static void test_walk(void)
     const uint8_t left[1] = {2};
     make_dirty();
     roskavel_walk(table, TABLE, rules, 3, pile, PILE, scratch, SCRATCH, figures);
-    check_figures((figure_list){0, 0, 1, 0, 1, 1, 255, 255, 3, 2, 2}, "figures of the walk");
+    check_figures((figure_list){0, 0, ROSKAVEL_WATCHED_YES, 0, 1, 1, 255, 255, 3, 2, 2},
+                  "figures of the walk");
     check_all(pile, PILE, 0, "pile of the walk");
     check_all(scratch, SCRATCH, 0, "scratch of the walk");
 
     make_dirty();
+    roskavel_walk(table, TABLE, rules, 1, pile, PILE, scratch, SCRATCH, figures);
+    check_figures((figure_list){0, 0, ROSKAVEL_WATCHED_NO, 2, 0, 0, 255, 255, 1, 1, 1},
+                  "figures of a walk that ends unwatched");
+    check_bytes(pile, PILE, (uint8_t[]){1, 2}, 2, 0, "pile of a walk that ends unwatched");
+
+    make_dirty();
     roskavel_walk(table, TABLE, idle, 4, pile, PILE, scratch, SCRATCH, figures);
     check_figures((figure_list){[ROSKAVEL_REFUSAL] = ROSKAVEL_IDLE_RULE, [ROSKAVEL_PLACE] = 2,
-                                [ROSKAVEL_REST] = 2, [ROSKAVEL_COUNTS] = 2, 1},
+                                [ROSKAVEL_WATCHED] = ROSKAVEL_NO_ANSWER, [ROSKAVEL_REST] = 2,
+                                [ROSKAVEL_COUNTS] = 2, 1},
                   "figures of an idle rule");
     check_bytes(pile, PILE, left, 1, 0, "pile of an idle rule");
     check_all(scratch, SCRATCH, 0, "scratch of an idle rule");
@@ -145,7 +177,7 @@ static void check_untouched(const char *what)
     check_all(pile, sizeof pile, DIRT, what);
 }
 
-/* The empty table is cut at 0. Its pointer is that of any object. */
+/* The empty table is cut at 0, whatever its pointer. */
 static void test_empty(void)
 {
     const uint16_t rules[2] = {0, 1};
@@ -162,6 +194,66 @@ static void test_empty(void)
     check_figures((figure_list){[ROSKAVEL_REFUSAL] = ROSKAVEL_CUT, [ROSKAVEL_REST] = 2},
                   "figures of the empty table's walk");
     check_untouched("buffers of the empty table's walk");
+}
+
+/* One process of one state, which is watched with the empty pile; no letter and no rule. */
+static const uint8_t least[] = {1, 1, 1, 5, 0, 255, 255, 255, 6, 0, 255, 255, 255, 8};
+
+/* An array of no element may be null: nothing is read there or written. */
+static void test_null(void)
+{
+    make_dirty();
+    roskavel_answer(NULL, 0, NULL, 0, NULL, 0, figures);
+    check_figures((figure_list){ROSKAVEL_CUT}, "figures of an answer on null");
+    make_dirty();
+    roskavel_run(NULL, 0, NULL, 0, NULL, 0, NULL, 0, figures);
+    check_figures((figure_list){ROSKAVEL_CUT}, "figures of a run on null");
+    make_dirty();
+    roskavel_walk(NULL, 0, NULL, 0, NULL, 0, NULL, 0, figures);
+    check_figures((figure_list){ROSKAVEL_CUT}, "figures of a walk on null");
+    const roskavel_opening opening = roskavel_desk_open(NULL, 0);
+    check(opening.number == ROSKAVEL_CUT && opening.place == 0, "opening on null");
+
+    make_dirty();
+    roskavel_answer(least, sizeof least, NULL, 0, scratch, SCRATCH, figures);
+    check_figures((figure_list){0, 0, ROSKAVEL_VERDICT_REACHABLE}, "figures with a null log");
+    check_all(scratch, SCRATCH, 0, "scratch beside a null log");
+    make_dirty();
+    roskavel_answer(table, TABLE, NULL, 0, scratch, SCRATCH, figures);
+    check_figures((figure_list){ROSKAVEL_SHORT_LOG}, "figures with a null log that is too short");
+    make_dirty();
+    roskavel_answer(table, TABLE, log_buffer, LOG, NULL, 0, figures);
+    check_figures((figure_list){ROSKAVEL_SHORT_SCRATCH}, "figures with a null scratch");
+    check_untouched("buffers beside a null scratch");
+
+    make_dirty();
+    roskavel_run(least, sizeof least, NULL, 0, scratch, SCRATCH, NULL, 0, figures);
+    check_figures((figure_list){0, 0, ROSKAVEL_VERDICT_REACHABLE}, "figures with a null page");
+    make_dirty();
+    roskavel_run(table, TABLE, log_buffer, LOG, scratch, SCRATCH, NULL, 0, figures);
+    check_figures((figure_list){ROSKAVEL_LONG_RUN}, "figures with a null page that is too short");
+    check_bytes(log_buffer, LOG, limit, sizeof limit, 0, "log beside a null page");
+
+    make_dirty();
+    roskavel_walk(least, sizeof least, NULL, 0, NULL, 0, scratch, SCRATCH, figures);
+    check_figures((figure_list){0, 0, ROSKAVEL_WATCHED_YES, 0, 0, 255, 255, 255},
+                  "figures with a null list and a null pile");
+    check_all(scratch, SCRATCH, 0, "scratch beside a null pile");
+    make_dirty();
+    roskavel_walk(table, TABLE, NULL, 0, NULL, 0, scratch, SCRATCH, figures);
+    check_figures((figure_list){ROSKAVEL_FULL_PILE}, "figures with a null pile that is too short");
+    make_dirty();
+    roskavel_walk(table, TABLE, NULL, 0, pile, PILE, NULL, 0, figures);
+    check_figures((figure_list){ROSKAVEL_SHORT_SCRATCH}, "figures of a walk with a null scratch");
+    check_untouched("pile beside a null scratch");
+
+    const roskavel_week week = {{{{{0, 0}}, 0}}};
+    roskavel_planned planned = roskavel_plan(NULL, 0, NULL, 0, week, NULL, 0, 0, NULL, 0);
+    check(planned.number == ROSKAVEL_CUT && planned.place == 0, "plan on null");
+    planned = roskavel_plan(least, sizeof least, NULL, 0, week, NULL, 0, 0, NULL, 0);
+    check(planned.number == 0 && planned.place == 0, "plan with null lists");
+    planned = roskavel_plan(table, TABLE, NULL, 0, week, NULL, 0, 0, NULL, 0);
+    check(planned.number == ROSKAVEL_BAD_HOURS, "plan with null lengths that are too few");
 }
 
 static void test_layout(void)
@@ -453,7 +545,7 @@ static void test_walk_of_four(void)
     make_dirty();
     memset(word, DIRT, sizeof word);
     roskavel_walk(four, sizeof four, down, 7, word, sizeof word, scratch, SCRATCH, figures);
-    check_figures((figure_list){0, 0, 0, 1, 0, 0, 0, 0, 7, 4, 3, 2, 1},
+    check_figures((figure_list){0, 0, ROSKAVEL_WATCHED_NO, 1, 0, 0, 0, 0, 7, 4, 3, 2, 1},
                   "figures of a walk of four processes");
     check_all(word, sizeof word, 0, "pile of a walk of four processes");
     check_all(scratch, SCRATCH, 0, "scratch of a walk of four processes");
@@ -524,9 +616,11 @@ int main(int count, char **arguments)
     fclose(file);
     test_sizes();
     test_answer();
+    test_unreachable();
     test_run();
     test_walk();
     test_empty();
+    test_null();
     test_layout();
     test_plans();
     test_never_open();

@@ -12,13 +12,14 @@ use Rattle.desk.specs.Promises.{Accounted, Called, uncalled, called, Ope
 
 record Shows (d : Desk) (cs : List Call) (e : Desk) : Type 0 where
   pub table : tableOf e ≡ tableOf d
+  pub copy : e .bytes ≡ d .bytes
   pub contents : shown e ≡ deskCalls (systemOn d) (shown d) cs
 
 called-shows : (d e : Desk) (cs : List Call) → Called d cs e → Shows d cs e
-called-shows d e cs uncalled = record { table = refl; contents = refl }
+called-shows d e cs uncalled = record { table = refl; copy = refl; contents = refl }
 called-shows d e cs (called {d′ = d′} {cs = cs′} m k) =
     let x = called-shows d′ e cs′ k in
-    record { table = x .table ∙ m .table; contents = x .contents ∙ ap₂ (λ (l : List ℕ) (s : Contents). deskCalls (systemIn l) s cs′) (m .table) (m .contents) }
+    record { table = x .table ∙ m .table; copy = x .copy ∙ m .copy; contents = x .contents ∙ ap₂ (λ (l : List ℕ) (s : Contents). deskCalls (systemIn l) s cs′) (m .table) (m .contents) }
 
 pub desk-accounted : (bytes : List ℕ) (d e : Desk) (cs : List Call) → Opened bytes d → Called d cs e → Accounted bytes cs e
 unfolding systemIn
@@ -28,5 +29,6 @@ desk-accounted bytes d e cs o k =
     let read-is : read bytes ≡ accepted (itemsIn bytes) = holds-read bytes (d .table) (subst (λ (b : List ℕ). Holds b (d .table)) (o .table) (o .good .holds)) in
     record {
       table = x .table ∙ o .table;
+      copy = x .copy ∙ o .copy;
       stands = subst (HistoriesLead (systemIn bytes) (Leads bytes (systemIn bytes)) (noteCalls (systemIn bytes) (opened (systemIn bytes)) unwritten cs)) (sym is) (desk-stands bytes (itemsIn bytes) read-is cs);
     }

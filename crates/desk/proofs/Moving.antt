@@ -82,18 +82,19 @@ module _ (d : Desk) (g : Good d) where
       ap (λ (k : ℕ). outcome k (shown d) (passed c)) (sym e) ∙ outcome-refused number (shown d) (passed c) z in
       record {
         answer = t ∙ sym (ap (λ (x : DeskOutcome). x .told) o);
-        leaves = record { contents = ap shown q ∙ sym (ap (λ (x : DeskOutcome). x .contents) o); table = ap tableOf q; unchanged = λ x. q; good = subst Good (sym q) g };
+        leaves = record { contents = ap shown q ∙ sym (ap (λ (x : DeskOutcome). x .contents) o); table = ap tableOf q; copy = ap (λ (x : Desk). x .bytes) q; unchanged = λ x. q; good = subst Good (sym q) g };
       }
 
-  moves-done : (c : Call) (d′ : Desk) → stopOf (systemOn d) (shown d) c ≡ 0 → shown d′ ≡ after (systemOn d) (shown d) c → tableOf d′ ≡ tableOf d → Good d′ → Moves c d (tells (systemOn d) c) d′
+  moves-done : (c : Call) (d′ : Desk) → stopOf (systemOn d) (shown d) c ≡ 0 → shown d′ ≡ after (systemOn d) (shown d) c → tableOf d′ ≡ tableOf d → d′ .bytes ≡ d .bytes → Good d′ → Moves c d (tells (systemOn d) c) d′
   unfolding deskCall
-  moves-done c d′ e s q h =
+  moves-done c d′ e s q b h =
       let o : outcomeOf c d ≡ passed c = ap (λ (k : ℕ). outcome k (shown d) (passed c)) e in
       record {
         answer = sym (ap (λ (x : DeskOutcome). x .told) o);
         leaves = record {
           contents = s ∙ sym (ap (λ (x : DeskOutcome). x .contents) o);
           table = q;
+          copy = b;
           unchanged = λ z. absurd (z (ap (λ (x : DeskOutcome). toldRefusal (x .told)) o ∙ tells-done (systemOn d) c));
           good = h;
         };
@@ -125,7 +126,7 @@ module _ (d : Desk) (g : Good d) where
         let x = fire-passes (systemOn d) (shown d) n (configuration pile′ (f .placed)) (subst (λ (k : ℕ). walkFrom (systemOn d) k 0 (n ∷ []) (shown d .here) ≡ haltEnd (systemOn d) (configuration pile′ (f .placed))) (g .size) (t .onward 0 [])) in
         subst (λ (told : Told). Moves (fires n) d told (moved d (f .placed) counts pile′)) (sym (ap Told.Fired (t .tells)))
         (moves-done (fires n) (moved d (f .placed) counts pile′) (x .0)
-        (ap (λ (l : List ℕ). movedTo (shown d) l (configuration pile′ (f .placed))) counts-are ∙ sym (ap (valueOr (shown d) (movedTo (shown d) (countsAfter (systemOn d) (shown d) n))) (x .1))) refl
+        (ap (λ (l : List ℕ). movedTo (shown d) l (configuration pile′ (f .placed))) counts-are ∙ sym (ap (valueOr (shown d) (movedTo (shown d) (countsAfter (systemOn d) (shown d) n))) (x .1))) refl refl
         (record { inside = g .inside; holds = g .holds; shape = t .shape; size = t .size ∙ g .size; count = g .count; counts = ap length q ∙ four-counts (processesOf (f .processes)) (d .counts); names = g .names }))
 
   -- ---- names
@@ -171,21 +172,21 @@ module _ (d : Desk) (g : Good d) where
     pub moves-saved : stopOf (systemOn d) (shown d) (saves a) ≡ 0 → Moves (saves a) d Told.Done (renamed d (set (d .names) a (record { held = true; placed = d .placed; pile = d .pile })))
     moves-saved z =
         let v : Named = record { held = true; placed = d .placed; pile = d .pile } in
-        moves-done (saves a) (renamed d (set (d .names) a v)) z (names-are v) refl
+        moves-done (saves a) (renamed d (set (d .names) a v)) z (names-are v) refl refl
         (good-renamed v (record { size = g .size; shape = λ e. g .shape }))
 
     moves-returned : stopOf (systemOn d) (shown d) (returns a) ≡ 0 → Moves (returns a) d Told.Done (moved d (getD (d .names) a past .placed) uncounted (getD (d .names) a past .pile))
     unfolding findings
     moves-returned z =
         moves-done (returns a) (moved d (s .placed) uncounted (s .pile)) z
-        (sym (ap (valueOr (shown d) (movedTo (shown d) uncounted)) (held-is (held-of z)))) refl
+        (sym (ap (valueOr (shown d) (movedTo (shown d) uncounted)) (held-is (held-of z)))) refl refl
         (record { inside = g .inside; holds = g .holds; shape = good-name .shape (held-of z); size = good-name .size; count = g .count; counts = refl; names = g .names })
 
     moves-forgotten : stopOf (systemOn d) (shown d) (forgets a) ≡ 0
         → Moves (forgets a) d Told.Done (renamed d (set (d .names) a (record { held = false; placed = getD (d .names) a past .placed; pile = getD (d .names) a past .pile })))
     moves-forgotten z =
         let v : Named = record { held = false; placed = s .placed; pile = s .pile } in
-        moves-done (forgets a) (renamed d (set (d .names) a v)) z (names-are v) refl
+        moves-done (forgets a) (renamed d (set (d .names) a v)) z (names-are v) refl refl
         (good-renamed v (record { size = good-name .size; shape = λ f. absurd (false≢true f) }))
 
 -- ---- a return and a forget ask for a name that is held; `at` is where it is looked up

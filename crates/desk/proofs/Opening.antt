@@ -2,8 +2,8 @@
 use mathlib.Core.Path.{_≡_, refl, ap, ap₂, sym, subst, _∙_}
 use mathlib.Core.Bool.{false, false≢true}
 use mathlib.Core.Option.{none}
-use mathlib.Core.List.{List, []}
-use Prim.Native.Nat.{ℕ, zero, suc, _+_, _≤_, _<_}
+use mathlib.Core.List.{List, [], _++_}
+use Prim.Native.Nat.{ℕ, zero, suc, _+_, _-_, _≤_, _<_}
 use native.Mathlib.Nat.{le-refl}
 use native.Mathlib.Omega.{arith}
 use lib.ListN.{length, take, drop, replicate, length-replicate}
@@ -23,7 +23,7 @@ use Rattle.table.proofs.Configurations.{start-over, start-lettered}
 use Rattle.model.specs.declared.Placed.{Placed}
 use Rattle.firing.specs.Piles.{configuration}
 use Rattle.desk.specs.declared.Desk.{Desk}
-use Rattle.desk.specs.Promises.{Good, GoodName, Opened, Opens, noDesk}
+use Rattle.desk.specs.Promises.{Good, GoodName, Opened, Opens, copyOf, noDesk}
 
 each-replicate : {A : Type 0} (P : A → Type 0) (n : ℕ) (x : A) → P x → Each P (replicate n x)
 each-replicate P zero x p = tt
@@ -33,15 +33,32 @@ each-replicate P (suc n) x p = (p, each-replicate P n x p)
 copied : (d s : List ℕ) → take (length s) (paste d 0 s (length s)) ≡ s
 copied d s = take-at (take (length s) s) (drop (0 + length s) d) (length s) (length-take-le (length s) s (le-refl (length s))) ∙ take-all (length s) s (le-refl (length s))
 
+drop-zeros : (n m : ℕ) → drop n (replicate {A = ℕ} m 0) ≡ replicate (m - n) 0
+drop-zeros zero m = ap (λ (k : ℕ). replicate {A = ℕ} k 0) (let e : m ≡ m - 0 = omega arith in e)
+drop-zeros (suc n) zero = ap (λ (k : ℕ). replicate {A = ℕ} k 0) (let e : 0 ≡ 0 - suc n = omega arith in e)
+drop-zeros (suc n) (suc m) = drop-zeros n m ∙ ap (λ (k : ℕ). replicate {A = ℕ} k 0) (let e : m - n ≡ suc m - suc n = omega arith in e)
+
+-- into zeros: the table, then zeros
+copied-whole : (s : List ℕ) → length s ≤ longest → paste (replicate longest 0) 0 s (length s) ≡ copyOf s
+copied-whole s h =
+    ap (λ (x : List ℕ). x ++ drop (0 + length s) (replicate {A = ℕ} longest 0)) (take-all (length s) s (le-refl (length s)))
+    ∙ ap (λ (x : List ℕ). s ++ x) (drop-zeros (0 + length s) longest ∙ ap (λ (n : ℕ). replicate {A = ℕ} n 0) sizes)
+  where
+    sizes : longest - (0 + length s) ≡ length (replicate {A = ℕ} longest 0) - length s
+    sizes = omega (arith, length-replicate {A = ℕ} longest 0)
+
 -- ---- opened
-pub opened-desk : (bytes : List ℕ) (t : Table) (p : Placed) (buffer copy pile : List ℕ) → Holds bytes t → length buffer ≡ longest → copy ≡ paste buffer 0 bytes (length bytes)
+pub opened-desk : (bytes : List ℕ) (t : Table) (p : Placed) (copy pile : List ℕ) → Holds bytes t → copy ≡ paste (replicate longest 0) 0 bytes (length bytes)
     → configuration pile p ≡ systemIn bytes .start → p .top ≤ length pile → length pile ≡ deskPile
     → Opened bytes (record { size = length bytes; table = t; placed = p; counts = uncounted; bytes = copy; pile = pile; names = replicate nameCount (record { held = false; placed = p; pile = replicate deskPile 0 }) })
-opened-desk bytes t p buffer copy pile h b e c i n =
+opened-desk bytes t p copy pile h e c i n =
+    let buffer = replicate {A = ℕ} longest 0 in
+    let b : length buffer ≡ longest = length-replicate {A = ℕ} longest 0 in
     let same : take (length bytes) copy ≡ bytes = ap (take (length bytes)) e ∙ copied buffer bytes in
     let long : length copy ≡ length buffer = ap length e ∙ length-paste buffer 0 bytes (length bytes) (omega (arith, table-length bytes t h)) (le-refl (length bytes)) in
     record {
       table = same;
+      copy = e ∙ copied-whole bytes (table-length bytes t h);
       contents = ap (λ (x : Configuration). record { here = x; names = replicate nameCount none; counts = uncounted }) c;
       good = record {
         inside = omega (arith, table-length bytes t h);

@@ -1,5 +1,5 @@
--- What the checks find, as the code of a call finds it: of a fire by the refusal of its step, of a name by its number and
--- by whether it is held where it has to be.
+-- What the checks find, as the code of a call finds it: of a fire by the refusal of its step, of a name by its number
+-- and by whether it is held where it has to be.
 use mathlib.Core.Bool.{Bool, cond, false}
 use Prim.Native.Nat.{ℕ}
 use lib.Dec.{eqb, leb}

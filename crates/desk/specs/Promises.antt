@@ -7,7 +7,8 @@ use Prim.Native.Nat.{ℕ, _≤_}
 use lib.ListN.{length, take, replicate}
 use Rattle.desk_model.specs.declared.Told.{Told}
 use Rattle.model.specs.Calls.{filled}
-use Rattle.desk_model.specs.Desks.{Call, Contents, DeskOutcome, HistoriesLead, Leads, deskCall, deskPile, nameCount, noteCalls, openTold, opened, toldRefusal, uncounted, unwritten}
+use Rattle.desk_model.specs.Desks.{Call, Contents, DeskOutcome, HistoriesLead, Leads, deskCall, deskPile, nameCount}
+use Rattle.desk_model.specs.Desks.{noteCalls, openTold, opened, toldRefusal, uncounted, unwritten}
 use Rattle.model.specs.Lists.{Each}
 use Rattle.model.specs.Systems.{System, Configuration}
 use Rattle.model.specs.Tables.{longest, read}
@@ -26,6 +27,10 @@ use Rattle.desk.specs.declared.Sight.{Sight}
 -- its own copy of the accepted table
 abbrev pub tableOf : Desk → List ℕ
 tableOf d = take (d .size) (d .bytes)
+
+-- at the front of its buffer, zeros behind it
+abbrev pub copyOf : List ℕ → List ℕ
+copyOf bytes = filled bytes (replicate longest 0)
 
 abbrev pub systemOn : Desk → System
 systemOn d = systemIn (tableOf d)
@@ -61,6 +66,7 @@ outcomeOf c d = deskCall (systemOn d) (shown d) c
 pub record Leaves (c : Call) (d d′ : Desk) : Type 0 where
   pub contents : shown d′ ≡ outcomeOf c d .contents
   pub table : tableOf d′ ≡ tableOf d
+  pub copy : d′ .bytes ≡ d .bytes
   pub unchanged : (toldRefusal (outcomeOf c d .told) ≡ 0 → ⊥) → d′ ≡ d
   pub good : Good d′
 
@@ -80,6 +86,7 @@ countsOf s = record { steps = s .counts }
 -- a desk on these bytes: its copy of them, at the start, no name held
 pub record Opened (bytes : List ℕ) (d : Desk) : Type 0 where
   pub table : tableOf d ≡ bytes
+  pub copy : d .bytes ≡ copyOf bytes
   pub contents : shown d ≡ opened (systemIn bytes)
   pub good : Good d
 
@@ -115,5 +122,6 @@ pub data Called : Desk → List Call → Desk → Type 0 where
 -- fires since it was opened or last returned.
 pub record Accounted (bytes : List ℕ) (cs : List Call) (d : Desk) : Type 0 where
   pub table : tableOf d ≡ bytes
+  pub copy : d .bytes ≡ copyOf bytes
   pub stands : HistoriesLead (systemIn bytes) (Leads bytes (systemIn bytes))
       (noteCalls (systemIn bytes) (opened (systemIn bytes)) unwritten cs) (shown d)

@@ -6,10 +6,12 @@ use Rattle.model.specs.Groups.{sameGroup, processBits, restrict, merge}
 use Rattle.model.specs.Words.{tops}
 use Rattle.model.specs.Systems.{System, Configuration, enabled, fire}
 use Rattle.model.specs.Copies.{leavesControl}
-use Rattle.model.specs.Tables.{Reading, accepted, refused, isOutOfTurn, groupFits, transitionFits, writtenFit, valueFits, cooperates, isNarrow, isReentry, isTwin, refusal, readFrom, read, systemOf}
+use Rattle.model.specs.Tables.{Reading, accepted, refused, isOutOfTurn, groupFits, transitionFits, writtenFit}
+use Rattle.model.specs.Tables.{valueFits, cooperates, isNarrow, isReentry, isTwin, refusal, readFrom, read, systemOf}
 use Rattle.model.specs.Participation.{withStep}
 use Rattle.model.specs.SmallTables.{re-entry, table-T}
-use Rattle.desk_model.specs.Desks.{Call, Contents, fires, saves, returns, forgets, findings, deskCall, movedTo, opened, toldProcesses, toldRefusal, uncounted}
+use Rattle.desk_model.specs.Desks.{Call, Contents, fires, saves, returns, forgets, findings, deskCall, movedTo}
+use Rattle.desk_model.specs.Desks.{opened, toldProcesses, toldRefusal, uncounted}
 
 -- where a desk stands: states and word
 abbrev pub standing : Configuration → List ℕ

@@ -50,7 +50,7 @@ figures-length table list pile scratch = twelve (walkCall table list pile scratc
 
 -- demand 2 and request 2.5, by these figures
 pub walk-figures : (table list pile scratch f p : List ℕ) (from : ℕ) → let o = walkCall table list pile scratch in f ≡ sixteen (walkFigures (o .answer) ++ (from ∷ o .counts)) → p ≡ o .pile
-    → Demand2Walk table list f p × TookPart table list (getD f 0 0) (getD f 1 0) (take 4 (drop 9 f))
+    → Demand2Walk table list scratch f p × TookPart table list (getD f 0 0) (getD f 1 0) (take 4 (drop 9 f))
 walk-figures table list pile scratch f p from e q =
     let o = walkCall table list pile scratch in
     let zeros = replicate {A = ℕ} (8 - length (from ∷ o .counts)) 0 in

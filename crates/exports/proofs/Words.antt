@@ -17,9 +17,9 @@ use Rattle.exports.specs.Figures.{AnswerDemand, Premises, RunDemand, Run
 
 -- ---- the word alone
 figures-tell : (table : List ℕ) (x : Answered) → Tells table x → Word table (sixteen (answerFigures x))
-figures-tell table (Answered.Reachable t r s) m = record { unreachable = λ z. absurd (omega (arith, z .1)); reachable = λ z. m }
-figures-tell table (Answered.Unreachable t r) m = record { unreachable = λ z. m; reachable = λ z. absurd (omega (arith, z .1)) }
-figures-tell table (Answered.Refused number place) m = record { unreachable = λ z. absurd (omega (arith, m, z .0)); reachable = λ z. absurd (omega (arith, m, z .0)) }
+figures-tell table (Answered.Reachable t r s) m = record { unreachable = λ z. absurd (omega (arith, z)); reachable = λ z. m; refused = ((λ z. absurd (omega (arith, z))), (λ l. absurd (omega (arith, l)))) }
+figures-tell table (Answered.Unreachable t r) m = record { unreachable = λ z. m; reachable = λ z. absurd (omega (arith, z)); refused = ((λ z. absurd (omega (arith, z))), (λ l. absurd (omega (arith, l)))) }
+figures-tell table (Answered.Refused number place) m = record { unreachable = λ z. absurd (omega (arith, z)); reachable = λ z. absurd (omega (arith, z)); refused = ((λ z. m), (λ l. refl)) }
 
 figures-write : (table page : List ℕ) (x : Ran) → Writes table page x → RunWord table (sixteen (runFigures x)) page
 figures-write table page (Ran.Reached t r s p) m = record { joins = λ z. m }
@@ -74,8 +74,8 @@ module _ (table log scratch : List ℕ) where
         answer = given;
         behind = e;
         demand = demand-3 table log scratch;
-        unreachable = λ items p. ((λ never. rw (e, decided items p .unreachable .0 never) (refl, refl)), (λ z. same-items table items (p .reads) NoRun (w .unreachable z)));
-        reachable = λ items p. ((λ some. rw (e, decided items p .reachable .0 some .2) (refl, refl)), (λ z. same-items table items (p .reads) SomeRun (w .reachable z)));
+        unreachable = λ items p. ((λ never. rw (e, decided items p .unreachable .0 never) refl), (λ z. same-items table items (p .reads) NoRun (w .unreachable z)));
+        reachable = λ items p. ((λ some. rw (e, decided items p .reachable .0 some .2) refl), (λ z. same-items table items (p .reads) SomeRun (w .reachable z)));
         short = rw number (through (demand-3 table log scratch [] .answer-short) (answer-refused given (answer-placed table log scratch) 10 (omega arith)));
       }
     where

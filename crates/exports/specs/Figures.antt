@@ -2,15 +2,17 @@
 use mathlib.Core.Path.{_≡_}
 use mathlib.Core.Logic.{_↔_}
 use mathlib.Core.List.{List, [], _∷_, _++_}
-use Prim.Native.Nat.{ℕ, _-_}
+use Prim.Native.Nat.{ℕ, _-_, _≤_}
 use lib.ListN.{length, getD, take, replicate}
 use Rattle.model.specs.declared.Answered.{Answered}
 use Rattle.model.specs.declared.Ran.{Ran}
 use Rattle.model.specs.Systems.{System, Joins, PeakIs, peak}
 use Rattle.model.specs.Tables.{Item, accepted, read, saturatedOf, systemOf}
 use Rattle.model.specs.Log.{limit, rounds}
-use Rattle.model.specs.Calls.{AnswerOutcome, RunOutcome, WalkOutcome, answerCall, runCall, answerFigures, runFigures, walkFigures}
-use Rattle.model.specs.Demands.{Describes, NoRun, SomeRun, StepsCounted, TooLong, ScratchServes, LogServes, ShortLog, Demand3}
+use Rattle.model.specs.Calls.{AnswerOutcome, RunOutcome, WalkOutcome, answerCall, runCall, answerFigures, runFigures}
+use Rattle.model.specs.Calls.{walkFigures}
+use Rattle.model.specs.Demands.{Describes, NoRun, SomeRun, StepsCounted, TooLong, ScratchServes, LogServes, ShortLog}
+use Rattle.model.specs.Demands.{Demand3}
 
 -- figures are 16 numbers; places that a case does not name are 0
 abbrev pub sixteen : List ℕ → List ℕ
@@ -34,14 +36,15 @@ pub record WalkLeaves (o : WalkOutcome) (n : ℕ) (f p s : List ℕ) : Type 0 wh
   pub scratch : s ≡ o .scratch
 
 -- ---- demand 3, as a program that reads figures sees it
--- Where figure 0 says that the call was not refused, figure 2 tells whether some run joins the start and the watched
--- set of an accepted table.
+-- Figure 2 tells whether some run joins the start and the watched set of an accepted table: 1 that one does, 2 that
+-- none does. It is 0 where there is no verdict, so that it says this alone, without figure 0.
 abbrev pub Says : ℕ → List ℕ → Type 0
-Says verdict f = (getD f 0 0 ≡ 0) × (getD f 2 0 ≡ verdict)
+Says verdict f = getD f 2 0 ≡ verdict
 
 pub record Word (table f : List ℕ) : Type 0 where
-  pub unreachable : Says 0 f → Describes table NoRun
+  pub unreachable : Says 2 f → Describes table NoRun
   pub reachable : Says 1 f → Describes table SomeRun
+  pub refused : Says 0 f ↔ (1 ≤ getD f 0 0)
 
 -- Where the run call was not refused, the page's first places, as many as figure 5 says, hold a run that joins them,
 -- and figure 6 is its peak.
@@ -57,15 +60,15 @@ pub record Premises (table log scratch : List ℕ) (items : List Item) : Type 0 
   pub serves : ScratchServes log scratch
   pub holds : LogServes (saturatedOf items) log
 
--- The answer behind the figures meets demand 3; so, in figures, under both premises: 0 and 0 exactly if no run joins
--- the start and the watched set, 0 and 1 exactly if one does; and 10 exactly where the second premise fails.
+-- The answer behind the figures meets demand 3; so, in figures, under both premises: verdict 2 exactly if no run joins
+-- the start and the watched set, 1 exactly if one does; and 10 exactly where the second premise fails.
 pub record AnswerDemand (table log scratch f : List ℕ) : Type 0 where
   pub answer : Answered
   pub behind : f ≡ sixteen (answerFigures answer)
   pub demand : (page : List ℕ)
       → Demand3 table log scratch page answer (runCall table log scratch page .answer)
       (runCall table log scratch page .page)
-  pub unreachable : (items : List Item) → Premises table log scratch items → NoRun (systemOf items) ↔ Says 0 f
+  pub unreachable : (items : List Item) → Premises table log scratch items → NoRun (systemOf items) ↔ Says 2 f
   pub reachable : (items : List Item) → Premises table log scratch items → SomeRun (systemOf items) ↔ Says 1 f
   pub short : ShortLog table log scratch ↔ (getD f 0 0 ≡ 10)
 

@@ -14,6 +14,13 @@ ghost use Rattle.model.specs.Calls.{answerCall, runCall, walkCall, answerFigure
 ghost use Rattle.model.specs.Demands.{LogHolds, Demand2Walk, TookPart};
 ghost use Rattle.exports.specs.Figures.{sixteen, AnswerLeaves, RunLeaves, WalkLeaves, Word, RunWord, AnswerDemand, RunDemand};
 
+// The verdict figure: 0 is no verdict, so that figures of no call, or of a refused one, never pass for one.
+const NO_VERDICT: u64 = 0;
+
+const REACHABLE: u64 = 1;
+
+const UNREACHABLE: u64 = 2;
+
 // The figures of an answer or a run; a place that a case does not name is 0.
 fn put(
     figures: &mut [u64; 16],
@@ -56,16 +63,16 @@ fn put_answer(figures: &mut [u64; 16], a: Answered)
             rounds,
             steps,
         } => {
-            put(figures, 0, 0, 1, transitions, rounds, steps, 0);
+            put(figures, 0, 0, REACHABLE, transitions, rounds, steps, 0);
         }
         Answered::Unreachable {
             transitions,
             rounds,
         } => {
-            put(figures, 0, 0, 0, transitions, rounds, 0, 0);
+            put(figures, 0, 0, UNREACHABLE, transitions, rounds, 0, 0);
         }
         Answered::Refused { number, place } => {
-            put(figures, number, place, 0, 0, 0, 0, 0);
+            put(figures, number, place, NO_VERDICT, 0, 0, 0, 0);
         }
     }
 }
@@ -80,10 +87,10 @@ fn put_run(figures: &mut [u64; 16], r: Ran)
             steps,
             peak,
         } => {
-            put(figures, 0, 0, 1, transitions, rounds, steps, peak);
+            put(figures, 0, 0, REACHABLE, transitions, rounds, steps, peak);
         }
         Ran::Refused { number, place } => {
-            put(figures, number, place, 0, 0, 0, 0, 0);
+            put(figures, number, place, NO_VERDICT, 0, 0, 0, 0);
         }
     }
 }
@@ -158,7 +165,7 @@ pub extern "C" fn roskavel_walk(
     figures: &mut [u64; 16],
 )
     ensures demand_1 { λ _. ⌜ WalkLeaves (walkCall (now (table .entry)) (now (rules .entry)) (now (pile .entry)) (now (scratch .entry))) (length (now (rules .entry))) (now (figures .exit)) (now (pile .exit)) (now (scratch .exit)) ⌝ }
-    ensures demand_2 { λ _. ⌜ Demand2Walk (now (table .entry)) (now (rules .entry)) (now (figures .exit)) (now (pile .exit)) ⌝ }
+    ensures demand_2 { λ _. ⌜ Demand2Walk (now (table .entry)) (now (rules .entry)) (now (scratch .entry)) (now (figures .exit)) (now (pile .exit)) ⌝ }
     ensures request_2_5 { λ _. ⌜ TookPart (now (table .entry)) (now (rules .entry)) (getD (now (figures .exit)) 0 0) (getD (now (figures .exit)) 1 0) (take 4 (drop 9 (now (figures .exit)))) ⌝ }
 {
     let mut values = [0u64; FIGURES];

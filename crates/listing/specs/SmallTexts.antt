@@ -10,13 +10,16 @@ use Rattle.model.specs.Groups.{greatest, sameGroup, restrict, merge}
 use Rattle.model.specs.Words.{tops}
 use Rattle.model.specs.Systems.{enabled, fire}
 use Rattle.model.specs.Copies.{leavesControl, reenters, copies, subsets, mixed, mixtures, copied}
-use Rattle.model.specs.Tables.{isOutOfTurn, groupFits, transitionFits, writtenFit, valueFits, cooperates, isNarrow, isReentry, isTwin, refusal, readFrom, read, systemOf}
+use Rattle.model.specs.Tables.{isOutOfTurn, groupFits, transitionFits, writtenFit, valueFits, cooperates, isNarrow}
+use Rattle.model.specs.Tables.{isReentry, isTwin, refusal, readFrom, read, systemOf}
 use Rattle.model.specs.Log.{readsAt, keyLess, sameKey, additions, logAt, firstSaturated, saturatedAt}
 use Rattle.model.specs.Unfolding.{acceptingPath, emittedBy}
 use Rattle.model.specs.Calls.{recordsOf, runOf, pageAfter, answerGiven, answerCall, runGiven, runCall}
-use Rattle.model.specs.SmallTables.{head-T, rules01-T, rule2-T, accepting-T, start-T, table-T, re-entry, staying, doubling, roast, short-bodies-T}
+use Rattle.model.specs.SmallTables.{head-T, rules01-T, rule2-T, accepting-T, start-T, table-T, re-entry, staying}
+use Rattle.model.specs.SmallTables.{doubling, roast, short-bodies-T}
 use Rattle.listing.specs.LineText.{lineText, textWith}
-use Rattle.listing.specs.Listing.{ascii, decimal, line, counted, refusedLine, answerLines, runLine, runLines, listing}
+use Rattle.listing.specs.Listing.{ascii, decimal, line, counted, refusedLine, answerLines, runLine, runLines}
+use Rattle.listing.specs.Listing.{listing}
 
 pub record Example : Type 0 where
   pub input : List ℕ

@@ -1,5 +1,5 @@
 -- The mission's demands, of the definitions that the contracts of the calls are equations with: the top statements alone, in their order.
-use mathlib.Core.Path.{_≡_}
+use mathlib.Core.Path.{_≡_, subst}
 use mathlib.Core.Bool.{false, true}
 use mathlib.Core.Logic.{_↔_}
 use mathlib.Core.Option.{some}
@@ -9,7 +9,7 @@ use lib.ListN.{getD}
 use Rattle.model.specs.declared.Group.{Group}
 use Rattle.model.specs.Automata.{Transition}
 use Rattle.model.specs.Calls.{answerCall, answerRefusal, changesNothing, runCall, runRefusal, walkCall, walkFigures, walkRefusal, zeros}
-use Rattle.model.specs.Copies.{mixed, reenters}
+use Rattle.model.specs.Copies.{mixed, reenters, copyFrom}
 use Rattle.model.specs.Demands.{Demand2Walk, Demand3, LogHolds, Tells, TookPart, Writes}
 use Rattle.model.specs.Groups.{Process, Processes, Within, at, has}
 use Rattle.model.specs.Systems.{Accepted, Accepting, Configuration, InAutomaton, PeakIs, System, peak, walk}
@@ -20,12 +20,16 @@ use Rattle.model.proofs.AcceptedTables.{accepted-copyable}
 use Rattle.model.proofs.CheckedItems.{read-complete}
 use Rattle.model.proofs.Closing.{answer-closes, run-closes, walk-closes}
 use Rattle.model.proofs.CopiedTables.{accepted-well-formed}
-use Rattle.model.proofs.Copies.{mixed-accepts, own-automaton, same-accepted}
+use Rattle.model.proofs.Copies.{mixed-accepts, own-automaton, same-accepted, Copied, copied-has, copied-only}
 use Rattle.model.proofs.Demands.{calls-decide}
 use Rattle.model.proofs.LogDemand.{answer-log, run-log}
 use Rattle.model.proofs.Meanings.{answer-tells, run-writes}
 use Rattle.model.proofs.Peak.{peak-is}
 use Rattle.model.proofs.WalkDemand.{walk-counts, walk-demand}
+use lib.Dec.{leb}
+use Rattle.model.specs.Lists.{filter}
+use Rattle.model.specs.Log.{Record, limit, logAt}
+use Rattle.model.proofs.Theorems.{rounds-of-limit}
 
 -- ---- demand 1: what a call gives and leaves is its definition in Calls, whole. Of its buffers: refusals 1 to 9 and 15 change none; later the scratch is
 -- left zero.
@@ -53,7 +57,7 @@ demand-2-answer = answer-log
 pub demand-2-run : (table log scratch page : List ℕ) → LogHolds table (runRefusal (runCall table log scratch page .answer)) (runCall table log scratch page .log)
 demand-2-run = run-log
 
-pub demand-2-walk : (table list pile scratch : List ℕ) → Demand2Walk table list (walkFigures (walkCall table list pile scratch .answer)) (walkCall table list pile scratch .pile)
+pub demand-2-walk : (table list pile scratch : List ℕ) → Demand2Walk table list scratch (walkFigures (walkCall table list pile scratch .answer)) (walkCall table list pile scratch .pile)
 demand-2-walk = walk-demand
 
 -- ---- demand 3: "unreachable" exactly when no run joins the start and the watched set, and else a run that does
@@ -91,6 +95,15 @@ pub enters-no-control : (table : List ℕ) (items : List Item) → read table �
     → (i : Process) → has (systemOf items .loc (t .letter)) i ≡ true → systemOf items .controls i ≤ at (t .after) i
 enters-no-control table items e = accepted-well-formed items (read-complete table items e) .no-entry
 
+-- "A transition goes from plain or copied states, in every mixture over its task's stations, to copied ones only": the copy has these and no others
+pub copied-transitions : (items : List Item) → reenters (systemOf items) ≡ true → (u : Transition)
+    → let sys = systemOf items in InAutomaton (saturatedOf items) u
+    ↔ ((t : Transition) × InAutomaton sys t × (M : Processes) × Within M (sys .loc (t .letter)) × (copyFrom (sys .loc) (sys .states) t (mixed (sys .states) M (t .before)) ≡ u))
+copied-transitions items y u = rw y (
+  (λ m. let c = copied-only (systemOf items) u m in (c .plain, c .is, c .mixture, c .within, c .makes)),
+  (λ (t, is, M, w, e). subst (Copied (systemOf items)) e (copied-has (systemOf items) t M is w)),
+)
+
 -- "A group, plain, copied or mixed, accepts exactly if its plain version does."
 pub accepts-as-plain : (table : List ℕ) (items : List Item) → read table ≡ accepted items → reenters (systemOf items) ≡ true
     → (M : Processes) (g : Group) → Within M (systemOf items .processes) → ((i : Process) → at g i < systemOf items .states i)
@@ -100,3 +113,7 @@ accepts-as-plain table items e y M g w low = rw y (mixed-accepts (systemOf items
 -- where no transition of the table enters a control state, the automaton that is saturated is its own
 pub no-copy : (items : List Item) → reenters (systemOf items) ≡ false → saturatedOf items ≡ systemOf items
 no-copy items = own-automaton (systemOf items)
+
+-- ---- request 2.3, "the limit's records of rounds up to k": the log of rounds up to k has exactly the limit's records of a round at most k
+pub limit-rounds : (table : List ℕ) (items : List Item) → read table ≡ accepted items → (k : ℕ) → logAt (saturatedOf items) k ≡ filter (λ (r : Record). leb (r .round) k) (limit (saturatedOf items))
+limit-rounds table items e = rounds-of-limit table items e

@@ -1,23 +1,23 @@
 -- Rounds: the paper's sets of transitions, the round of a record, the order of the log, the last round.
-use mathlib.Core.Path.{_∙_, _≡_, ap, refl, subst, sym}
-use mathlib.Core.Bool.{false, true≢false}
+use mathlib.Core.Path.{_∙_, _≡_, ap, refl, subst, sym, ap₂}
+use mathlib.Core.Bool.{false, true≢false, Bool, true}
 use mathlib.Core.Logic.{_≢_, _⊎_, inl, inr, ⊎-elim}
 use mathlib.Core.List.{List, List·Memᴰ, List·Memᴰ·append-cases, List·Memᴰ·cases-cons, List·Memᴰ·head, List·Memᴰ·not-nil, List·Memᴰ·tail, Memᴰ·append-right, Memᴰ·cast, Memᴰ·map, Memᴰ·of-map, [], _++_, _∷_, append-assoc, append-nil, map}
 use Prim.Native.Nat.{_+_, _<_, _≤_, suc, zero, zero-le, ℕ}
 use native.Mathlib.Omega.{arith}
 use native.Mathlib.Nat.{add-comm, le-antisymm, le-refl, not-suc-le-zero}
-use lib.Dec.{eqb}
+use lib.Dec.{eqb, leb}
 use lib.ListN.{length, length-append}
-use borrow.Author.Tests.{eqb-false, eqb-true}
+use borrow.Author.Tests.{eqb-false, eqb-true, le-leb, lt-leb}
 use Rattle.model.specs.Automata.{Transition}
 use Rattle.model.specs.Groups.{at}
-use Rattle.model.specs.Lists.{Each, isEmpty}
+use Rattle.model.specs.Lists.{Each, isEmpty, filter}
 use Rattle.model.specs.Log.{Candidate, Record, addedRecord, additions, collect, firstSaturated, inLog, initialCandidate, initialRecord, keyBound, keys, limit, logAt, recordAt, rounds, saturatedAt}
 use Rattle.model.specs.Saturation.{Added, Delta}
 use Rattle.model.specs.Systems.{InAutomaton, System}
 use Rattle.model.proofs.Collecting.{Held, Reasoned, additions-reasoned, candidateKeys, inLog-of, keys-suc, log-saturates, logAt-suc}
 use Rattle.model.proofs.Limit.{ByteSystem, length-suc, limit-saturated, saturated-later, saturated-now}
-use Rattle.model.proofs.Lists.{each-append, each-get, each-map, each-of-map, isEmpty-false, mem-each}
+use Rattle.model.proofs.Lists.{each-append, each-get, each-map, each-of-map, isEmpty-false, mem-each, each-any, filter-all, filter-append, filter-none}
 use Rattle.model.proofs.Order.{Less, Sorted, additions-fresh, additions-sorted, collect-sorted, each-candidateKeys}
 use Rattle.model.proofs.Reachability.{initial-held, keys-initial, limit-log}
 use Rattle.model.proofs.Soundness.{transitionsAt}
@@ -224,3 +224,18 @@ limit-longest sys by j =
     let grown : length (logAt sys j) ≤ length (logAt sys (saturatedAt sys + j)) = log-longer-later sys (saturatedAt sys) j in
     let same : length (logAt sys (saturatedAt sys + j)) ≡ length (logAt sys (saturatedAt sys)) = ap (λ (k : ℕ). length (logAt sys k)) (add-comm (saturatedAt sys) j) ∙ ap length (limit-log sys (saturatedAt sys) j (limit-saturated sys by)) in
     omega arith
+
+-- ---- the records of rounds up to k are those of any later log whose round is at most k
+pub records-up-to : (sys : System) (d k : ℕ) → filter (λ (r : Record). leb (r .round) k) (logAt sys (d + k)) ≡ logAt sys k
+records-up-to sys zero k = ap (λ (n : ℕ). filter (λ (r : Record). leb (r .round) k) (logAt sys n)) (let e : 0 + k ≡ k = omega arith in e)
+    ∙ filter-all (λ (r : Record). leb (r .round) k) (logAt sys k) (each-map (FirstHeld sys k) (λ (r : Record). leb (r .round) k ≡ true) (λ r f. le-leb (r .round) k (f .within)) (logAt sys k) (each-first sys k))
+records-up-to sys (suc d) k =
+    let early : Record → Bool = λ (r : Record). leb (r .round) k in
+    let young = map (addedRecord (suc (d + k)) (logAt sys (d + k))) (additions sys (logAt sys (d + k))) in
+    ap (λ (n : ℕ). filter early (logAt sys n)) (let e : suc d + k ≡ suc (d + k) = omega arith in e)
+    ∙ ap (filter early) (logAt-suc sys (d + k))
+    ∙ filter-append early (logAt sys (d + k)) young
+    ∙ ap₂ (λ (a b : List Record). a ++ b) (records-up-to sys d k)
+    (filter-none early young (each-of-map (λ (r : Record). early r ≡ false) (addedRecord (suc (d + k)) (logAt sys (d + k))) (additions sys (logAt sys (d + k)))
+    (each-any (λ (c : Candidate). leb (suc (d + k)) k ≡ false) (λ c. lt-leb (suc (d + k)) k (omega arith)) (additions sys (logAt sys (d + k))))))
+    ∙ append-nil (logAt sys k)

@@ -12,7 +12,7 @@ use Rattle.model.specs.declared.Group.{Group}
 use Rattle.model.specs.Automata.{Along, Transition, label}
 use Rattle.model.specs.Calls.{startPath}
 use Rattle.model.specs.Groups.{Process, at, has}
-use Rattle.model.specs.Lists.{Each}
+use Rattle.model.specs.Lists.{Each, filter}
 use Rattle.model.specs.Log.{Path, Record, additions, keyLess, keys, lexLess, limit, logAt, noRecord, paths, recordAt, saturatedAt, stepsCap}
 use Rattle.model.specs.Saturation.{Delta, added}
 use Rattle.model.specs.Systems.{Accepting, Accepts, Configuration, Equal, InAutomaton, Joins, Rule, Step, Steps, System, fire, fired, walk}
@@ -25,19 +25,22 @@ use Rattle.model.proofs.Completeness.{accepts-same}
 use Rattle.model.proofs.Copies.{joins-with-copy, with-copy-joins}
 use Rattle.model.proofs.Emission.{emitted-unfolds, steps-emitted, unfolds-unique}
 use Rattle.model.proofs.Limit.{limit-saturated}
-use Rattle.model.proofs.Lists.{Distinct, each-get, getD-mem}
+use Rattle.model.proofs.Lists.{Distinct, each-get, getD-mem, each-map, filter-all}
 use Rattle.model.proofs.LogPaths.{IsPath, paths-complete, paths-sound}
 use Rattle.model.proofs.Order.{log-distinct}
 use Rattle.model.proofs.Paths.{rearrange}
 use Rattle.model.proofs.Reachability.{WellFormed, answer-steps, held-more, limit-log, path-joins, path-unfolds, reach-accepts}
 use Rattle.model.proofs.Reasons.{HasReason, LeastReason, log-least, log-reasons}
-use Rattle.model.proofs.Rounds.{Before, FirstHeld, Ordered, delta-held, each-first, held-delta, log-ordered}
+use Rattle.model.proofs.Rounds.{Before, FirstHeld, Ordered, delta-held, each-first, held-delta, log-ordered, records-up-to, rounds-most}
 use Rattle.model.proofs.Steps.{fire-step, step-fire, steps-walk, walk-steps}
 use Rattle.model.proofs.CheckedItems.{Complete, read-complete}
 use Rattle.model.proofs.AcceptedTables.{accepted-cooperating, accepted-copyable}
 use Rattle.model.proofs.CopiedTables.{accepted-bytes, accepted-well-formed, saturated-copyable, saturated-eight}
 use Rattle.model.proofs.Tests.{by-zero}
 use Rattle.model.proofs.Validity.{each-at, log-counted, log-earlier}
+use native.Mathlib.Decide.{decLt}
+use lib.Dec.{leb}
+use borrow.Author.Tests.{le-leb}
 
 -- ---- where a sorted or marked list holds at a place
 later : (log : List Record) → Ordered log → (i j : ℕ) → i < j → j < length log → Before (recordAt log i) (recordAt log j)
@@ -160,6 +163,15 @@ module _ (table : List ℕ) (items : List Item) (e : read table ≡ accepted ite
 
   pub limit-is-last : (d : ℕ) → logAt (saturatedOf items) (d + saturatedAt (saturatedOf items)) ≡ limit (saturatedOf items)
   limit-is-last d = limit-log (saturatedOf items) (saturatedAt (saturatedOf items)) d limit-adds-nothing
+
+  -- the log of rounds up to k has exactly the limit's records of a round at most k
+  pub rounds-of-limit : (k : ℕ) → logAt (saturatedOf items) k ≡ filter (λ (r : Record). leb (r .round) k) (limit (saturatedOf items))
+  rounds-of-limit k = elim (decLt k (saturatedAt (saturatedOf items))) [
+    | yes h ↦ sym (records-up-to (saturatedOf items) (saturatedAt (saturatedOf items) - k) k) ∙ ap (λ (n : ℕ). filter (λ (r : Record). leb (r .round) k) (logAt (saturatedOf items) n)) (omega arith)
+    | no h ↦ ap (logAt (saturatedOf items)) (let e : k ≡ k - saturatedAt (saturatedOf items) + saturatedAt (saturatedOf items) = omega arith in e) ∙ limit-is-last (k - saturatedAt (saturatedOf items))
+        ∙ sym (filter-all (λ (r : Record). leb (r .round) k) (limit (saturatedOf items))
+        (each-map (λ (r : Record). r .round ≤ saturatedAt (saturatedOf items)) (λ (r : Record). leb (r .round) k ≡ true) (λ r l. le-leb (r .round) k (omega (arith, h))) (limit (saturatedOf items)) (rounds-most (saturatedOf items))))
+  ]
 
   -- ---- Lemma 15: the records of rounds up to the length of a run that joins c and the accepted set accept c
   pub lemma-15 : (c : Configuration) (ns : List ℕ) → Joins (systemOf items) c ns

@@ -11,10 +11,9 @@ use lib.ListN.{drop, getD, getElem?, length, length-append, length-replicate, re
 use lib.Seq.{take-append-seam}
 use borrow.Author.Tests.{ltb-false, ltb-true}
 use Rattle.model.specs.declared.Walked.{Walked}
-use Rattle.model.specs.Calls.{Halt, changesNothing, filled, firedRules, haltAt, haltBefore, haltEnd, stepBy, stepTo, walkCall, walkCounts, walkFigures, walkFrom, walkGiven, walkScratch}
+use Rattle.model.specs.Calls.{Halt, changesNothing, filled, firedRules, haltAt, haltBefore, haltEnd, stepBy, stepTo, walkCall, walkCounts, walkFigures, walkFrom, walkGiven, walkScratch, watchedFigure}
 use Rattle.model.specs.Demands.{Demand2Walk, NoRoom, NoRule, NoStep, WalkedTo, StoppedAt, TookPart}
 use Rattle.model.specs.Participation.{stepCounts}
-use Rattle.model.specs.Groups.{bit}
 use Rattle.model.specs.Lists.{valueOr}
 use Rattle.model.specs.Systems.{Configuration, Rule, System, accepts, fire, walk}
 use Rattle.model.specs.Tables.{Item, Reading, accepted, read, refused, systemOf}
@@ -110,9 +109,13 @@ module _ (sys : System) (size : ℕ) where
   walk-comes step (n ∷ ns) c short = by-rule step n ns c short (getElem? (sys .rules) n) refl (walk-comes (step + 1) ns)
 
 -- ---- the figures
-bit-one : (b : Bool) → (bit b ≡ 1) ↔ (b ≡ true)
-bit-one true = ((λ e. refl), (λ e. refl))
-bit-one false = ((λ e. absurd (omega arith)), (λ e. absurd (true≢false (sym e))))
+figure-one : (b : Bool) → (watchedFigure b ≡ 1) ↔ (b ≡ true)
+figure-one true = ((λ e. refl), (λ e. refl))
+figure-one false = ((λ e. absurd (omega arith)), (λ e. absurd (true≢false (sym e))))
+
+figure-two : (b : Bool) → (watchedFigure b ≡ 2) ↔ (b ≡ true → ⊥)
+figure-two true = ((λ e. absurd (omega arith)), (λ n. absurd (n refl)))
+figure-two false = ((λ e y. true≢false (sym y)), (λ n. refl))
 
 -- a word that fits, then zeros, keeps the buffer's length
 filled-size : (w pile : List ℕ) → length w ≤ length pile → length (filled w pile) ≡ length pile
@@ -122,7 +125,7 @@ filled-size w pile h = length-append w (replicate (length pile - length w) 0) �
 abbrev pub Counted : List ℕ → List ℕ → Walked → List ℕ → Type 0
 Counted table list x counts = TookPart table list (getD (walkFigures x) 0 0) (getD (walkFigures x) 1 0) counts
 
-module _ (table list pile : List ℕ) (items : List Item) (e : read table ≡ accepted items) where
+module _ (table list pile scratch : List ℕ) (items : List Item) (e : read table ≡ accepted items) where
   abbrev sys : System
   sys = systemOf items
 
@@ -131,11 +134,13 @@ module _ (table list pile : List ℕ) (items : List Item) (e : read table ≡ ac
   left h = valueOr pile (λ (w : List ℕ). filled w pile) (h .pile)
 
   abbrev Right : Halt → Type 0
-  Right h = Demand2Walk table list (walkFigures (h .answer)) (left h)
+  Right h = Demand2Walk table list scratch (walkFigures (h .answer)) (left h)
 
   ended : (d : Configuration) → walk sys list (sys .start) ≡ some d → WalkedTo list (walkFigures (haltEnd sys d .answer)) (filled (d .word) pile) sys
   ended d w =
-      let b = bit-one (accepts (sys .loc) (sys .transitions) (sys .accepting) (d .word) (d .states)) in
+      let test = accepts (sys .loc) (sys .transitions) (sys .accepting) (d .word) (d .states) in
+      let b = figure-one test in
+      let o = figure-two test in
       let a = watched-is-accepted sys d in
       record {
         end = d;
@@ -143,6 +148,7 @@ module _ (table list pile : List ℕ) (items : List Item) (e : read table ≡ ac
         states = refl;
         word = take-append-seam (d .word) (replicate (length pile - length (d .word)) 0);
         watched = ((λ x. a .0 (b .0 x)), (λ x. b .1 (a .1 x)));
+        unwatched = ((λ x y. o .0 x (a .1 y)), (λ n. o .1 (λ y. n (a .0 y))));
       }
 
   ends-right : (h : Halt) → Ends sys list (sys .start) h → Right h
@@ -151,6 +157,7 @@ module _ (table list pile : List ℕ) (items : List Item) (e : read table ≡ ac
     no-rule = λ z. absurd (omega (arith, z));
     idle = λ z. absurd (omega (arith, z));
     full = λ z. absurd (omega (arith, z));
+    judged = λ others q s. inl refl;
   })
 
   module _ (h : Halt) (x : Stops sys (length pile) 0 list (sys .start) h) where
@@ -199,42 +206,50 @@ module _ (table list pile : List ℕ) (items : List Item) (e : read table ≡ ac
     late (inr (inl u)) z = omega (arith, u .numbered)
     late (inr (inr u)) z = omega (arith, u .numbered)
 
+    numbers : Why sys (length pile) (getD list (x .k) 0) (x .at) (x .number) → (12 ≤ x .number) × (x .number ≤ 14)
+    numbers (inl u) = (omega (arith, u .numbered), omega (arith, u .numbered))
+    numbers (inr (inl u)) = (omega (arith, u .numbered), omega (arith, u .numbered))
+    numbers (inr (inr u)) = (omega (arith, u .numbered), omega (arith, u .numbered))
+
     stops-right : Right h
     stops-right = subst Right (sym (x .halt)) (record {
       reached = λ z. absurd (late (x .why) z);
       no-rule = λ z. (items, e, stopped NoRule (no-rule-why (x .why) z));
       idle = λ z. (items, e, stopped NoStep (idle-why (x .why) z));
       full = λ z. (items, e, inr (stopped (NoRoom (length after)) (full-why (x .why) z)));
+      judged = λ others q s. inr (numbers (x .why));
     })
 
   -- ---- refused before the first step
-  before-right : (number place : ℕ) → (number ≡ 15) ⊎ ((number ≡ 14) × (length pile < length (sys .start .word))) → Right (haltBefore number place)
-  before-right number place (inl f) = record {
+  before-right : (number place : ℕ) → ((number ≡ 15) × (length scratch < walkScratch)) ⊎ ((number ≡ 14) × (length pile < length (sys .start .word))) → Right (haltBefore number place)
+  before-right number place (inl (f, short)) = record {
     reached = λ z. absurd (omega (arith, f, z));
     no-rule = λ z. absurd (omega (arith, f, z));
     idle = λ z. absurd (omega (arith, f, z));
     full = λ z. absurd (omega (arith, f, z));
+    judged = λ others q s. absurd (omega (arith, short, s));
   }
   before-right number place (inr (f, long)) = record {
     reached = λ z. absurd (omega (arith, f, z));
     no-rule = λ z. absurd (omega (arith, f, z));
     idle = λ z. absurd (omega (arith, f, z));
     full = λ z. (items, e, inl long);
+    judged = λ others q s. inr (omega (arith, f), omega (arith, f));
   }
 
   -- ---- by the way that it halts
-  by-halt : (P : Halt → Type 0) → ((h : Halt) → Ends sys list (sys .start) h → P h) → ((h : Halt) → Stops sys (length pile) 0 list (sys .start) h → P h) → P (haltBefore 15 0)
-      → (length pile < length (sys .start .word) → P (haltBefore 14 0)) → (scratch : ℕ) → P (walkGiven (accepted items) list (length pile) scratch)
+  by-halt : (P : Halt → Type 0) → ((h : Halt) → Ends sys list (sys .start) h → P h) → ((h : Halt) → Stops sys (length pile) 0 list (sys .start) h → P h) → (length scratch < walkScratch → P (haltBefore 15 0))
+      → (length pile < length (sys .start .word) → P (haltBefore 14 0)) → P (walkGiven (accepted items) list (length pile) (length scratch))
   unfolding walkGiven
-  by-halt P ends stops short unfit scratch = by-test (ltb scratch walkScratch)
-      (λ y. rw y short)
+  by-halt P ends stops short unfit = by-test (ltb (length scratch) walkScratch)
+      (λ y. rw y (short (ltb-true (length scratch) walkScratch y)))
       (λ n. rw n (by-test (ltb (length pile) (length (sys .start .word)))
       (λ y. rw y (unfit (ltb-true (length pile) (length (sys .start .word)) y)))
       (λ m. rw m (⊎-elim (ends (walkFrom sys (length pile) 0 list (sys .start))) (stops (walkFrom sys (length pile) 0 list (sys .start)))
       (walk-comes sys (length pile) 0 list (sys .start) (ltb-false (length pile) (length (sys .start .word)) m))))))
 
-  given-right : (scratch : ℕ) → Right (walkGiven (accepted items) list (length pile) scratch)
-  given-right = by-halt Right ends-right stops-right (before-right 15 0 (inl refl)) (λ long. before-right 14 0 (inr (refl, long)))
+  given-right : Right (walkGiven (accepted items) list (length pile) (length scratch))
+  given-right = by-halt Right ends-right stops-right (λ short. before-right 15 0 (inl (refl, short))) (λ long. before-right 14 0 (inr (refl, long)))
 
   -- ---- request 2.5
   abbrev CountsRight : Halt → Type 0
@@ -265,16 +280,16 @@ module _ (table list pile : List ℕ) (items : List Item) (e : read table ≡ ac
       by-number (inr (inl u)) = numbered 12 (omega arith) refl (u .numbered)
       by-number (inr (inr u)) = numbered 14 (omega arith) refl (u .numbered)
 
-  given-counted : (scratch : ℕ) → CountsRight (walkGiven (accepted items) list (length pile) scratch)
-  given-counted = by-halt CountsRight ends-counted stops-counted (refused-counted 15 0 (omega arith) (λ z. refl)) (λ long. refused-counted 14 0 (omega arith) (λ z. refl))
+  given-counted : CountsRight (walkGiven (accepted items) list (length pile) (length scratch))
+  given-counted = by-halt CountsRight ends-counted stops-counted (λ short. refused-counted 15 0 (omega arith) (λ z. refl)) (λ long. refused-counted 14 0 (omega arith) (λ z. refl))
 
-pub walk-demand : (table list pile scratch : List ℕ) → Demand2Walk table list (walkFigures (walkCall table list pile scratch .answer)) (walkCall table list pile scratch .pile)
+pub walk-demand : (table list pile scratch : List ℕ) → Demand2Walk table list scratch (walkFigures (walkCall table list pile scratch .answer)) (walkCall table list pile scratch .pile)
 unfolding walkCall walkGiven
 walk-demand table list pile scratch = by-reading (read table) refl
   where
     by-reading : (r : Reading) → read table ≡ r
-        → Demand2Walk table list (walkFigures (walkGiven r list (length pile) (length scratch) .answer)) (valueOr pile (λ (w : List ℕ). filled w pile) (walkGiven r list (length pile) (length scratch) .pile))
-    by-reading (accepted items) e = given-right table list pile items e (length scratch)
+        → Demand2Walk table list scratch (walkFigures (walkGiven r list (length pile) (length scratch) .answer)) (valueOr pile (λ (w : List ℕ). filled w pile) (walkGiven r list (length pile) (length scratch) .pile))
+    by-reading (accepted items) e = given-right table list pile scratch items e
     by-reading (refused number place) e =
         let small : Numbered9 (refused number place) = subst Numbered9 e (read-numbered table) in
         record {
@@ -282,6 +297,7 @@ walk-demand table list pile scratch = by-reading (read table) refl
           no-rule = λ z. absurd (omega (arith, z, small .1));
           idle = λ z. absurd (omega (arith, z, small .1));
           full = λ z. absurd (omega (arith, z, small .1));
+          judged = λ items q s. absurd (let bad : refused number place ≡ accepted items = sym e ∙ q in let z : _≡_ {A = ℕ} 0 1 = cc in omega arith);
         }
 
 pub walk-counts : (table list pile scratch : List ℕ) → Counted table list (walkCall table list pile scratch .answer) (walkCall table list pile scratch .counts)
@@ -289,29 +305,31 @@ unfolding walkCall walkGiven walkCounts
 walk-counts table list pile scratch = by-reading (read table) refl
   where
     by-reading : (r : Reading) → read table ≡ r → Counted table list (walkGiven r list (length pile) (length scratch) .answer) (walkCounts r list (walkGiven r list (length pile) (length scratch) .answer))
-    by-reading (accepted items) e = given-counted table list pile items e (length scratch)
+    by-reading (accepted items) e = given-counted table list pile scratch items e
     by-reading (refused number place) e =
         let small : Numbered9 (refused number place) = subst Numbered9 e (read-numbered table) in
         record { ended = λ z. absurd (omega (arith, z, small .0)); stopped = λ a b. absurd (omega (arith, a, small .1)); no-step = λ z. refl }
 
 -- ---- further figures behind those of the answer
-module _ {table list : List ℕ} (more : List ℕ) where
-  first-eight : {pile : List ℕ} {a b c d e f g h : ℕ} → Demand2Walk table list (a ∷ b ∷ c ∷ d ∷ e ∷ f ∷ g ∷ h ∷ []) pile → Demand2Walk table list (a ∷ b ∷ c ∷ d ∷ e ∷ f ∷ g ∷ h ∷ more) pile
+module _ {table list scratch : List ℕ} (more : List ℕ) where
+  first-eight : {pile : List ℕ} {a b c d e f g h : ℕ} → Demand2Walk table list scratch (a ∷ b ∷ c ∷ d ∷ e ∷ f ∷ g ∷ h ∷ []) pile → Demand2Walk table list scratch (a ∷ b ∷ c ∷ d ∷ e ∷ f ∷ g ∷ h ∷ more) pile
   first-eight w = record {
     reached = λ z. let r = w .reached z in (
       r .0,
       r .1,
-      record { end = r .2 .end; steps = r .2 .steps; states = r .2 .states; word = r .2 .word; watched = r .2 .watched },
+      record { end = r .2 .end; steps = r .2 .steps; states = r .2 .states; word = r .2 .word; watched = r .2 .watched; unwatched = r .2 .unwatched },
     );
     no-rule = w .no-rule;
     idle = w .idle;
     full = w .full;
+    judged = w .judged;
   }
 
-  pub demand-more : {pile : List ℕ} (x : Walked) → Demand2Walk table list (walkFigures x) pile → Demand2Walk table list (walkFigures x ++ more) pile
+  pub demand-more : {pile : List ℕ} (x : Walked) → Demand2Walk table list scratch (walkFigures x) pile → Demand2Walk table list scratch (walkFigures x ++ more) pile
   demand-more (Walked.Ended g n w) d = first-eight d
   demand-more (Walked.Refused number place) d = first-eight d
 
+module _ {table list : List ℕ} (more : List ℕ) where
   pub counted-more : (x : Walked) (counts : List ℕ) → Counted table list x counts → TookPart table list (getD (walkFigures x ++ more) 0 0) (getD (walkFigures x ++ more) 1 0) counts
   counted-more (Walked.Ended g n w) counts d = d
   counted-more (Walked.Refused number place) counts d = d

@@ -1,7 +1,7 @@
 -- Document 01, "Calls and what they leave": for each call one definition of what it gives and of the closing contents
 -- of every lent buffer. What a call gives depends on its buffers by their lengths alone. The order of the checks: 1 to
 -- 9; 15; then 10, 16, 11; in a walk 14 for the start pile and, at each step, 13, 12, 14.
-use mathlib.Core.Bool.{Bool, cond, _&&_, _||_}
+use mathlib.Core.Bool.{Bool, cond, false, true, _&&_, _||_}
 use mathlib.Core.Option.{Option, none, some}
 use mathlib.Core.List.{List, [], _∷_, _++_}
 use Prim.Native.Nat.{ℕ, _+_, _-_, _*_, _/_, min}
@@ -11,7 +11,7 @@ use Rattle.model.specs.declared.Answered.{Answered}
 use Rattle.model.specs.declared.Ran.{Ran}
 use Rattle.model.specs.declared.Walked.{Walked}
 use Rattle.model.specs.Lists.{valueOr}
-use Rattle.model.specs.Groups.{Processes, atEach, bit}
+use Rattle.model.specs.Groups.{Processes, atEach}
 use Rattle.model.specs.Systems.{System, Rule, Configuration, fire, peak, accepts}
 use Rattle.model.specs.Copies.{withCopy}
 use Rattle.model.specs.Tables.{Reading, accepted, refused, read, systemOf, saturatedOf}
@@ -235,18 +235,23 @@ walkCall table list pile scratch =
     }
 
 -- ---- document 01's number and values for every case: the refusal's number or 0, its place or 0, then the values, 0
--- where a case has none reachable or not, transitions, rounds, steps
+-- where a case has none
+-- the verdict, 1 reachable and 2 unreachable, so that 0 is no verdict; transitions, rounds, steps
 abbrev pub answerFigures : Answered → List ℕ
 answerFigures (Answered.Reachable t r s) = 0 ∷ 0 ∷ 1 ∷ t ∷ r ∷ s ∷ []
-answerFigures (Answered.Unreachable t r) = 0 ∷ 0 ∷ 0 ∷ t ∷ r ∷ 0 ∷ []
+answerFigures (Answered.Unreachable t r) = 0 ∷ 0 ∷ 2 ∷ t ∷ r ∷ 0 ∷ []
 answerFigures (Answered.Refused number place) = number ∷ place ∷ 0 ∷ 0 ∷ 0 ∷ 0 ∷ []
 
--- reachable, transitions, rounds, steps, peak
+-- the verdict, 1, transitions, rounds, steps, peak
 abbrev pub runFigures : Ran → List ℕ
 runFigures (Ran.Reached t r s p) = 0 ∷ 0 ∷ 1 ∷ t ∷ r ∷ s ∷ p ∷ []
 runFigures (Ran.Refused number place) = number ∷ place ∷ 0 ∷ 0 ∷ 0 ∷ 0 ∷ 0 ∷ []
 
--- watched or not, pile length, end states
+-- watched, 1, or not, 2, so that 0 is no answer; pile length, end states
+abbrev pub watchedFigure : Bool → ℕ
+watchedFigure true = 1
+watchedFigure false = 2
+
 abbrev pub walkFigures : Walked → List ℕ
-walkFigures (Walked.Ended g n w) = 0 ∷ 0 ∷ bit w ∷ n ∷ g .s0 ∷ g .s1 ∷ g .s2 ∷ g .s3 ∷ []
+walkFigures (Walked.Ended g n w) = 0 ∷ 0 ∷ watchedFigure w ∷ n ∷ g .s0 ∷ g .s1 ∷ g .s2 ∷ g .s3 ∷ []
 walkFigures (Walked.Refused number place) = number ∷ place ∷ 0 ∷ 0 ∷ 0 ∷ 0 ∷ 0 ∷ 0 ∷ []

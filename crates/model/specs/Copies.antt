@@ -6,7 +6,8 @@ use Prim.Native.Nat.{ℕ, zero, suc, _+_}
 use lib.Dec.{leb}
 use Rattle.model.specs.declared.Group.{Group}
 use Rattle.model.specs.Lists.{allOf, concatMap, filter}
-use Rattle.model.specs.Groups.{Process, every, at, build, Processes, has, processesOf, withinTest, restrict, merge}
+use Rattle.model.specs.Groups.{Process, every, at, build, Processes, has, processesOf, withinTest, restrict}
+use Rattle.model.specs.Groups.{merge}
 use Rattle.model.specs.Automata.{Transition}
 use Rattle.model.specs.Systems.{System}
 

@@ -20,7 +20,7 @@ use Rattle.model.specs.Log.{Path, limit, rounds, stepsCap, longestRun}
 use Rattle.model.specs.Unfolding.{Unfolds}
 use Rattle.model.specs.Records.{recordLength, keyAt, roundAt}
 use Rattle.model.specs.Participation.{stepCounts}
-use Rattle.model.specs.Calls.{capacity, changesNothing, filled, scratchNeeded, startPath}
+use Rattle.model.specs.Calls.{capacity, changesNothing, filled, scratchNeeded, startPath, walkScratch}
 
 -- the table is accepted, and P holds of the system that it describes
 abbrev pub Describes : List ℕ → (System → Type 0) → Type 0
@@ -49,13 +49,14 @@ LogHolds table number log =
 -- ---- demand 2, of a walk: it moves exactly as the paper's systems step
 -- Not refused: the paper's steps lead from the start by the rules of the list to a configuration whose states and word
 -- are those given, in the figures and in the pile, and the watched figure is 1 exactly if the table's automaton accepts
--- it.
+-- it, 2 exactly if not.
 pub record WalkedTo (list figures pile : List ℕ) (sys : System) : Type 0 where
   pub end : Configuration
   pub steps : Steps sys list (sys .start) end
   pub states : groupOf figures 4 ≡ end .states
   pub word : take (getD figures 3 0) pile ≡ end .word
   pub watched : (getD figures 2 0 ≡ 1) ↔ Accepted sys end
+  pub unwatched : (getD figures 2 0 ≡ 2) ↔ (Accepted sys end → ⊥)
 
 -- Refused at step k: the paper's steps lead by the rules before it to a configuration whose word the pile holds, then
 -- zeros, and where the rule of step k is refused because of P.
@@ -81,8 +82,8 @@ NoRoom size sys n c =
     (r : Rule) × (getElem? (sys .rules) n ≡ some r) × (d : Configuration) × (fire (sys .loc) r c ≡ some d)
     × Step (sys .loc) r c d × (size < length (d .word))
 
--- by the figures: the refusal's number, or 0, and its place
-pub record Demand2Walk (table list figures pile : List ℕ) : Type 0 where
+-- by the figures: the refusal's number, or 0, and its place; `scratch` is what was lent
+pub record Demand2Walk (table list scratch figures pile : List ℕ) : Type 0 where
   pub reached : getD figures 0 0 ≡ 0 → Describes table (WalkedTo list figures pile)
   pub no-rule : getD figures 0 0 ≡ 13 → Describes table (StoppedAt list pile (getD figures 1 0) NoRule)
   pub idle : getD figures 0 0 ≡ 12 → Describes table (StoppedAt list pile (getD figures 1 0) NoStep)
@@ -91,6 +92,9 @@ pub record Demand2Walk (table list figures pile : List ℕ) : Type 0 where
       → Describes table
       (λ (sys : System). (length pile < length (sys .start .word))
       ⊎ StoppedAt list pile (getD figures 1 0) (NoRoom (length pile)) sys)
+  -- an accepted table and a scratch that serves are refused by nothing else
+  pub judged : (items : List Item) → read table ≡ accepted items → walkScratch ≤ length scratch
+      → (getD figures 0 0 ≡ 0) ⊎ ((12 ≤ getD figures 0 0) × (getD figures 0 0 ≤ 14))
 
 -- ---- request 2.5, of a walk, by its refusal's number, or 0, and the place: for each process the number of steps that
 -- it took part in. They are the rules of the list; "A walk refused at a step gives the counts of the steps before it,

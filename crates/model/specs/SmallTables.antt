@@ -3,16 +3,18 @@
 use mathlib.Core.Path.{_≡_, refl}
 use mathlib.Core.List.{List, [], _∷_, _++_, map}
 use Prim.Native.Nat.{ℕ}
-use lib.ListN.{replicate}
+use lib.ListN.{replicate, take}
 use Rattle.model.specs.Groups.{greatest, sameGroup, processBits, restrict, merge}
 use Rattle.model.specs.Words.{tops}
 use Rattle.model.specs.Systems.{enabled, fire}
 use Rattle.model.specs.Copies.{leavesControl, reenters, copies, subsets, mixed, mixtures, copied}
-use Rattle.model.specs.Tables.{isOutOfTurn, groupFits, transitionFits, writtenFit, valueFits, cooperates, isNarrow, isReentry, isTwin, refusal, readFrom, read, systemOf}
+use Rattle.model.specs.Tables.{isOutOfTurn, groupFits, transitionFits, writtenFit, valueFits, cooperates}
+use Rattle.model.specs.Tables.{isNarrow, isReentry, isTwin, refusal, readFrom, read, systemOf}
 use Rattle.model.specs.Log.{readsAt, keyLess, sameKey, additions, logAt, firstSaturated, saturatedAt}
 use Rattle.model.specs.Unfolding.{acceptingPath, emittedBy}
 use Rattle.model.specs.Records.{recordBytes}
-use Rattle.model.specs.Calls.{recordsOf, runOf, logAfter, pageAfter, answerGiven, answerCall, runCall, walkCall, answerFigures, runGiven, runFigures, walkCounts, walkGiven, walkFigures}
+use Rattle.model.specs.Calls.{recordsOf, runOf, logAfter, pageAfter, answerGiven, answerCall, runCall, walkCall}
+use Rattle.model.specs.Calls.{answerFigures, runGiven, runFigures, walkCounts, walkGiven, walkFigures}
 use Rattle.model.specs.Participation.{withStep}
 
 -- a call, with the lengths of its lent buffers
@@ -156,12 +158,12 @@ starred =
     -- T without rule 2: unreachable, 1, 1
     ∷ record {
       call = asks (head-T ++ rules01-T ++ accepting-T ++ start-T) 84 34030;
-      result = (0 ∷ 0 ∷ 0 ∷ 1 ∷ 1 ∷ 0 ∷ []) ∷ [];
+      result = (0 ∷ 0 ∷ 2 ∷ 1 ∷ 1 ∷ 0 ∷ []) ∷ [];
     }
     -- T without its accepting item: unreachable
     ∷ record {
       call = asks (head-T ++ rules01-T ++ rule2-T ++ start-T) 84 34030;
-      result = (0 ∷ 0 ∷ 0 ∷ 3 ∷ 2 ∷ 0 ∷ []) ∷ [];
+      result = (0 ∷ 0 ∷ 2 ∷ 3 ∷ 2 ∷ 0 ∷ []) ∷ [];
     }
     -- T with start (1,1) and no pile: steps 0, transitions 3, peak 0, and an empty run
     ∷ record {
@@ -172,10 +174,18 @@ starred =
     ∷ record { call = asks table-T 83 34030; result = (10 ∷ 0 ∷ 0 ∷ 0 ∷ 0 ∷ 0 ∷ []) ∷ [] }
     -- the empty file: 1 at 0
     ∷ record { call = asks [] 84 34030; result = (1 ∷ 0 ∷ 0 ∷ 0 ∷ 0 ∷ 0 ∷ []) ∷ [] }
+    -- T has 76 bytes: 1 at 75 without the last of them, 9 at 76 with one more
+    ∷ record { call = asks (take 75 table-T) 84 34030; result = (1 ∷ 75 ∷ 0 ∷ 0 ∷ 0 ∷ 0 ∷ []) ∷ [] }
+    ∷ record { call = asks (table-T ++ (8 ∷ [])) 84 34030; result = (9 ∷ 76 ∷ 0 ∷ 0 ∷ 0 ∷ 0 ∷ []) ∷ [] }
     -- T, walk 0 2 1: (1,1), empty, watched; request 2.5: each station took part in two steps
     ∷ record {
       call = walks table-T (0 ∷ 2 ∷ 1 ∷ []) 3 2048;
       result = (0 ∷ 0 ∷ 1 ∷ 0 ∷ 1 ∷ 1 ∷ 255 ∷ 255 ∷ []) ∷ (2 ∷ 2 ∷ 0 ∷ 0 ∷ []) ∷ [] ∷ (0 ∷ 0 ∷ 0 ∷ []) ∷ [];
+    }
+    -- walk 0: (0,0), pile 1 2, not watched
+    ∷ record {
+      call = walks table-T (0 ∷ []) 3 2048;
+      result = (0 ∷ 0 ∷ 2 ∷ 2 ∷ 0 ∷ 0 ∷ 255 ∷ 255 ∷ []) ∷ (1 ∷ 1 ∷ 0 ∷ 0 ∷ []) ∷ [] ∷ (1 ∷ 2 ∷ 0 ∷ []) ∷ [];
     }
     -- T, walk 1: 12 at 0
     ∷ record {
@@ -183,7 +193,7 @@ starred =
       result = (12 ∷ 0 ∷ 0 ∷ 0 ∷ 0 ∷ 0 ∷ 0 ∷ 0 ∷ []) ∷ (0 ∷ 0 ∷ 0 ∷ 0 ∷ []) ∷ (1 ∷ []) ∷ (0 ∷ 0 ∷ 0 ∷ []) ∷ [];
     }
     -- request 2.6, re-entry: unreachable with 3 transitions and 1 round
-    ∷ record { call = asks (re-entry 2) 84 34030; result = (0 ∷ 0 ∷ 0 ∷ 3 ∷ 1 ∷ 0 ∷ []) ∷ [] }
+    ∷ record { call = asks (re-entry 2) 84 34030; result = (0 ∷ 0 ∷ 2 ∷ 3 ∷ 1 ∷ 0 ∷ []) ∷ [] }
     -- doubling: run 0 1 2 2 1 2 2, peak 3
     ∷ record {
       call = runs doubling 84 34030 7;
@@ -244,7 +254,7 @@ starred =
     -- copied, s = 5 is not: 7 at the watch transition, also where the wide station is none of its task's
     ∷ record {
       call = logs (re-entry 2) 84 34030;
-      result = (0 ∷ 0 ∷ 0 ∷ 3 ∷ 1 ∷ 0 ∷ [])
+      result = (0 ∷ 0 ∷ 2 ∷ 3 ∷ 1 ∷ 0 ∷ [])
           ∷ (0 ∷ 0 ∷ 255 ∷ 255 ∷ 255 ∷ 3 ∷ 255 ∷ 255 ∷ 255 ∷ 0 ∷ 0 ∷ 255 ∷ 255 ∷ 255 ∷ 255 ∷ 255 ∷ 255 ∷ 255 ∷ 255 ∷ 255
           ∷ 255 ∷ 255 ∷ 255 ∷ 255 ∷ 255 ∷ 0 ∷ 0 ∷ 0
           ∷ 0 ∷ 2 ∷ 255 ∷ 255 ∷ 255 ∷ 3 ∷ 255 ∷ 255 ∷ 255 ∷ 0 ∷ 0 ∷ 255 ∷ 255 ∷ 255 ∷ 255 ∷ 255 ∷ 255 ∷ 255 ∷ 255 ∷ 255
@@ -253,7 +263,7 @@ starred =
           ∷ 255 ∷ 255 ∷ 255 ∷ 255 ∷ 255 ∷ 1 ∷ 0 ∷ 0 ∷ [])
           ∷ [];
     }
-    ∷ record { call = asks (re-entry 4) 84 34030; result = (0 ∷ 0 ∷ 0 ∷ 3 ∷ 1 ∷ 0 ∷ []) ∷ [] }
+    ∷ record { call = asks (re-entry 4) 84 34030; result = (0 ∷ 0 ∷ 2 ∷ 3 ∷ 1 ∷ 0 ∷ []) ∷ [] }
     ∷ record { call = asks (re-entry 5) 84 34030; result = (7 ∷ 24 ∷ 0 ∷ 0 ∷ 0 ∷ 0 ∷ []) ∷ [] }
     ∷ record { call = asks (staying 5 []) 168 34060; result = (7 ∷ 10 ∷ 0 ∷ 0 ∷ 0 ∷ 0 ∷ []) ∷ [] }
     -- task 0 leads to a mixed group, which accepts, and from which task 1 leads on; round 0 alone needs six records;

@@ -250,14 +250,19 @@ pub record Exact20 (week : Process → List Window) (steps : List PlannedStep) (
   pub given : ((k : ℕ) → NeverOpen week steps k → ⊥) → number ≡ 0
 
 -- What a call means by the number of its refusal, 0 if there is none, and its place: not refused, every step begins at
--- its first minute. Where the table and check 19 let a plan through, it is refused by "20, never open, exactly when
--- some step fits no minute of any week, place the first such step".
+-- its first minute. "Checks, after the table's own": a table that is refused gives its number and place; "19, bad
+-- hours", place 0, exactly when it is not all within bounds. Where table and check 19 let a plan through, it is refused
+-- by "20, never open, exactly when some step fits no minute of any week, place the first such step".
 pub record PlanMeans (table run : List ℕ) (hours : List (List Window)) (counts lengths : List ℕ) (start : ℤ)
     (number place : ℕ) (begins : List ℤ) : Type 0 where
   pub first-minutes : number ≡ 0
       → Describes table
       (λ (sys : System). (k : ℕ) → k < length run
       → BeginsFirst (weekOf hours counts) start (stepsOf sys lengths run) begins k)
+  pub refused-table : (n p : ℕ) → read table ≡ refused n p → (number ≡ n) × (place ≡ p)
+  pub refused-19 : (items : List Item) → read table ≡ accepted items
+      → (planFits (count 1 items) (count 3 items) run hours counts lengths start (length begins) ≡ false)
+      ↔ ((number ≡ 19) × (place ≡ 0))
   pub let-through : (items : List Item) → read table ≡ accepted items
       → planFits (count 1 items) (count 3 items) run hours counts lengths start (length begins) ≡ true
       → Exact20 (weekOf hours counts) (stepsOf (systemOf items) lengths run) number place

@@ -14,6 +14,7 @@ use mir.Val.{SFits}
 use Rattle.plan_model.specs.declared.Planned.{Planned}
 use Rattle.plan_model.specs.declared.Window.{Window}
 use Rattle.model.specs.Groups.{Process}
+use Rattle.plan_model.proofs.Plans.{begins-count}
 use Rattle.plan_model.specs.Hours.{PlanMeans, PlannedStep, atStart, beginsFrom, firstNever, hoursFit, lengthsFit, planBegins, planCall, planFits, planGiven, plannedPlace, plannedRefusal, runFits, startFits, stepOf, stepsOf, weekOf}
 use Rattle.model.specs.Tables.{count, read, refused, systemOf}
 use Rattle.plan_model.proofs.Main.{plan-holds}
@@ -57,11 +58,6 @@ fit-parts processes rules run hours counts lengths start room e =
     }
 
 -- ---- the call
-begins-count : (week : Process → List Window) (start : ℤ) (ends : List ℤ) (steps : List PlannedStep) → length (beginsFrom week start ends steps) ≡ length steps
-unfolding beginsFrom
-begins-count week start ends [] = refl
-begins-count week start ends (s ∷ steps) = ap suc (begins-count week start _ steps)
-
 module _ (table run : List ℕ) (hours : List (List Window)) (counts lengths : List ℕ) (start : ℤ) (begins : List ℤ) where
   pub table-refused : (number place : ℕ) → read table ≡ refused number place → Plans (planCall table run hours counts lengths start begins) (Planned.Refused number place) begins
   unfolding planCall planGiven

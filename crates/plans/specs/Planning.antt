@@ -9,7 +9,8 @@ use lib.ListN.{getD}
 use Rattle.plan_model.specs.declared.Planned.{Planned}
 use Rattle.plan_model.specs.declared.Window.{Window}
 use Rattle.model.specs.Groups.{Process}
-use Rattle.plan_model.specs.Hours.{PlanOutcome, endOf, lengthsFit, longestStep, neverFits, startFits, stepOf, weekMinutes, mostSteps}
+use Rattle.plan_model.specs.Hours.{PlanOutcome, endOf, lengthsFit, longestStep, neverFits, startFits, stepOf}
+use Rattle.plan_model.specs.Hours.{weekMinutes, mostSteps}
 use Rattle.model.specs.Systems.{System}
 use Rattle.table.specs.Reading.{Holds}
 use Rattle.table.specs.declared.Table.{Table}

@@ -7,7 +7,8 @@ use Rattle.model.specs.Groups.{Process, at}
 use Rattle.model.specs.Lists.{Each}
 use Rattle.model.specs.Tables.{writtenPlaces}
 use Rattle.model.specs.Log.{Record, noNumber}
-use Rattle.model.specs.Records.{recordLength, littleEndian, groupBytes, pathBytes, letterAt, beforeAt, afterAt, roundAt, ruleAt, placeAt, stepsAt}
+use Rattle.model.specs.Records.{recordLength, littleEndian, groupBytes, pathBytes, letterAt, beforeAt, afterAt, roundAt}
+use Rattle.model.specs.Records.{ruleAt, placeAt, stepsAt}
 use Rattle.records.specs.declared.Entry.{Entry}
 
 -- ---- writing

@@ -11,6 +11,9 @@ use Rattle.model.specs.Systems.{Configuration}
 use Rattle.buffers.specs.Buffers.{fronted}
 use Rattle.buffers.proofs.Parts.{part-rest}
 use Rattle.firing.specs.Piles.{configuration}
+use Rattle.table.specs.declared.Table.{Table}
+use Rattle.table.specs.Reading.{systemIn}
+use Rattle.steps.specs.Stepping.{StartPlaced}
 
 -- ---- the start
 -- a word written at the end of a buffer stands there
@@ -23,12 +26,23 @@ placed-word pile w n e h =
     ∙ ap₂ (λ (x y : List ℕ). x ++ y) (take-all n w (omega arith)) past
     ∙ append-nil w
 
-pub placed-start : (pile : List ℕ) (c : Configuration) (n : ℕ) (g : Group) (pile′ : List ℕ) → length (c .word) ≡ n → n ≤ length pile → g ≡ c .states → pile′ ≡ paste pile (length pile - n) (c .word) n
-    → (configuration pile′ (record { states = g; top = length pile - n }) ≡ c) × (length pile - n ≤ length pile′)
-placed-start pile c n g pile′ e h q f = (
-  ap₂ (λ (s : Group) (w : List ℕ). record { states = s; word = w }) q (ap (drop (length pile - n)) f ∙ placed-word pile (c .word) n e h),
-  omega (arith, ap length f ∙ length-paste pile (length pile - n) (c .word) n (omega arith) (omega arith)),
-)
+-- what it leaves: the bytes before the word, and the word
+placed-whole : (pile w : List ℕ) (n : ℕ) → length w ≡ n → n ≤ length pile → paste pile (length pile - n) w n ≡ take (length pile - n) pile ++ w
+placed-whole pile w n e h =
+    let past : drop (length pile - n + n) pile ≡ [] = drop-of-length-le pile {i = length pile - n + n} (omega arith) in
+    append-assoc (take (length pile - n) pile) (take n w) (drop (length pile - n + n) pile)
+    ∙ ap (λ (x : List ℕ). take (length pile - n) pile ++ x) (ap₂ (λ (x y : List ℕ). x ++ y) (take-all n w (omega arith)) past ∙ append-nil w)
+
+pub placed-start : (table : List ℕ) (t : Table) (pile : List ℕ) (g : Group) (pile′ : List ℕ) → length (systemIn table .start .word) ≡ t .pile → t .pile ≤ length pile → g ≡ systemIn table .start .states
+    → pile′ ≡ paste pile (length pile - t .pile) (systemIn table .start .word) (t .pile) → StartPlaced table t pile pile′ (record { states = g; top = length pile - t .pile })
+placed-start table t pile g pile′ e h q f =
+    let w = systemIn table .start .word in
+    let top = length pile - t .pile in
+    record {
+      start = ap₂ (λ (s : Group) (v : List ℕ). record { states = s; word = v }) q (ap (drop top) f ∙ placed-word pile w (t .pile) e h);
+      inside = omega (arith, ap length f ∙ length-paste pile top w (t .pile) (omega arith) (omega arith));
+      leaves = f ∙ placed-whole pile w (t .pile) e h;
+    }
 
 -- ---- the word moved to the front
 pub brought-front : (l : List ℕ) (top : ℕ) (s z : List ℕ) → top ≤ length l → s ≡ fronted l top (length l - top) → z ≡ zeros (take (length s - (length l - top)) (drop (length l - top) s))

@@ -96,5 +96,6 @@ module _ (table : List ℕ) (t : Table) (h : Holds table t) (n : ℕ) (pile : Li
           };
           size = x .size;
           onward = λ step ns. by-rule step ns (some (configuration pile′ (f .placed))) (x .gives) ∙ rw (le-ltb (length pile) (length (drop (f .placed .top) pile′)) (x .fits)) refl;
+          leaves = z .leaves;
           tells = x .tells ∙ ap processBits (sym (rule-processes table t h n l));
         }

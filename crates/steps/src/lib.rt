@@ -21,8 +21,7 @@ ghost use Rattle.model.specs.Calls.{filled};
 ghost use Rattle.model.specs.Groups.{bit, processesOf};
 ghost use Rattle.model.specs.Participation.{withStep};
 ghost use Rattle.table.specs.Reading.{Holds, systemIn};
-ghost use Rattle.firing.specs.Piles.{configuration};
-ghost use Rattle.steps.specs.Stepping.{InShape, StepTo, countsBy};
+ghost use Rattle.steps.specs.Stepping.{InShape, StartPlaced, StepTo, countsBy};
 
 // What one step comes to: the number of its refusal, or the rule that fired.
 pub enum Taken {
@@ -47,7 +46,7 @@ fn write_start(table: &[u8], t: Table, pile: &mut [u8], at: usize)
 // Puts the start's word at the end of the buffer.
 pub fn place_start(table: &[u8], t: Table, pile: &mut [u8]) -> Placed
     requires { ⌜ Holds (now table) t × (t .pile ≤ length (now pile)) ⌝ }
-    ensures { λ r. ⌜ (configuration (now (pile .exit)) r ≡ systemIn (now (table .entry)) .start) × (r .top ≤ length (now (pile .exit))) ⌝ }
+    ensures { λ r. ⌜ StartPlaced (now (table .entry)) t (now (pile .entry)) (now (pile .exit)) r ⌝ }
 {
     let states = start_group(table, t);
     let count = t.pile;

@@ -9,7 +9,8 @@ use Rattle.model.specs.Automata.{Transition}
 use Rattle.model.specs.Copies.{withCopy}
 use Rattle.model.specs.Groups.{Process, p0, p1, p2, p3, Processes, processesOf}
 use Rattle.model.specs.Systems.{Rule, System}
-use Rattle.model.specs.Tables.{Item, bodies, count, groupOf, locOf, ruleOf, transitionOf, valueFits, cooperates, isReentry, isTwin, Reading, accepted, refused, readFrom, read, systemOf}
+use Rattle.model.specs.Tables.{Item, bodies, count, groupOf, locOf, ruleOf, transitionOf, valueFits, cooperates}
+use Rattle.model.specs.Tables.{isReentry, isTwin, Reading, accepted, refused, readFrom, read, systemOf}
 use Rattle.model.specs.declared.Group.{Group}
 use Rattle.table.specs.Places.{itemsBefore, Passed}
 use Rattle.table.specs.declared.Cursor.{Cursor}

@@ -148,7 +148,7 @@ table-halts table list pile scratch number place e =
 
 -- ---- demand 2 and request 2.5, by the figures of the call
 pub walk-told : (table list pile scratch f p : List ℕ) → let o = walkCall table list pile scratch in f ≡ walkFigures (o .answer) ++ o .counts → p ≡ o .pile
-    → Demand2Walk table list f p × TookPart table list (getD f 0 0) (getD f 1 0) (drop 8 f)
+    → Demand2Walk table list scratch f p × TookPart table list (getD f 0 0) (getD f 1 0) (drop 8 f)
 walk-told table list pile scratch f p e q =
     let o = walkCall table list pile scratch in (
       rw (e, q) (demand-more (o .counts) (o .answer) (demand-2-walk table list pile scratch)),

@@ -2,11 +2,12 @@
 use mathlib.Core.Path.{_≡_}
 use mathlib.Core.Bool.{false, cond}
 use mathlib.Core.List.{List, [], _++_}
-use Prim.Native.Nat.{ℕ, _≤_}
+use Prim.Native.Nat.{ℕ, _+_, _*_, _≤_}
 use lib.Dec.{eqb}
 use lib.ListN.{length, drop}
 use Rattle.model.specs.declared.Walked.{Walked}
-use Rattle.model.specs.Calls.{Halt, WalkOutcome, changesNothing, filled, firedRules, haltAt, haltEnd, scratchAfter, walkFigures, walkRefusal}
+use Rattle.model.specs.Calls.{Halt, WalkOutcome, changesNothing, filled, firedRules, haltAt, haltEnd, scratchAfter}
+use Rattle.model.specs.Calls.{walkFigures, walkRefusal}
 use Rattle.model.specs.Groups.{atEach}
 use Rattle.model.specs.Lists.{valueOr}
 use Rattle.model.specs.Participation.{stepCounts}
@@ -57,6 +58,11 @@ pub record Halts (o : WalkOutcome) (list : List ℕ) (r : Halted) (pile′ scrat
   pub rest : drop (r .from) list ≡ o .rest
   pub pile : pile′ ≡ o .pile
   pub scratch : scratch′ ≡ o .scratch
+
+-- "hands back the part of the caller's list that begins there": so many numbers of two bytes behind the list's place,
+-- which is a block of memory and the bytes before it there
+abbrev pub placeIn : ℕ × ℕ → ℕ → ℕ × ℕ
+placeIn list n = (list .0, list .1 + n * 2)
 
 -- the figures with the counts behind them, the part handed back, and the closing contents of both buffers
 pub record Walks (o : WalkOutcome) (f r p s : List ℕ) : Type 0 where

@@ -3,7 +3,6 @@ use acceptance::is_accepted;
 use buffers::clear;
 use model::Placed;
 use model::Walked;
-use numbers::as_bit;
 use numbers::wide_two;
 use reading::read;
 use scratch::NEEDED_BY_WALK;
@@ -14,15 +13,15 @@ use steps::take_step;
 use table::Parsed;
 use table::Table;
 ghost use mathlib.Core.Path.{_≡_};
-ghost use Prim.Native.Nat.{_≤_};
+ghost use Prim.Native.Nat.{_-_, _≤_};
 ghost use mathlib.Core.List.{_++_};
 ghost use lib.ListN.{length, drop, getD};
-ghost use Rattle.model.specs.Calls.{zeros, walkScratch, walkFrom, walkCall, walkFigures};
+ghost use Rattle.model.specs.Calls.{zeros, walkScratch, walkFrom, walkCall, walkFigures, watchedFigure};
 ghost use Rattle.model.specs.Demands.{Demand2Walk, TookPart};
 ghost use Rattle.table.specs.Reading.{Holds, systemIn};
 ghost use Rattle.firing.specs.Piles.{configuration};
 ghost use Rattle.steps.specs.Stepping.{InShape};
-ghost use Rattle.walk.specs.Walking.{answerAt, Stopped, haltedBefore, outcomeOf, Halts, Walks};
+ghost use Rattle.walk.specs.Walking.{Halts, Stopped, Walks, answerAt, haltedBefore, outcomeOf, placeIn};
 
 // A walk's figures: eight of its answer, and a count for each process.
 pub const FIGURES: usize = 8 + Table::PROCESSES;
@@ -169,6 +168,16 @@ fn walk_table(table: &[u8], list: &[u16], pile: &mut [u8], scratch: &mut [u8]) -
     }
 }
 
+// 1 watched, 2 not watched; 0 stands where there is no answer.
+fn watched_figure(watched: bool) -> u64
+    ensures { λ r. ⌜ r ≡ watchedFigure watched ⌝ }
+{
+    if watched {
+        return 1;
+    }
+    2
+}
+
 // Document 01's number and values: the refusal's number, its place, watched or not, pile length, end states; then request 2.5's counts.
 fn put_figures(figures: &mut [u64; FIGURES], answer: Walked, counts: [u64; Table::PROCESSES])
     requires { ⌜ length counts ≡ 4 ⌝ }
@@ -183,7 +192,7 @@ fn put_figures(figures: &mut [u64; FIGURES], answer: Walked, counts: [u64; Table
             *figures = [
                 0,
                 0,
-                as_bit(watched),
+                watched_figure(watched),
                 length as u64,
                 states.s0 as u64,
                 states.s1 as u64,
@@ -214,9 +223,9 @@ fn put_figures(figures: &mut [u64; FIGURES], answer: Walked, counts: [u64; Table
     }
 }
 
-// Walks the list of rules over the table. Hands back the part of the list from the refused step on, the empty part in any other case. The first two
-// clauses are the mission's demands: what the call gives and leaves in every buffer; its steps, taken and refused, in the paper's terms. The third is
-// request 2.5: who took part in them.
+// Walks the list of rules over the table. Hands back the part of the list from the refused step on, the empty part in any other case. Two clauses are the
+// mission's demands: what the call gives and leaves in every buffer; its steps, taken and refused, in the paper's terms. Between them stands where the part
+// lies, and behind them request 2.5: who took part in the steps.
 pub fn walk<'a>(
     table: &[u8],
     list: &'a [u16],
@@ -225,7 +234,8 @@ pub fn walk<'a>(
     figures: &mut [u64; FIGURES],
 ) -> &'a [u16]
     ensures demand_1 { λ r. ⌜ Walks (walkCall (now (table .entry)) (now (list .entry)) (now (pile .entry)) (now (scratch .entry))) (now (figures .exit)) (now r) (now (pile .exit)) (now (scratch .exit)) ⌝ }
-    ensures demand_2 { λ _. ⌜ Demand2Walk (now (table .entry)) (now (list .entry)) (now (figures .exit)) (now (pile .exit)) ⌝ }
+    ensures part_by_place { λ r. ⌜ r .ptr ≡ placeIn (list .entry .ptr) (length (now (list .entry)) - length (now r)) ⌝ }
+    ensures demand_2 { λ _. ⌜ Demand2Walk (now (table .entry)) (now (list .entry)) (now (scratch .entry)) (now (figures .exit)) (now (pile .exit)) ⌝ }
     ensures request_2_5 { λ _. ⌜ TookPart (now (table .entry)) (now (list .entry)) (getD (now (figures .exit)) 0 0) (getD (now (figures .exit)) 1 0) (drop 8 (now (figures .exit))) ⌝ }
 {
     let halted = walk_table(table, list, pile, scratch);

@@ -32,7 +32,7 @@ pub const RUN: Both = [("run", run_ours), ("second-run", run_second)];
 pub const ANSWER: Both = [("answer", answer_ours), ("second-answer", answer_second)];
 
 fn run_ours(table: &[u8], lent: &mut Buffers) {
-    roskavel::run(table, &mut lent.log, &mut lent.scratch, &mut lent.page);
+    let _ = roskavel::run(table, &mut lent.log, &mut lent.scratch, &mut lent.page);
 }
 
 fn run_second(table: &[u8], lent: &mut Buffers) {
@@ -40,7 +40,7 @@ fn run_second(table: &[u8], lent: &mut Buffers) {
 }
 
 fn answer_ours(table: &[u8], lent: &mut Buffers) {
-    roskavel::answer(table, &mut lent.log, &mut lent.scratch);
+    let _ = roskavel::answer(table, &mut lent.log, &mut lent.scratch);
 }
 
 fn answer_second(table: &[u8], lent: &mut Buffers) {

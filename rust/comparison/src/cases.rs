@@ -33,12 +33,7 @@ pub type Maker = fn(&mut Rng, usize) -> Table;
 
 impl Cases {
     /// The named tables, `each` random ones and as many damaged ones.
-    pub fn new(seed: u64, each: usize) -> Self {
-        Cases::made_by(random_table, seed, each)
-    }
-
-    /// The same with random tables of another make.
-    pub fn made_by(random: Maker, seed: u64, each: usize) -> Self {
+    pub fn new(random: Maker, seed: u64, each: usize) -> Self {
         let mut rng = Rng::new(seed);
         Cases {
             named: named_cases(),

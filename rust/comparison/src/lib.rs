@@ -9,7 +9,7 @@ mod refusals;
 mod rules;
 mod written;
 
-pub use cases::{Case, Cases, Make, Maker, random_table};
+pub use cases::{Case, Make, Maker, random_table};
 pub use copies::{copy_situations, note_copy, note_short_log, on_copy};
 pub use counts::{Counts, Demand};
 pub use peaks::{note_peak, peak_situations};
@@ -18,6 +18,7 @@ pub use refusals::{note_refusal, refusal_situations};
 pub use rules::{RULES, absent, rule};
 pub use written::{note_rules, note_written, rule_situations, written_situations};
 
+use cases::Cases;
 use std::path::PathBuf;
 use std::process::ExitCode;
 use std::sync::atomic::{AtomicUsize, Ordering};
@@ -40,13 +41,14 @@ struct Findings {
 }
 
 /// How many comparisons passed, and how many failed.
+#[derive(Default)]
 pub struct Tally {
     pub passed: usize,
     pub failed: usize,
 }
 
 impl Tally {
-    pub fn and(self, other: Tally) -> Tally {
+    fn and(self, other: Tally) -> Tally {
         Tally {
             passed: self.passed + other.passed,
             failed: self.failed + other.failed,
@@ -54,48 +56,63 @@ impl Tally {
     }
 
     /// Prints the last line; true if none failed.
-    pub fn print(&self) -> bool {
+    fn print(&self) -> bool {
         println!("{} passed, {} failed", self.passed, self.failed);
         self.failed == 0
     }
 }
 
-/// A comparison by a program: its name, its seed, and the situations that it is for.
+/// A program that compares engines on the named tables, and on random and damaged ones of a seed.
 pub struct Program {
     pub name: &'static str,
-    pub seed: u64,
-    pub situations: Vec<Demand>,
+    /// Makes the random tables.
+    pub random: Maker,
+    /// How many random tables, and how many damaged ones.
+    pub each: usize,
+    /// The situations that it is for.
+    pub situations: fn() -> Vec<Demand>,
+    /// What it compares beside the tables.
+    pub others: fn() -> Tally,
 }
 
 impl Program {
-    /// Compares all cases and reports; true if none differs and no situation is missing. Each
-    /// thread has a comparer of its own, which counts what it meets and tells what differs.
-    pub fn compare<C>(&self, cases: &Cases, comparer: impl Fn() -> C + Sync) -> io::Result<bool>
+    /// The main function of a program whose one argument is a seed. Each thread has a comparer of
+    /// its own, made with the seed, which counts what it meets and tells what differs.
+    pub fn main<C>(&self, comparer: impl Fn(u64) -> C + Sync) -> ExitCode
     where
-        C: FnMut(&Case, &mut Counts) -> io::Result<Option<String>>,
+        C: FnMut(&Case, &mut Counts) -> Result<(), String>,
     {
-        Ok(self.tally(cases, comparer)?.print())
+        let Some(seed) = env::args().nth(1).and_then(|seed| seed.parse().ok()) else {
+            eprintln!("usage: {} SEED", self.name);
+            return ExitCode::from(2);
+        };
+        exit_code(self.compare(seed, || {
+            let mut compare = comparer(seed);
+            move |case: &Case, counts: &mut Counts| Ok(compare(case, counts).err())
+        }))
     }
 
-    /// The same without the last line, for a program that compares more than cases.
-    pub fn tally<C>(&self, cases: &Cases, comparer: impl Fn() -> C + Sync) -> io::Result<Tally>
+    /// Compares all cases of a seed and reports; true if none differs and no situation is missing.
+    pub fn compare<C>(&self, seed: u64, comparer: impl Fn() -> C + Sync) -> io::Result<bool>
     where
         C: FnMut(&Case, &mut Counts) -> io::Result<Option<String>>,
     {
-        println!("seed {}", self.seed);
-        let findings = compare(cases, comparer)?;
-        self.report(&findings.differences)?;
-        let missing = findings.counts.demand(&self.situations);
+        println!("seed {seed}");
+        let cases = Cases::new(self.random, seed, self.each);
+        let findings = compare(&cases, comparer)?;
+        self.report(seed, &findings.differences)?;
+        let missing = findings.counts.demand(&(self.situations)());
         let differing = findings.differences.len();
-        Ok(Tally {
+        let tally = Tally {
             passed: cases.count() - differing,
             failed: differing + missing,
-        })
+        };
+        Ok(tally.and((self.others)()).print())
     }
 
     /// Prints the first differences, and writes each with its table to files.
-    fn report(&self, differences: &[Difference]) -> io::Result<()> {
-        let Program { name, seed, .. } = self;
+    fn report(&self, seed: u64, differences: &[Difference]) -> io::Result<()> {
+        let name = self.name;
         for (number, Difference { case, details }) in differences.iter().take(REPORTED).enumerate()
         {
             let name = format!("{name}-{seed}-{}-{number}", process::id());
@@ -117,18 +134,6 @@ pub fn exit_code(compared: io::Result<bool>) -> ExitCode {
         Ok(false) => ExitCode::FAILURE,
         Err(error) => {
             eprintln!("{error}");
-            ExitCode::from(2)
-        }
-    }
-}
-
-/// Runs a comparison whose one argument is a seed.
-pub fn with_seed(program: &str, compare: impl FnOnce(u64) -> io::Result<bool>) -> ExitCode {
-    let seed = env::args().nth(1).and_then(|seed| seed.parse().ok());
-    match seed {
-        Some(seed) => exit_code(compare(seed)),
-        None => {
-            eprintln!("usage: {program} SEED");
             ExitCode::from(2)
         }
     }

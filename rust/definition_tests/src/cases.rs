@@ -21,6 +21,12 @@ const STEPS: usize = 24;
 /// What a lent buffer holds before.
 const DIRT: u8 = 7;
 
+// Figure 2: a verdict, and whether the end of a walk is watched. It is 0 only beside a refusal.
+const REACHABLE: u32 = 1;
+const UNREACHABLE: u32 = 2;
+const WATCHED: u64 = 1;
+const NOT_WATCHED: u64 = 2;
+
 /// A call with the lengths of its lent buffers.
 pub enum Call {
     Answer {
@@ -315,11 +321,11 @@ fn answer_figures(answer: Answer) -> Vec<u64> {
             transitions,
             rounds,
             steps,
-        } => wide(&[0, 0, 1, transitions, rounds, steps]),
+        } => wide(&[0, 0, REACHABLE, transitions, rounds, steps]),
         Answer::Unreachable {
             transitions,
             rounds,
-        } => wide(&[0, 0, 0, transitions, rounds, 0]),
+        } => wide(&[0, 0, UNREACHABLE, transitions, rounds, 0]),
         Answer::Refused(refusal) => refused(refusal, 6),
     }
 }
@@ -331,7 +337,7 @@ fn run_figures(run: Run) -> Vec<u64> {
             rounds,
             steps,
             peak,
-        } => wide(&[0, 0, 1, transitions, rounds, steps, peak]),
+        } => wide(&[0, 0, REACHABLE, transitions, rounds, steps, peak]),
         Run::Refused(refusal) => refused(refusal, 7),
     }
 }
@@ -346,7 +352,8 @@ fn walk_figures(walk: Walk) -> (Vec<u64>, Vec<u64>, usize) {
             counts,
             rest,
         } => {
-            let mut figures = vec![0, 0, u64::from(watched), length as u64];
+            let watched = if watched { WATCHED } else { NOT_WATCHED };
+            let mut figures = vec![0, 0, watched, length as u64];
             figures.extend(states.map(u64::from));
             (figures, counts, rest)
         }

@@ -103,7 +103,7 @@ fn difference(what: &str, ours: impl Debug, second: impl Debug) -> String {
 
 fn refusal_of(refusal: roskavel::Refusal) -> Refusal {
     Refusal {
-        number: refusal.cause.number(),
+        number: refusal.number(),
         place: refusal.place,
     }
 }

@@ -11,33 +11,24 @@ mod histories;
 mod sequence;
 mod situations;
 
-use comparison::{Case, Cases, Counts, Program, note_refusal};
+use comparison::{Case, Counts, Program, Tally, note_refusal};
 use desks::Desks;
 use second_engine::Refusal;
 use sequence::Sequence;
-use std::io;
 use std::process::ExitCode;
 use tables::{Rng, Table};
 
-const NAME: &str = "desk_tests";
-/// How many random tables, and how many damaged ones. Each accepted one has a sequence.
-const EACH: usize = 20_000;
+/// Each accepted table has a sequence.
+const PROGRAM: Program = Program {
+    name: "desk_tests",
+    random: growth::random_table,
+    each: 20_000,
+    situations: situations::all,
+    others: Tally::default,
+};
 
 fn main() -> ExitCode {
-    comparison::with_seed(NAME, compare)
-}
-
-/// Compares all cases and reports; true if none differs and no situation is missing.
-fn compare(seed: u64) -> io::Result<bool> {
-    let program = Program {
-        name: NAME,
-        seed,
-        situations: situations::all(),
-    };
-    let cases = Cases::made_by(growth::random_table, seed, EACH);
-    program.compare(&cases, || {
-        |case: &Case, counts: &mut Counts| Ok(compare_one(case, counts).err())
-    })
+    PROGRAM.main(|_| compare_one)
 }
 
 /// Opens both desks on one table and makes a sequence of calls.

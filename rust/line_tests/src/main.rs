@@ -6,14 +6,19 @@
 mod expected;
 mod situations;
 
-use comparison::{Case, Cases, Counts, Program};
+use comparison::{Case, Counts, Program, Tally, random_table};
 use expected::Engine;
 use std::env;
 use std::io::{self, ErrorKind, Write};
 use std::process::{Command, ExitCode, Output, Stdio};
 
-/// How many random tables, and how many damaged ones.
-const EACH: usize = 2_000;
+const PROGRAM: Program = Program {
+    name: "line_tests",
+    random: random_table,
+    each: 2_000,
+    situations: situations::all,
+    others: Tally::default,
+};
 
 fn main() -> ExitCode {
     let arguments: Vec<String> = env::args().skip(1).collect();
@@ -25,21 +30,11 @@ fn main() -> ExitCode {
         eprintln!("not a seed: {seed}");
         return ExitCode::from(2);
     };
-    let compared = compare(line, seed);
-    comparison::exit_code(compared.map_err(|error| io::Error::other(format!("{line}: {error}"))))
-}
-
-/// Compares all cases and reports; true if none differs and no situation is missing.
-fn compare(line: &str, seed: u64) -> io::Result<bool> {
-    let program = Program {
-        name: "line_tests",
-        seed,
-        situations: situations::all(),
-    };
-    program.compare(&Cases::new(seed, EACH), || {
+    let compared = PROGRAM.compare(seed, || {
         let mut engine = Engine::new();
         move |case: &Case, counts: &mut Counts| compare_one(line, &mut engine, case, counts)
-    })
+    });
+    comparison::exit_code(compared.map_err(|error| io::Error::other(format!("{line}: {error}"))))
 }
 
 /// Compares one table; gives both outputs if they differ.

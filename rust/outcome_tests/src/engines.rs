@@ -1,8 +1,8 @@
 //! One call on both engines, with equal buffers: what they give and what they leave.
 
 use crate::figures::{dirty, of_answer, of_run, of_walk};
-use roskavel::figures::{self, Figures};
-use roskavel::{Answer, Cause, Refusal, Run, Walk};
+use roskavel::figures::{self, Values};
+use roskavel::{Answer, Refusal, Run, Walk};
 use std::fmt::Debug;
 use std::ops::Range;
 use tables::Rng;
@@ -54,13 +54,13 @@ impl Pool {
     ) -> Result<Answer, String> {
         let mut log = self.bytes(rng, "log", lengths[0]);
         let mut scratch = self.bytes(rng, "scratch", lengths[1]);
-        let mut ours = dirty(rng);
-        figures::answer(table, log.ours(), scratch.ours(), &mut ours);
+        let ours = figures::answer(table, log.ours(), scratch.ours(), dirty(rng));
         let second = second_engine::answer(table, log.second(), scratch.second());
-        let second = answer_of(second);
-        let figures = Left::of_figures(ours, of_answer(&second));
+        let figures = Left::of_figures(ours.values(), &of_answer(&second));
         let buffers = [figures, log.left(), scratch.left()];
-        judge("answer", Answer::of(&ours), second, &buffers)
+        let given = Answer::of(&ours);
+        judge("answer", answer_of(given), second, &buffers)?;
+        Ok(given)
     }
 
     /// The run call with a log, a scratch and a page of these lengths.
@@ -68,13 +68,13 @@ impl Pool {
         let mut log = self.bytes(rng, "log", lengths[0]);
         let mut scratch = self.bytes(rng, "scratch", lengths[1]);
         let mut page = self.numbers(rng, "page", lengths[2]);
-        let mut ours = dirty(rng);
-        figures::run(table, log.ours(), scratch.ours(), page.ours(), &mut ours);
+        let ours = figures::run(table, log.ours(), scratch.ours(), page.ours(), dirty(rng));
         let second = second_engine::run(table, log.second(), scratch.second(), page.second());
-        let second = run_of(second);
-        let figures = Left::of_figures(ours, of_run(&second));
+        let figures = Left::of_figures(ours.values(), &of_run(&second));
         let buffers = [figures, log.left(), scratch.left(), page.left()];
-        judge("run", Run::of(&ours), second, &buffers)
+        let given = Run::of(&ours);
+        judge("run", run_of(given), second, &buffers)?;
+        Ok(given)
     }
 
     /// The walk call with a pile and a scratch of these lengths.
@@ -87,14 +87,14 @@ impl Pool {
     ) -> Result<Walk<'l>, String> {
         let mut pile = self.bytes(rng, "pile", lengths[0]);
         let mut scratch = self.bytes(rng, "scratch", lengths[1]);
-        let mut ours = dirty(rng);
-        figures::walk(table, list, pile.ours(), scratch.ours(), &mut ours);
+        let ours = figures::walk(table, list, pile.ours(), scratch.ours(), dirty(rng));
         let second = second_engine::walk(table, list, pile.second(), scratch.second());
-        let second = walk_of(second, list);
-        let figures = Left::of_figures(ours, of_walk(&second, list.len()));
+        let figures = Left::of_figures(ours.values(), &of_walk(&second));
         let buffers = [figures, pile.left(), scratch.left()];
-        let judged = judge("walk", Walk::of(&ours, list), second, &buffers);
-        judged.map_err(|text| format!("{text}list {list:?}\n"))
+        let given = Walk::of(&ours);
+        let judged = judge("walk", walk_of(given, list), second, &buffers);
+        judged.map_err(|text| format!("{text}list {list:?}\n"))?;
+        Ok(given)
     }
 }
 
@@ -143,7 +143,7 @@ struct Left {
 }
 
 impl Left {
-    fn of_figures(ours: Figures, second: Figures) -> Left {
+    fn of_figures(ours: &Values, second: &Values) -> Left {
         Left {
             text: format!("figures ours {ours:?}, second {second:?}"),
             differs: ours != second,
@@ -151,15 +151,15 @@ impl Left {
     }
 }
 
-/// What both engines give, or the text of their difference.
+/// Fails with the text of a difference, if there is one.
 fn judge<T: PartialEq + Debug>(
     call: &str,
     ours: T,
     second: T,
     buffers: &[Left],
-) -> Result<T, String> {
+) -> Result<(), String> {
     if ours == second && buffers.iter().all(|buffer| !buffer.differs) {
-        return Ok(ours);
+        return Ok(());
     }
     let mut text = format!("{call}\nours   {ours:?}\nsecond {second:?}\n");
     for buffer in buffers {
@@ -168,75 +168,83 @@ fn judge<T: PartialEq + Debug>(
     Err(text)
 }
 
-fn answer_of(given: second_engine::Answer) -> Answer {
+// What the proved engine gives, as the second engine has it. A number that is cut short here differs
+// in the figures.
+
+fn answer_of(given: Answer) -> second_engine::Answer {
     match given {
-        second_engine::Answer::Reachable {
+        Answer::Reachable {
             transitions,
             rounds,
             steps,
-        } => Answer::Reachable {
-            transitions: transitions as usize,
-            rounds: rounds as usize,
-            steps: steps as usize,
+            ..
+        } => second_engine::Answer::Reachable {
+            transitions: transitions as u32,
+            rounds: rounds as u32,
+            steps: steps as u32,
         },
-        second_engine::Answer::Unreachable {
+        Answer::Unreachable {
             transitions,
             rounds,
-        } => Answer::Unreachable {
-            transitions: transitions as usize,
-            rounds: rounds as usize,
+            ..
+        } => second_engine::Answer::Unreachable {
+            transitions: transitions as u32,
+            rounds: rounds as u32,
         },
-        second_engine::Answer::Refused(refusal) => Answer::Refused(refusal_of(refusal)),
+        Answer::Refused(refusal) => second_engine::Answer::Refused(refusal_of(refusal)),
     }
 }
 
-fn run_of(given: second_engine::Run) -> Run {
+fn run_of(given: Run) -> second_engine::Run {
     match given {
-        second_engine::Run::Reachable {
+        Run::Reachable {
             transitions,
             rounds,
             steps,
             peak,
-        } => Run::Reachable {
-            transitions: transitions as usize,
-            rounds: rounds as usize,
-            steps: steps as usize,
-            peak: peak as usize,
+            ..
+        } => second_engine::Run::Reachable {
+            transitions: transitions as u32,
+            rounds: rounds as u32,
+            steps: steps as u32,
+            peak: peak as u32,
         },
-        second_engine::Run::Refused(refusal) => Run::Refused(refusal_of(refusal)),
+        Run::Refused(refusal) => second_engine::Run::Refused(refusal_of(refusal)),
     }
 }
 
-fn walk_of(given: second_engine::Walk, list: &[u16]) -> Walk<'_> {
+fn walk_of(given: Walk, list: &[u16]) -> second_engine::Walk {
     match given {
-        second_engine::Walk::Walked {
+        Walk::Walked {
             states,
             length,
             watched,
             counts,
             rest,
-        } => Walk::Walked {
+            ..
+        } => second_engine::Walk::Walked {
             states,
             length,
             watched,
             counts,
-            rest: &list[rest..],
+            rest: list.len() - rest.len(),
         },
-        second_engine::Walk::Refused {
+        Walk::Refused {
             refusal,
             counts,
             rest,
-        } => Walk::Refused {
+            ..
+        } => second_engine::Walk::Refused {
             refusal: refusal_of(refusal),
             counts,
-            rest: &list[rest..],
+            rest: list.len() - rest.len(),
         },
     }
 }
 
-fn refusal_of(refusal: second_engine::Refusal) -> Refusal {
-    Refusal {
-        cause: Cause::ALL[usize::from(refusal.number) - 1],
+fn refusal_of(refusal: Refusal) -> second_engine::Refusal {
+    second_engine::Refusal {
+        number: refusal.number(),
         place: refusal.place,
     }
 }

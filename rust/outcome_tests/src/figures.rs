@@ -1,43 +1,51 @@
-//! What an outcome has at every place of the figures.
+//! What an outcome of the second engine has at every place of the figures.
 
-use roskavel::figures::Figures;
-use roskavel::{Answer, Refusal, Run, Walk};
+use roskavel::figures::Values;
+use second_engine::{Answer, Refusal, Run, Walk};
 use tables::Rng;
 
+// Figure 2: a verdict, and whether the end of a walk is watched. It is 0 only beside a refusal.
+const REACHABLE: u64 = 1;
+const UNREACHABLE: u64 = 2;
+const WATCHED: u64 = 1;
+const NOT_WATCHED: u64 = 2;
+
 /// Figures that held anything before.
-pub fn dirty(rng: &mut Rng) -> Figures {
+pub fn dirty(rng: &mut Rng) -> Values {
     std::array::from_fn(|_| rng.draw())
 }
 
-pub fn of_answer(answer: &Answer) -> Figures {
+pub fn of_answer(answer: &Answer) -> Values {
     match *answer {
         Answer::Reachable {
             transitions,
             rounds,
             steps,
-        } => figures(&[0, 0, 1, transitions, rounds, steps]),
+        } => figures(&[&[0, 0, REACHABLE], &wide([transitions, rounds, steps])]),
         Answer::Unreachable {
             transitions,
             rounds,
-        } => figures(&[0, 0, 0, transitions, rounds]),
+        } => figures(&[&[0, 0, UNREACHABLE], &wide([transitions, rounds])]),
         Answer::Refused(refusal) => of_refusal(refusal),
     }
 }
 
-pub fn of_run(run: &Run) -> Figures {
+pub fn of_run(run: &Run) -> Values {
     match *run {
         Run::Reachable {
             transitions,
             rounds,
             steps,
             peak,
-        } => figures(&[0, 0, 1, transitions, rounds, steps, peak]),
+        } => figures(&[
+            &[0, 0, REACHABLE],
+            &wide([transitions, rounds, steps, peak]),
+        ]),
         Run::Refused(refusal) => of_refusal(refusal),
     }
 }
 
-/// Those of a walk along a list of `length` rules.
-pub fn of_walk(walk: &Walk, length: usize) -> Figures {
+pub fn of_walk(walk: &Walk) -> Values {
     let (mut figures, counts, rest) = match *walk {
         Walk::Walked {
             states,
@@ -46,9 +54,9 @@ pub fn of_walk(walk: &Walk, length: usize) -> Figures {
             counts,
             rest,
         } => {
-            let front = [0, 0, usize::from(watched), length];
-            let states = states.map(usize::from);
-            (figures(&[front, states].concat()), counts, rest)
+            let watched = if watched { WATCHED } else { NOT_WATCHED };
+            let front = [0, 0, watched, length as u64];
+            (figures(&[&front, &wide(states)]), counts, rest)
         }
         Walk::Refused {
             refusal,
@@ -56,16 +64,21 @@ pub fn of_walk(walk: &Walk, length: usize) -> Figures {
             rest,
         } => (of_refusal(refusal), counts, rest),
     };
-    figures[8] = (length - rest.len()) as u64;
+    figures[8] = rest as u64;
     figures[9..13].copy_from_slice(&counts.map(|count| count as u64));
     figures
 }
 
-fn of_refusal(refusal: Refusal) -> Figures {
-    figures(&[usize::from(refusal.cause.number()), refusal.place])
+fn of_refusal(refusal: Refusal) -> Values {
+    figures(&[&[u64::from(refusal.number), refusal.place as u64]])
+}
+
+fn wide<const COUNT: usize>(numbers: [impl Into<u64>; COUNT]) -> [u64; COUNT] {
+    numbers.map(Into::into)
 }
 
 /// These, then zeros.
-fn figures(first: &[usize]) -> Figures {
-    std::array::from_fn(|place| first.get(place).map_or(0, |&figure| figure as u64))
+fn figures(first: &[&[u64]]) -> Values {
+    let first = first.concat();
+    std::array::from_fn(|place| first.get(place).copied().unwrap_or(0))
 }

@@ -14,33 +14,29 @@ mod reasons;
 mod situations;
 mod trials;
 
-use comparison::{Case, Cases, Counts, Make, Program, RULES, note_copy};
+use comparison::{Case, Counts, Make, Program, RULES, Tally, note_copy, random_table};
 use engines::Pool;
 use facts::Facts;
-use std::io;
 use std::process::ExitCode;
 use tables::{Rng, Table};
 use trials::Trials;
 
-const NAME: &str = "outcome_tests";
-/// How many random tables, and how many damaged ones.
-const EACH: usize = 23_500;
+const PROGRAM: Program = Program {
+    name: "outcome_tests",
+    random: random_table,
+    each: 23_500,
+    situations: situations::all,
+    others: Tally::default,
+};
 
 fn main() -> ExitCode {
-    comparison::with_seed(NAME, compare)
+    PROGRAM.main(comparer)
 }
 
-/// Compares all cases and reports; true if none differs and no situation is missing.
-fn compare(seed: u64) -> io::Result<bool> {
-    let program = Program {
-        name: NAME,
-        seed,
-        situations: situations::all(),
-    };
-    program.compare(&Cases::new(seed, EACH), || {
-        let pool = Pool::new(&mut Rng::new(seed));
-        move |case: &Case, counts: &mut Counts| Ok(compare_one(&pool, case, counts).err())
-    })
+/// Makes all calls on each table, with buffers filled from a pool.
+fn comparer(seed: u64) -> impl FnMut(&Case, &mut Counts) -> Result<(), String> {
+    let pool = Pool::new(&mut Rng::new(seed));
+    move |case, counts| compare_one(&pool, case, counts)
 }
 
 /// Makes all calls on one table.

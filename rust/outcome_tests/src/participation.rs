@@ -43,14 +43,14 @@ pub fn note_walk(table: &[u8], list: &[u16], walk: &Walk, met: &mut Counts) {
             refusal, rest: [], ..
         } => {
             if !list.is_empty() {
-                met.meet(refused_before_steps(refusal.cause.number()));
+                met.meet(refused_before_steps(refusal.number()));
             }
         }
         Walk::Refused {
             refusal, counts, ..
         } => {
             if counts != [0; 4] {
-                met.meet(refused_with_counts(refusal.cause.number()));
+                met.meet(refused_with_counts(refusal.number()));
             }
             note_counts(table, &list[..refusal.place], counts, met);
         }

@@ -65,8 +65,8 @@ impl Trials<'_> {
     fn exact_run(&mut self) -> Result<(), String> {
         let log = RECORD_BYTES * self.facts.records;
         let lengths = [log, scratch_needed(log), self.facts.steps];
-        self.pool.run(&mut self.rng, self.table, lengths)?;
-        Ok(())
+        let ran = self.pool.run(&mut self.rng, self.table, lengths);
+        ran.map(|_| ())
     }
 
     fn run(&mut self) -> Result<(), String> {
@@ -127,7 +127,7 @@ impl Trials<'_> {
             Cause::LongRun | Cause::FullPile | Cause::IdleRule | Cause::NoRule => 3,
             _ => 0,
         };
-        let number = refusal.cause.number();
+        let number = refusal.number();
         self.meet(&format!("{call} refused {number}"), &names[..seen]);
         note_refusal(self.name, self.table, number, refusal.place, self.counts);
     }

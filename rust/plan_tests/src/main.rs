@@ -13,31 +13,22 @@ mod order;
 mod situations;
 mod weeks;
 
-use comparison::{Case, Cases, Counts, Make, Program};
+use comparison::{Case, Counts, Make, Program, random_table};
 use second_engine::Desk;
-use std::io;
 use std::process::ExitCode;
 use tables::{Rng, Table, named};
 
-const NAME: &str = "plan_tests";
-/// How many random tables, and how many damaged ones. Each has a plan.
-const EACH: usize = 10_000;
+/// Each table has a plan.
+const PROGRAM: Program = Program {
+    name: "plan_tests",
+    random: random_table,
+    each: 10_000,
+    situations: situations::all,
+    others: bounds::tally,
+};
 
 fn main() -> ExitCode {
-    comparison::with_seed(NAME, compare)
-}
-
-/// Compares all plans and reports; true if none differs and no situation is missing.
-fn compare(seed: u64) -> io::Result<bool> {
-    let program = Program {
-        name: NAME,
-        seed,
-        situations: situations::all(),
-    };
-    let random = program.tally(&Cases::new(seed, EACH), || {
-        |case: &Case, counts: &mut Counts| Ok(compare_one(case, counts).err())
-    })?;
-    Ok(random.and(bounds::tally()).print())
+    PROGRAM.main(|_| compare_one)
 }
 
 /// Makes a plan on one table. One on a refused table is made as for another table.

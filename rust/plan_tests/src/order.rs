@@ -101,7 +101,7 @@ fn ours(order: &Order, list: &mut [i64]) -> Result<(), Refusal> {
     let Order { table, run, .. } = order;
     let given = roskavel::plan(table, run, &week, &order.lengths, order.start, list);
     given.map_err(|refusal| Refusal {
-        number: refusal.cause.number(),
+        number: refusal.number(),
         place: refusal.place,
     })
 }

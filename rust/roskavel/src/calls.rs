@@ -5,27 +5,13 @@
 //! It reads and writes within the slices, the figures and the desk alone, keeps no pointer and
 //! has no state.
 
+#![allow(unsafe_code)]
+#![deny(clippy::undocumented_unsafe_blocks)]
+
 use crate::{Refusal, Sight, Week};
 
-/// What a call gives, by places; a place that the call or its outcome does not name is 0.
-pub type Figures = [u64; 16];
-
-pub const REFUSAL: usize = 0;
-pub const PLACE: usize = 1;
-
-// Answer and run; the peak of run alone.
-pub const REACHABLE: usize = 2;
-pub const TRANSITIONS: usize = 3;
-pub const ROUNDS: usize = 4;
-pub const STEPS: usize = 5;
-pub const PEAK: usize = 6;
-
-// Walk; the states and the counts are four places each.
-pub const WATCHED: usize = 2;
-pub const PILE_LENGTH: usize = 3;
-pub const STATES: usize = 4;
-pub const REST: usize = 8;
-pub const COUNTS: usize = 9;
+/// The figures of a call, by places; a place that the call or its outcome does not name is 0.
+pub type Values = [u64; 16];
 
 /// The archive's desk. Only an opening that is not refused makes one and only the calls below
 /// change it, as the archive asks.
@@ -69,7 +55,7 @@ unsafe extern "C" {
         log_length: usize,
         scratch: *mut u8,
         scratch_length: usize,
-        figures: *mut Figures,
+        figures: *mut Values,
     );
     fn roskavel_run(
         table: *const u8,
@@ -80,7 +66,7 @@ unsafe extern "C" {
         scratch_length: usize,
         page: *mut u16,
         page_length: usize,
-        figures: *mut Figures,
+        figures: *mut Values,
     );
     fn roskavel_walk(
         table: *const u8,
@@ -91,7 +77,7 @@ unsafe extern "C" {
         pile_length: usize,
         scratch: *mut u8,
         scratch_length: usize,
-        figures: *mut Figures,
+        figures: *mut Values,
     );
     fn roskavel_plan(
         table: *const u8,
@@ -114,8 +100,8 @@ unsafe extern "C" {
     fn roskavel_desk_count(desk: *const RawDesk) -> Counts;
 }
 
-/// What [`crate::answer`] does.
-pub fn answer(table: &[u8], log: &mut [u8], scratch: &mut [u8], figures: &mut Figures) {
+/// What [`crate::figures::answer`] does.
+pub fn answer(table: &[u8], log: &mut [u8], scratch: &mut [u8], figures: &mut Values) {
     // SAFETY: pointers and lengths are those of slices, as said above.
     unsafe {
         roskavel_answer(
@@ -130,13 +116,13 @@ pub fn answer(table: &[u8], log: &mut [u8], scratch: &mut [u8], figures: &mut Fi
     }
 }
 
-/// What [`crate::run`] does.
+/// What [`crate::figures::run`] does.
 pub fn run(
     table: &[u8],
     log: &mut [u8],
     scratch: &mut [u8],
     page: &mut [u16],
-    figures: &mut Figures,
+    figures: &mut Values,
 ) {
     // SAFETY: as for answer.
     unsafe {
@@ -154,13 +140,13 @@ pub fn run(
     }
 }
 
-/// What [`crate::walk`] does.
+/// What [`crate::figures::walk`] does.
 pub fn walk(
     table: &[u8],
     rules: &[u16],
     pile: &mut [u8],
     scratch: &mut [u8],
-    figures: &mut Figures,
+    figures: &mut Values,
 ) {
     // SAFETY: as for answer; the table and the list are only read.
     unsafe {
@@ -178,7 +164,7 @@ pub fn walk(
     }
 }
 
-/// What [`crate::plan`] does.
+/// What [`crate::plan()`] does.
 pub fn plan(
     table: &[u8],
     run: &[u16],
@@ -202,13 +188,13 @@ pub fn plan(
             begins.len(),
         )
     };
-    Refusal::check(usize::from(planned.number), planned.place)
+    Refusal::check(u64::from(planned.number), planned.place)
 }
 
 pub fn open(table: &[u8]) -> Result<RawDesk, Refusal> {
     // SAFETY: pointer and length are those of a slice, which is only read.
     let opening = unsafe { roskavel_desk_open(table.as_ptr(), table.len()) };
-    Refusal::check(usize::from(opening.number), opening.place)?;
+    Refusal::check(u64::from(opening.number), opening.place)?;
     Ok(opening.desk)
 }
 

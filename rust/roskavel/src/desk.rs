@@ -4,7 +4,7 @@
 use crate::Cause;
 use crate::Refusal;
 use crate::calls::{self, RawDesk};
-use std::fmt::{self, Debug, Formatter};
+use core::fmt::{self, Debug, Formatter};
 
 /// The most letters of a desk's pile.
 pub const DESK_PILE: usize = 256;
@@ -61,6 +61,7 @@ pub const COUNT_CEILING: usize = 4_294_967_295;
 pub struct Desk(RawDesk);
 
 /// The configuration that a desk stands in.
+#[must_use]
 #[repr(C)]
 #[derive(Clone, Copy, PartialEq, Eq)]
 pub struct Sight {
@@ -72,32 +73,49 @@ pub struct Sight {
 }
 
 impl Desk {
-    /// Opens a desk at the table's start, no name held and nothing counted. Refused by the table
-    /// (causes 1 to 9).
+    /// Opens a desk at the table's start, no name held and nothing counted.
+    ///
+    /// # Errors
+    ///
+    /// Refused by the table (causes 1 to 9).
     pub fn open(table: &[u8]) -> Result<Desk, Refusal> {
         calls::open(table).map(Desk)
     }
 
-    /// Fires a rule, and gives the processes of its letter as bits, bit 0 for process 0. Refused by
-    /// [`Cause::NoRule`], then [`Cause::IdleRule`], then [`Cause::FullPile`] if the pile would have
-    /// more than [`DESK_PILE`] letters.
+    /// Fires a rule, and gives the processes of its letter as bits, bit 0 for process 0.
+    ///
+    /// # Errors
+    ///
+    /// Refused by [`Cause::NoRule`], then [`Cause::IdleRule`], then [`Cause::FullPile`] if the pile
+    /// would have more than [`DESK_PILE`] letters.
     pub fn fire(&mut self, rule: u16) -> Result<u8, Refusal> {
         let fire = calls::fire(&mut self.0, rule);
         check(fire.number).map(|()| fire.processes)
     }
 
-    /// Saves under a name, in place of what the name held. Refused by [`Cause::BadName`].
+    /// Saves under a name, in place of what the name held.
+    ///
+    /// # Errors
+    ///
+    /// Refused by [`Cause::BadName`].
     pub fn save(&mut self, name: u8) -> Result<(), Refusal> {
         check(calls::save(&mut self.0, name))
     }
 
-    /// Returns to a name; every name stays held, and the counts begin again at 0. Refused by
-    /// [`Cause::BadName`], then [`Cause::EmptyName`].
+    /// Returns to a name; every name stays held, and the counts begin again at 0.
+    ///
+    /// # Errors
+    ///
+    /// Refused by [`Cause::BadName`], then [`Cause::EmptyName`].
     pub fn return_to(&mut self, name: u8) -> Result<(), Refusal> {
         check(calls::return_to(&mut self.0, name))
     }
 
-    /// Forgets a name. Refused by [`Cause::BadName`], then [`Cause::EmptyName`].
+    /// Forgets a name.
+    ///
+    /// # Errors
+    ///
+    /// Refused by [`Cause::BadName`], then [`Cause::EmptyName`].
     pub fn forget(&mut self, name: u8) -> Result<(), Refusal> {
         check(calls::forget(&mut self.0, name))
     }
@@ -109,6 +127,7 @@ impl Desk {
 
     /// For each process the number of steps that it took part in, since the desk was opened or last
     /// returned, at most [`COUNT_CEILING`]; 0 where the table lacks it.
+    #[must_use]
     pub fn counts(&self) -> [usize; 4] {
         calls::count(&self.0).map(|count| count as usize)
     }
@@ -116,8 +135,9 @@ impl Desk {
 
 impl Sight {
     /// The pile's word, top first.
+    #[must_use]
     pub fn pile(&self) -> &[u8] {
-        &self.pile[..self.length]
+        &self.pile[..self.length.min(DESK_PILE)]
     }
 }
 
@@ -137,5 +157,5 @@ impl Debug for Sight {
 
 /// A call at an open desk: refused, unless the number is 0.
 fn check(number: u8) -> Result<(), Refusal> {
-    Refusal::check(usize::from(number), 0)
+    Refusal::check(u64::from(number), 0)
 }

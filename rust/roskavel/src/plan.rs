@@ -3,7 +3,7 @@
 #[cfg(doc)]
 use crate::{Cause, STEP_CEILING};
 use crate::{Refusal, calls};
-use std::ops::Range;
+use core::ops::Range;
 
 /// The minutes of a week: no window closes later.
 pub const WEEK_MINUTES: u16 = 10_080;
@@ -41,6 +41,7 @@ struct Window {
 impl Week {
     /// The week with these windows of each process: `480..720` opens at minute 480 and closes at
     /// 720. More than [`WINDOWS`] of a process are refused by [`plan`], if the table has it.
+    #[must_use]
     pub fn new(windows: [&[Range<u16>]; 4]) -> Week {
         Week {
             processes: windows.map(Hours::new),
@@ -49,6 +50,7 @@ impl Week {
 
     /// The week as C has it: all places for windows, and how many of them count. What stands past a
     /// count, or belongs to a process that the table lacks, is not looked at.
+    #[must_use]
     pub fn of_places(places: [[Range<u16>; WINDOWS]; 4], counts: [u8; 4]) -> Week {
         let mut week = Week::new(places.each_ref().map(|windows| &windows[..]));
         for (hours, count) in week.processes.iter_mut().zip(counts) {
@@ -63,7 +65,7 @@ impl Hours {
     fn new(windows: &[Range<u16>]) -> Hours {
         let window = |place| windows.get(place).map(Window::of).unwrap_or_default();
         Hours {
-            windows: std::array::from_fn(window),
+            windows: core::array::from_fn(window),
             count: windows.len().min(usize::from(u8::MAX)) as u8,
         }
     }
@@ -86,8 +88,12 @@ impl Window {
 /// are alike. Windows that touch or overlap run on, also from Sunday into Monday.
 ///
 /// The list of begins then holds the minute in which each step begins, and after these what it held
-/// before. A refusal leaves it as it was. Plans are refused by the table (causes 1 to 9), then by
-/// [`Cause::BadHours`] if one of these does not hold, then by [`Cause::NeverOpen`]:
+/// before. A refusal leaves it as it was.
+///
+/// # Errors
+///
+/// Refused by the table (causes 1 to 9), then by [`Cause::BadHours`] if one of these does not hold,
+/// then by [`Cause::NeverOpen`]:
 ///
 /// - The run has at most [`STEP_CEILING`] steps, and rules of the table alone.
 /// - Each process of the table has at most [`WINDOWS`] windows. Each opens before it closes, and

@@ -16,8 +16,8 @@ returns c =
     let entry = at-copy .before .before .before in
     let a = entry .args in
     let placed = at-place .place-start in
-    opened-desk (a .table .now) (a .t) (placed .result) (replicate longest 0) (at-copy .copy .last .1 .0) (placed .last .1 .1 .0) (entry .pre) (length-replicate {A = ℕ} longest 0) (at-copy .copy .ensures)
-    (placed .ensures .0) (placed .ensures .1) (placed .kept .1 .1 .0)
+    opened-desk (a .table .now) (a .t) (placed .result) (at-copy .copy .last .1 .0) (placed .last .1 .1 .0) (entry .pre) (at-copy .copy .ensures)
+    (placed .ensures .start) (placed .ensures .inside) (placed .kept .1 .1 .0)
 
 copy-requires : tie.Need-copy-requires
 copy-requires c κs =

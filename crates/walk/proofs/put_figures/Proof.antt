@@ -12,13 +12,13 @@ use Rattle.walk.proofs.put_figures.Tie as tie
 
 returns : tie.Need-returns
 returns c =
-    let at-as-bit = c .before .before .before .before .before in
-    let at-answer = at-as-bit .before .before in
+    let at-figure = c .before .before .before .before .before in
+    let at-answer = at-figure .before .before in
     let entry = at-answer .before .before in
     let a = entry .args in
     let g = at-answer .answer .given in
     let e : a .answer ≡ Ended (g .0 .0) (g .0 .1 .0) (g .0 .1 .1 .0) = g .1 in
-    ap₂ (λ (n : ℕ) (counts : List ℕ). 0 ∷ 0 ∷ n ∷ g .0 .1 .0 ∷ g .0 .0 .s0 ∷ g .0 .0 .s1 ∷ g .0 .0 .s2 ∷ g .0 .0 .s3 ∷ counts) (at-as-bit .as-bit .ensures) (by-places 0 4 (a .t3) (entry .pre)) ∙ sym (ap (λ (x : Walked). walkFigures x ++ a .t3) e)
+    ap₂ (λ (n : ℕ) (counts : List ℕ). 0 ∷ 0 ∷ n ∷ g .0 .1 .0 ∷ g .0 .0 .s0 ∷ g .0 .0 .s1 ∷ g .0 .0 .s2 ∷ g .0 .0 .s3 ∷ counts) (at-figure .watched-figure .ensures) (by-places 0 4 (a .t3) (entry .pre)) ∙ sym (ap (λ (x : Walked). walkFigures x ++ a .t3) e)
 
 returns-2 : tie.Need-returns-2
 returns-2 c =

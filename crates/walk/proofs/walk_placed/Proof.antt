@@ -10,7 +10,7 @@ take-steps-requires c κs =
     let entry = at-place-start .before .before .before .before .before .before in
     let a = entry .args in
     let placed = at-place-start .place-start in
-    (entry .pre .0, start-shape (a .table .now) (a .t) (entry .pre .0) (placed .last .1 .1 .0) (placed .result) (placed .ensures .0) (placed .ensures .1))
+    (entry .pre .0, start-shape (a .table .now) (a .t) (entry .pre .0) (placed .last .1 .1 .0) (placed .result) (placed .ensures .start) (placed .ensures .inside))
 
 returns : tie.Need-returns
 returns c =
@@ -24,7 +24,7 @@ returns c =
     let steps = at-take-steps .take-steps in
     let end = at-conclude .conclude in
     placed-halts (a .table .now) (a .t) (a .list .now) (a .pile .now) (a .scratch .now) (placed .result) (placed .last .1 .1 .0) (steps .last .1 .1 .1 .0) (at-front .bring-front .last .0) (end .last .1 .1 .1 .1 .0) (steps .result) (end .result)
-    (placed .ensures .0) (placed .kept .1 .1 .0) (steps .kept .1 .1 .1 .0) (steps .ensures) (end .ensures .0) (end .ensures .1) (at-front .bring-front .ensures)
+    (placed .ensures .start) (placed .kept .1 .1 .0) (steps .kept .1 .1 .1 .0) (steps .ensures) (end .ensures .0) (end .ensures .1) (at-front .bring-front .ensures)
 
 pub walk-placed-spec : {M : Type 1} → statement M
 walk-placed-spec = tie.close (tie.spec (λ c κs. search needs) take-steps-requires (λ c κs. search needs) (λ c κs. search needs) (λ c. search needs)

@@ -1,0 +1,22 @@
+-- Where the opening told `Done` there is a desk, and every call may be made on it.
+use borrow.Author.Needs.{needs}
+use Rattle.desk_cases.proofs.opened.Statement.{statement}
+use Rattle.desk_cases.proofs.opened.Tie as tie
+
+work-requires : tie.Need-work-requires
+work-requires c κs = let at-opened = c .before .before in at-opened .«open» .ensures .desk (c .enum-told .given .1) .good
+
+pub opened-spec : {M : Type 1} → statement M
+opened-spec =
+    tie.close
+    (tie.spec
+    (λ c κs. search needs)
+    (λ c. search needs)
+    work-requires
+    (λ c. search needs)
+    (λ c κs. search needs)
+    (λ c. search needs)
+    (λ c κs. search needs)
+    (λ c. search needs)
+    (λ c. search needs)
+    (λ c. search needs))
