@@ -29,10 +29,10 @@ use Rattle.packs.specs.Packs.{packedNumber, packedRestrict, unpacked}
 use Rattle.packs.proofs.Unpacked.{number-unpacked, restrict-below, restrict-unpacked}
 use Rattle.paths.specs.declared.Job.{Job}
 use Rattle.paths.specs.declared.Trail.{Trail}
-use Rattle.paths.specs.Arrivals.{endNumber, stored, taken}
-use Rattle.paths.specs.Jobs.{Lookable, PassedRight, isPassed, jobLoc, jobProcesses, jobWord, made, offers, seenIn, withPassed, Searchable, Searched, Standing, arrivals, endEntry, glances, known, storedEnd, withEnd}
+use Rattle.paths.specs.Arrivals.{endNumber, hit, stored, taken}
+use Rattle.paths.specs.Jobs.{Begins, Lookable, Passable, PassedRight, isPassed, jobLoc, jobProcesses, jobWord, made, offers, seenIn, Searchable, Searched, Standing, arrivals, endEntry, glances, known, storedEnd, withEnd}
 use Rattle.paths.proofs.Turns.{lookable-kept}
-use Rattle.paths.proofs.Arrivals.{hit-seen, taken-none}
+use Rattle.paths.proofs.Arrivals.{hit-own, hit-seen, taken-none}
 
 -- ---- one bit more
 byte-kept : (s : List ℕ) (n i : ℕ) → (i ≡ n / 8 → ⊥) → getD (inserted s n) i 0 ≡ getD s i 0
@@ -87,28 +87,21 @@ bit-inside level m true l h = (omega arith, omega arith)
 bit-inside level m false l h = (omega arith, omega arith)
 
 -- what noting a state leaves
-module _ (s : List ℕ) (level : ℕ) (found : Bool) (m : ℕ) (l : level < writtenPlaces) (small : m < stateCount) (room : passedEnd ≤ length s) where
-  pub pass-length : length (withPassed s level found m) ≡ length s
-  unfolding withPassed
-  pass-length = by-test (eqb level 0) (λ y. rw y refl) (λ n. rw n (length-inserted s (passedBit level found m)))
+module _ (s : List ℕ) (level : ℕ) (found : Bool) (m : ℕ) (p : Passable s level m) where
+  inside : (8 * passedAt + 8192 * level ≤ passedBit level found m) × (passedBit level found m < 8 * passedEnd)
+  inside = bit-inside level m found (p .place) (p .small)
 
-  pub pass-bytes : (i : ℕ) → (i < passedAt + 2 * setLength) ⊎ (passedEnd ≤ i) → getD (withPassed s level found m) i 0 ≡ getD s i 0
-  unfolding withPassed
-  pass-bytes i h = by-test (eqb level 0) (λ y. rw y refl)
-      (λ n. rw n (byte-kept s (passedBit level found m) i (λ e. let high : level ≢ 0 = eqb-false level 0 n in let b = bit-inside level m found l small in ⊎-elim (λ (q : i < passedAt + 2 * setLength). omega (arith, b .0)) (λ (q : passedEnd ≤ i). omega (arith, b .1)) h)))
+  -- the sets of the first depth stay
+  pub pass-bytes : 0 < level → (i : ℕ) → (i < passedAt + 2 * setLength) ⊎ (passedEnd ≤ i) → getD (inserted s (passedBit level found m)) i 0 ≡ getD s i 0
+  pass-bytes deep i h = byte-kept s (passedBit level found m) i (λ e. ⊎-elim (λ (q : i < passedAt + 2 * setLength). omega (arith, inside .0)) (λ (q : passedEnd ≤ i). omega (arith, inside .1)) h)
 
-  pub pass-seen : (x : ℕ) → x < stateCount → seenIn (withPassed s level found m) x ≡ seenIn s x
-  unfolding withPassed
-  pass-seen x h = by-test (eqb level 0) (λ y. rw y refl)
-      (λ n. rw n (let b = bit-inside level m found l small in member-inserted s (passedBit level found m) (seenBit x) (omega (arith, b .1)) ∙ ap (λ (v : Bool). v || seenIn s x) (ne-eqb (seenBit x) (passedBit level found m) (λ e. omega (arith, b .0)))))
+  pub pass-seen : (x : ℕ) → x < stateCount → seenIn (inserted s (passedBit level found m)) x ≡ seenIn s x
+  pass-seen x h = member-inserted s (passedBit level found m) (seenBit x) (omega (arith, inside .1, p .room)) ∙ ap (λ (v : Bool). v || seenIn s x) (ne-eqb (seenBit x) (passedBit level found m) (λ e. omega (arith, inside .0)))
 
   -- the bits after it are those before it, and that of the state
-  pub pass-bit : (k : ℕ) (b : Bool) (j : ℕ) → member (withPassed s level found m) (passedBit k b j) ≡ true → (member s (passedBit k b j) ≡ true) ⊎ (passedBit k b j ≡ passedBit level found m)
-  unfolding withPassed
-  pass-bit k b j e = by-test (eqb level 0) (λ y. inl (rw y at e))
-      (λ n. by-test (eqb (passedBit k b j) (passedBit level found m)) (λ y. inr (eqb-true (passedBit k b j) (passedBit level found m) y))
-      (λ q. inl (let c = bit-inside level m found l small in let w : member (inserted s (passedBit level found m)) (passedBit k b j) ≡ true = rw n at e in
-      let v : (eqb (passedBit k b j) (passedBit level found m) || member s (passedBit k b j)) ≡ true = sym (member-inserted s (passedBit level found m) (passedBit k b j) (omega (arith, c .1))) ∙ w in rw q at v)))
+  pass-bit : (k : ℕ) (b : Bool) (j : ℕ) → member (inserted s (passedBit level found m)) (passedBit k b j) ≡ true → (member s (passedBit k b j) ≡ true) ⊎ (passedBit k b j ≡ passedBit level found m)
+  pass-bit k b j e = by-test (eqb (passedBit k b j) (passedBit level found m)) (λ y. inr (eqb-true (passedBit k b j) (passedBit level found m) y))
+      (λ q. inl (let v : (eqb (passedBit k b j) (passedBit level found m) || member s (passedBit k b j)) ≡ true = sym (member-inserted s (passedBit level found m) (passedBit k b j) (omega (arith, inside .1, p .room))) ∙ e in rw q at v))
 
 -- the ends do not depend on the path so far
 each-joined : (job : Job) (Q : ℕ → Type 0) (pre pre′ : List ℕ) (ps : List Path) → Each (λ (c : Candidate). Q (endNumber c)) (map (λ (p : Path). made job (pre ++ p .numbers) (p .end)) ps) → Each (λ (c : Candidate). Q (endNumber c)) (map (λ (p : Path). made job (pre′ ++ p .numbers) (p .end)) ps)
@@ -116,13 +109,13 @@ each-joined job Q pre pre′ [] e = tt
 each-joined job Q pre pre′ (p ∷ ps) e = (e .0, each-joined job Q pre pre′ ps (e .1))
 
 -- a state all of whose ends were seen may be noted
-pub passed-more : (job : Job) (log : List Record) (s : List ℕ) (level : ℕ) (found : Bool) (g : Group) (pre : List ℕ) → level < job .count → job .count ≤ writtenPlaces → passedEnd ≤ length s → Over (jobProcesses job) g
-    → Each (λ (c : Candidate). seenIn s (endNumber c) ≡ true) (offers job log level found g pre) → PassedRight job log s → PassedRight job log (withPassed s level found (stateNumber g))
-passed-more job log s level found g pre l few room over all right k b j h small y g′ o e =
-    each-map (λ (c : Candidate). seenIn s (endNumber c) ≡ true) (λ (c : Candidate). seenIn (withPassed s level found (stateNumber g)) (endNumber c) ≡ true)
-    (λ c v. pass-seen s level found (stateNumber g) (omega arith) (stateNumber-below g) room (endNumber c) (stateNumber-below (c .key .after)) ∙ v)
+passed-more : (job : Job) (log : List Record) (s : List ℕ) (level : ℕ) (found : Bool) (g : Group) (pre : List ℕ) → Passable s level (stateNumber g) → Over (jobProcesses job) g
+    → Each (λ (c : Candidate). seenIn s (endNumber c) ≡ true) (offers job log level found g pre) → PassedRight job log s → PassedRight job log (inserted s (passedBit level found (stateNumber g)))
+passed-more job log s level found g pre p over all right k b j h small y g′ o e =
+    each-map (λ (c : Candidate). seenIn s (endNumber c) ≡ true) (λ (c : Candidate). seenIn (inserted s (passedBit level found (stateNumber g))) (endNumber c) ≡ true)
+    (λ c v. pass-seen s level found (stateNumber g) p (endNumber c) (stateNumber-below (c .key .after)) ∙ v)
     (offers job log k b g′ [])
-    (⊎-elim (λ (q : member s (passedBit k b j) ≡ true). right k b j h small q g′ o e) this (pass-bit s level found (stateNumber g) (omega arith) (stateNumber-below g) room k b j y))
+    (⊎-elim (λ (q : member s (passedBit k b j) ≡ true). right k b j h small q g′ o e) this (pass-bit s level found (stateNumber g) p k b j y))
   where
     this : passedBit k b j ≡ passedBit level found (stateNumber g) → Each (λ (c : Candidate). seenIn s (endNumber c) ≡ true) (offers job log k b g′ [])
     this q =
@@ -132,6 +125,28 @@ passed-more job log s level found g pre l few room over all right k b j h small 
         (subst (λ (v : Bool). Each (λ (c : Candidate). seenIn s (endNumber c) ≡ true) (offers job log level v g′ [])) (sym (same .1))
         (subst (λ (x : Group). Each (λ (c : Candidate). seenIn s (endNumber c) ≡ true) (offers job log level found x [])) state
         (each-joined job (λ (x : ℕ). seenIn s x ≡ true) pre [] (freshPaths (jobLoc job) log (job .lo) found (drop level (jobWord job)) g) all)))
+
+-- a state that was searched may be noted
+pub searched-passed : (job : Job) (held : ℕ → Bool) (level : ℕ) (found : Bool) (g : Group) (pre : List ℕ) {count : ℕ} {log s : List ℕ} {count′ : ℕ} {log′ s′ : List ℕ}
+    → 0 < level → Passable s′ level (stateNumber g) → Over (jobProcesses job) g
+    → Searched job held (offers job (glances log (job .base)) level found g pre) count log s count′ log′ s′
+    → Searched job held (offers job (glances log (job .base)) level found g pre) count log s count′ log′ (inserted s′ (passedBit level found (stateNumber g)))
+searched-passed job held level found g pre {log = log} {s = s} {s′ = s′} deep p over d =
+    record {
+      counted = d .counted;
+      written = d .written;
+      seen = λ x h. pass-seen s′ level found (stateNumber g) p x h ∙ d .seen x h;
+      scratch-length = length-inserted s′ (passedBit level found (stateNumber g)) ∙ d .scratch-length;
+      kept = λ i a b. pass-bytes s′ level found (stateNumber g) p deep i (inl b) ∙ d .kept i a b;
+      outside = λ i a. pass-bytes s′ level found (stateNumber g) p deep i (inr a) ∙ d .outside i a;
+      passed = passed-more job (glances log (job .base)) s′ level found g pre p over all-seen (d .passed);
+    }
+  where
+    all-seen : Each (λ (c : Candidate). seenIn s′ (endNumber c) ≡ true) (offers job (glances log (job .base)) level found g pre)
+    all-seen =
+        let cs = offers job (glances log (job .base)) level found g pre in
+        each-map (λ (c : Candidate). hit cs (endNumber c) ≡ true) (λ (c : Candidate). seenIn s′ (endNumber c) ≡ true)
+        (λ c y. d .seen (endNumber c) (stateNumber-below (c .key .after)) ∙ rw y (or-true (seenIn s (endNumber c)))) cs (hit-own cs)
 
 -- ---- a state that was passed leads to nothing new
 each-filter : (job : Job) (Q : ℕ → Type 0) (f : Path → Bool) (ps : List Path) → Each (λ (c : Candidate). Q (endNumber c)) (map (λ (p : Path). made job ([] ++ p .numbers) (p .end)) ps) → Each (λ (c : Candidate). Q (endNumber c)) (map (λ (p : Path). made job ([] ++ p .numbers) (p .end)) (filter f ps))
@@ -169,7 +184,13 @@ searched-nothing job held cs count log s few all right =
     }
 
 -- ---- the record of an end
-module _ {job : Job} {log s : List ℕ} {state : ℕ} {trail : Trail} (ready : Searchable job log s) (stands : Standing job log (job .count) state trail) where
+module _ {job : Job} {state : ℕ} {trail : Trail} {count : ℕ} {log s : List ℕ} (begins : Begins job (job .count) state trail count log s) where
+  abbrev ready : Searchable job log s
+  ready = begins .ready
+
+  abbrev stands : Standing job log (job .count) state trail
+  stands = begins .stands
+
   abbrev after : ℕ
   after = packedRestrict (job .mask) state
 
@@ -202,14 +223,14 @@ module _ {job : Job} {log s : List ℕ} {state : ℕ} {trail : Trail} (ready : S
     steps = sym (stands .steps) i;
   }
 
-  stored-is : (count : ℕ) → storedEnd log job after trail count ≡ stored (job .n) log count (addedRecord (job .round) (glances log (job .base)) new ∷ [])
+  stored-is : storedEnd log job after trail count ≡ stored (job .n) log count (addedRecord (job .round) (glances log (job .base)) new ∷ [])
   unfolding storedEnd
-  stored-is count = ap (λ (e : Entry). cond (ltb count (job .n)) (withEntry log count e) log) (sym entry-is)
+  stored-is = ap (λ (e : Entry). cond (ltb count (job .n)) (withEntry log count e) log) (sym entry-is)
 
   -- ---- what an arrival leaves
-  module _ (held : ℕ → Bool) (count : ℕ) (few : count ≤ job .n + 1) where
+  module _ (held : ℕ → Bool) where
     pub arrived-stale : {found : Bool} → found ≡ false → Searched job held (arrivals job found state trail) count log s count log s
-    arrived-stale f = rw f (searched-nothing job held [] count log s few tt (ready .passed))
+    arrived-stale f = rw f (searched-nothing job held [] count log s (begins .few) tt (ready .passed))
 
     -- the end is noted, and what is taken of it written
     module _ {y x : ℕ} {s′ : List ℕ} (y-is : y ≡ packedRestrict (job .mask) state) (x-is : x ≡ packedNumber y) (q : s′ ≡ withEnd s x) where
@@ -246,10 +267,10 @@ module _ {job : Job} {log s : List ℕ} {state : ℕ} {trail : Trail} (ready : S
       pub arrived-known : known held s x ≡ true → Searched job held (new ∷ []) count log s count log s′
       arrived-known k = by-test (seenIn s x)
           (λ y. let is : s′ ≡ s = rw y at q in
-          rw is (searched-nothing job held (new ∷ []) count log s few (subst (λ (z : ℕ). seenIn s z ≡ true) number-is y, tt) (ready .passed)))
-          (λ n. noted [] (rw (ap (known held s) (sym number-is) ∙ k) refl) n (omega arith) refl)
+          rw is (searched-nothing job held (new ∷ []) count log s (begins .few) (subst (λ (z : ℕ). seenIn s z ≡ true) number-is y, tt) (ready .passed)))
+          (λ n. noted [] (rw (ap (known held s) (sym number-is) ∙ k) refl) n (omega (arith, begins .few)) refl)
 
       pub arrived-new : known held s x ≡ false → {count′ : ℕ} {log′ : List ℕ} → (count′ ≡ min (count + 1) (job .n + 1)) × (log′ ≡ storedEnd log job y trail count)
           → Searched job held (new ∷ []) count log s count′ log′ s′
       arrived-new k w = noted (new ∷ []) (rw (ap (known held s) (sym number-is) ∙ k) refl) (or-left (seenIn s x) (held x) k) (w .0)
-          (w .1 ∙ ap (λ (z : ℕ). storedEnd log job z trail count) y-is ∙ stored-is count)
+          (w .1 ∙ ap (λ (z : ℕ). storedEnd log job z trail count) y-is ∙ stored-is)

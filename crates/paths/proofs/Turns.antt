@@ -33,7 +33,7 @@ use Rattle.keys.proofs.Keeping.{indexed-log, indexed-scratch}
 use Rattle.paths.specs.declared.Job.{Job}
 use Rattle.paths.specs.declared.Trail.{Trail}
 use Rattle.paths.specs.Arrivals.{endNumber, hit, stored, taken}
-use Rattle.paths.specs.Jobs.{Lookable, PassedRight, Searchable, Searched, Standing, firstTried, glances, heldBy, jobLoc, jobWord, known, laterFresh, longerTrail, made, offers, seenIn}
+use Rattle.paths.specs.Jobs.{Begins, Lookable, PassedRight, Searchable, Searched, Standing, firstTried, glances, heldBy, jobLoc, jobWord, known, laterFresh, longerTrail, made, offers, seenIn}
 use Rattle.paths.proofs.Arrivals.{hit-append, hit-own, stored-append, stored-capped, stored-earlier, stored-length, taken-append, taken-known}
 use Rattle.paths.proofs.Extending.{extend-end, extend-first, extend-hit, extend-late}
 use Rattle.paths.proofs.Glances.{after-same, before-same, glances-at, glances-same, held-same, length-glances, letter-same, reads-same}
@@ -64,10 +64,6 @@ place-of {A} (y ∷ l) d x m = ⊎-elim
     (λ (e : x ≡ y). (0, omega arith, sym e))
     (λ (q : List·Memᴰ x l). let r = place-of l d x q in (suc (r .0), omega (arith, r .1), r .2))
     (List·Memᴰ·cases-cons m)
-
-sum-same : (f h : ℕ → ℕ) (n : ℕ) (ns : List ℕ) → ((i : ℕ) → i < n → f i ≡ h i) → Each (λ (m : ℕ). m < n) ns → sumOver f ns ≡ sumOver h ns
-sum-same f h n [] e l = refl
-sum-same f h n (m ∷ ns) e l = ap₂ (λ (x y : ℕ). x + y) (e m (l .0)) (sum-same f h n ns e (l .1))
 
 capped-sum : (t a b c d : ℕ) → t ≡ min (1 + a) stepsCap → c ≡ a + b → b ≡ d → min (t + min d stepsCap) stepsCap ≡ min (1 + c) stepsCap
 capped-sum t a b c d p q e = omega arith
@@ -107,7 +103,14 @@ searchable-kept job log s log′ s′ w same size-log size-s outside right =
       passed = rw (glances-same log log′ (job .base) same) right;
     }
 
-module _ (job : Job) (level state : ℕ) (found : Bool) (trail : Trail) (count : ℕ) (log₀ s₀ : List ℕ) (ready : Searchable job log₀ s₀) (stands : Standing job log₀ level state trail) (more : level < job .count) (base-low : job .base ≤ count) where
+module _ {job : Job} {level state : ℕ} (found : Bool) {trail : Trail} {count : ℕ} {log₀ s₀ : List ℕ} (begins : Begins job level state trail count log₀ s₀)
+    (more : level < job .count) where
+  abbrev ready : Searchable job log₀ s₀
+  ready = begins .ready
+
+  abbrev stands : Standing job log₀ level state trail
+  stands = begins .stands
+
   abbrev A : List Record
   A = glances log₀ (job .base)
 
@@ -198,8 +201,8 @@ module _ (job : Job) (level state : ℕ) (found : Bool) (trail : Trail) (count :
   tried-low : firstTried job level found ≤ job .base
   tried-low = by-test (found || laterFresh job level) (λ y. rw y (omega arith)) (λ n. rw n (ready .low))
 
-  pub going-start : count ≤ job .n + 1 → (r : ℕ) → r ≡ firstFrom (recordReads log₀ a key) (firstTried job level found) (job .base - firstTried job level found) → Going log₀ s₀ count r
-  going-start few r q =
+  pub going-start : {r : ℕ} → r ≡ firstFrom (recordReads log₀ a key) (firstTried job level found) (job .base - firstTried job level found) → Going log₀ s₀ count r
+  going-start {r} q =
       let m = firstTried job level found in
       let whole : m + (job .base - m) ≡ job .base = omega (arith, tried-low) in
       let same : all ≡ remaining r = all-is ∙ remaining-start ∙ remaining-first m (job .base - m) whole ∙ ap remaining (sym q) in
@@ -208,7 +211,7 @@ module _ (job : Job) (level state : ℕ) (found : Bool) (trail : Trail) (count :
         got = [];
         taking = ap (taken (known held s₀)) same;
         hits = λ x h. ap (λ (cs : List Candidate). seenIn s₀ x || hit cs x) same;
-        counted = omega arith;
+        counted = omega (arith, begins .few);
         written = refl;
         scratch-length = refl;
         kept = λ i p h. refl;
@@ -218,9 +221,9 @@ module _ (job : Job) (level state : ℕ) (found : Bool) (trail : Trail) (count :
         passed = ready .passed;
       }
 
-  module _ (log s : List ℕ) (total r : ℕ) (o : Going log s total r) where
+  module _ {log s : List ℕ} {total r : ℕ} (o : Going log s total r) where
     pub earlier : take (job .base * recordLength) log ≡ take (job .base * recordLength) log₀
-    earlier = ap (take (job .base * recordLength)) (o .written) ∙ stored-earlier (job .n) log₀ count (records (o .got)) (job .base) base-low (ready .holds)
+    earlier = ap (take (job .base * recordLength)) (o .written) ∙ stored-earlier (job .n) log₀ count (records (o .got)) (job .base) (begins .low) (ready .holds)
 
     pub log-size : length log ≡ length log₀
     log-size = ap length (o .written) ∙ stored-length (job .n) log₀ count (records (o .got)) (ready .holds)
@@ -233,7 +236,7 @@ module _ (job : Job) (level state : ℕ) (found : Bool) (trail : Trail) (count :
     going-ready = searchable-kept job log₀ s₀ log s ready earlier log-size (o .scratch-length) (o .outside) (o .passed)
 
     pub going-count : (job .base ≤ total) × (total ≤ job .n + 1)
-    going-count = (omega (arith, o .counted, base-low, ready .room .fits), omega (arith, o .counted))
+    going-count = (omega (arith, o .counted, begins .low, ready .room .fits), omega (arith, o .counted))
 
     module _ (h : r < job .base) where
       mask-is : getD (job .masks) level 0 ≡ maskOf (jobLoc job a)
@@ -301,8 +304,8 @@ module _ (job : Job) (level state : ℕ) (found : Bool) (trail : Trail) (count :
               ap₂ (λ (ns : List ℕ) (x : Group). map (joined job ns) (freshPaths (jobLoc job) A (job .lo) (found || leb (job .lo) r) (drop (suc level) (jobWord job)) x)) (sym numbers-are) state-is
               ∙ ap (λ (B : List Record). offers job B (suc level) (found || leb (job .lo) r) (unpacked led) (take (suc level) (longerTrail log trail level r .places))) (sym same-seen)
 
-      pub going-turn : (total′ : ℕ) (log′ s′ : List ℕ) (r′ : ℕ) → Searched job (heldBy job log) by-record total log s total′ log′ s′ → r′ ≡ firstFrom (recordReads log′ a key) (suc r) (job .base - suc r) → Going log′ s′ total′ r′
-      going-turn total′ log′ s′ r′ d₀ q =
+      pub going-turn : {total′ : ℕ} {log′ s′ : List ℕ} {r′ : ℕ} → Searched job (heldBy job log) by-record total log s total′ log′ s′ → r′ ≡ firstFrom (recordReads log′ a key) (suc r) (job .base - suc r) → Going log′ s′ total′ r′
+      going-turn {total′} {log′} {s′} {r′} d₀ q =
           let tk = taken (known held s) by-record in
           let whole : suc r + (job .base - suc r) ≡ job .base = omega arith in
           let b = first-bound (suc r) (job .base - suc r) r′ whole q₀ in
@@ -337,26 +340,17 @@ module _ (job : Job) (level state : ℕ) (found : Bool) (trail : Trail) (count :
           next-are : remaining (suc r) ≡ remaining r′
           next-are = remaining-first (suc r) (job .base - suc r) (omega arith) ∙ ap remaining (sym q₀)
 
-    -- ---- no record is left
-    pub going-end : job .base ≤ r → (s′ : List ℕ) → length s′ ≡ length s → ((x : ℕ) → x < stateCount → seenIn s′ x ≡ seenIn s x) → ((i : ℕ) → seenAt + setLength ≤ i → i < passedAt + 2 * setLength → getD s′ i 0 ≡ getD s i 0)
-        → ((i : ℕ) → passedEnd ≤ i → getD s′ i 0 ≡ getD s i 0) → PassedRight job A s′ → Searched job held all count log₀ s₀ total log s′
-    going-end h s′ size seen kept outside right =
+    -- no record is left
+    pub going-end : job .base ≤ r → Searched job held all count log₀ s₀ total log s
+    going-end h =
         let none : remaining r ≡ [] = ap (map (joined job pre)) (extend-end (jobLoc job) (job .lo) found a g onward A r (rw (length-glances log₀ 0 (job .base)) h)) in
         let got-is : taken (known held s₀) all ≡ o .got = o .taking ∙ ap (λ (cs : List Candidate). o .got ++ taken (known held s) cs) none ∙ append-nil (o .got) in
         record {
           counted = o .counted ∙ ap (λ (cs : List Candidate). min (count + length cs) (job .n + 1)) (sym got-is);
           written = o .written ∙ ap (λ (cs : List Candidate). stored (job .n) log₀ count (records cs)) (sym got-is);
-          seen = λ x l. seen x l ∙ sym (or-false (seenIn s x)) ∙ ap (λ (cs : List Candidate). seenIn s x || hit cs x) (sym none) ∙ sym (o .hits x l);
-          scratch-length = size ∙ o .scratch-length;
-          kept = λ i p l. kept i p l ∙ o .kept i p l;
-          outside = λ i l. outside i l ∙ o .outside i l;
-          passed = right;
+          seen = λ x l. sym (or-false (seenIn s x)) ∙ ap (λ (cs : List Candidate). seenIn s x || hit cs x) (sym none) ∙ sym (o .hits x l);
+          scratch-length = o .scratch-length;
+          kept = o .kept;
+          outside = o .outside;
+          passed = o .passed;
         }
-
-    -- then every end of the state's paths was seen
-    pub going-seen : job .base ≤ r → Each (λ (c : Candidate). seenIn s (endNumber c) ≡ true) all
-    going-seen h =
-        let none : remaining r ≡ [] = ap (map (joined job pre)) (extend-end (jobLoc job) (job .lo) found a g onward A r (rw (length-glances log₀ 0 (job .base)) h)) in
-        each-map (λ (c : Candidate). hit all (endNumber c) ≡ true) (λ (c : Candidate). seenIn s (endNumber c) ≡ true)
-        (λ c y. sym (or-false (seenIn s (endNumber c))) ∙ ap (λ (cs : List Candidate). seenIn s (endNumber c) || hit cs (endNumber c)) (sym none) ∙ sym (o .hits (endNumber c) (stateNumber-below (c .key .after))) ∙ rw y (or-true (seenIn s₀ (endNumber c))))
-        all (hit-own all)

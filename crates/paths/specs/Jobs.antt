@@ -16,7 +16,7 @@ use Rattle.states.specs.StateNumbers.{stateCount, stateNumber, Over}
 use Rattle.states.specs.StateSets.{member, inserted, setLength}
 use Rattle.scratch.specs.Regions.{keysAt, passedAt, passedBit, passedEnd, ringsAt, seenAt, seenBit}
 use Rattle.records.specs.declared.Entry.{Entry}
-use Rattle.records.specs.Entries.{withEntry}
+use Rattle.records.specs.Entries.{HasRecord, withEntry}
 use Rattle.packs.specs.Packs.{maskOf, packedAfter, packedBefore, processesIn, unpacked}
 use Rattle.rings.specs.Rings.{RingRoom, Ringed, Freshened}
 use Rattle.keys.specs.Keys.{Indexed, KeyRoom, heldBelow}
@@ -102,6 +102,12 @@ seenIn s x = member s (seenBit x)
 unfoldable pub isPassed : List ℕ → ℕ → Bool → ℕ → Bool
 isPassed s level found m = member s (passedBit level true m) || member s (passedBit level found m)
 
+-- a state's bit at a depth is one of the scratch
+pub record Passable (s : List ℕ) (level m : ℕ) : Type 0 where
+  pub place : level < writtenPlaces
+  pub small : m < stateCount
+  pub room : passedEnd ≤ length s
+
 -- all that a state leads to which the search came by has been seen
 abbrev pub PassedRight : Job → List Record → List ℕ → Type 0
 PassedRight job log s =
@@ -160,6 +166,20 @@ pub record Standing (job : Job) (log : List ℕ) (level state : ℕ) (trail : Tr
   pub steps : trail .steps
       ≡ min (1 + sumOver (λ m. recordAt (glances log (job .base)) m .steps) (take level (trail .places))) stepsCap
 
+-- a search from a state, or an arrival at it, may begin
+pub record Begins (job : Job) (level state : ℕ) (trail : Trail) (count : ℕ) (log s : List ℕ) : Type 0 where
+  pub ready : Searchable job log s
+  pub stands : Standing job log level state trail
+  pub low : job .base ≤ count
+  pub few : count ≤ job .n + 1
+
+-- record r may be put behind a path
+pub record Lengthens (log : List ℕ) (trail : Trail) (level r : ℕ) : Type 0 where
+  pub place : level < writtenPlaces
+  pub number : r < 65536
+  pub holds : HasRecord log r
+  pub steps : trail .steps ≤ stepsCap
+
 -- what an arrival at, or a search from, some candidates leaves, where these ends are held
 pub record Searched (job : Job) (held : ℕ → Bool) (cs : List Candidate) (count : ℕ) (log s : List ℕ) (count′ : ℕ)
     (log′ s′ : List ℕ) : Type 0 where
@@ -203,8 +223,3 @@ storedEnd log job after trail count = cond (ltb count (job .n)) (withEntry log c
 -- the end x is noted
 abbrev pub withEnd : List ℕ → ℕ → List ℕ
 withEnd s x = cond (seenIn s x) s (inserted s (seenBit x))
-
--- ---- the states passed
--- one more, unless it is of the first depth
-unfoldable pub withPassed : List ℕ → ℕ → Bool → ℕ → List ℕ
-withPassed s level found m = cond (eqb level 0) s (inserted s (passedBit level found m))

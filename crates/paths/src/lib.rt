@@ -29,12 +29,11 @@ ghost use Rattle.model.specs.Log.{stepsCap};
 ghost use Rattle.model.specs.Records.{recordLength};
 ghost use Rattle.model.specs.Tables.{writtenPlaces};
 ghost use Rattle.states.specs.StateNumbers.{stateCount};
-ghost use Rattle.states.specs.StateSets.{firstFrom};
-ghost use Rattle.records.specs.Entries.{HasRecord};
+ghost use Rattle.states.specs.StateSets.{firstFrom, inserted};
 ghost use Rattle.rings.specs.Rings.{recordReads, RingRoom, Ringed, Freshened};
 ghost use Rattle.packs.specs.Packs.{unpacked};
-ghost use Rattle.scratch.specs.Regions.{passedAt, passedEnd, ringsAt};
-ghost use Rattle.paths.specs.Jobs.{Lookable, Searchable, Searched, Standing, firstTried, heldBy, isPassed, known, longerTrail, glances, offers, storedEnd, withEnd, withPassed, arrivals};
+ghost use Rattle.scratch.specs.Regions.{passedAt, passedBit, passedEnd, ringsAt};
+ghost use Rattle.paths.specs.Jobs.{Begins, Lengthens, Lookable, Passable, Searchable, Searched, firstTried, heldBy, isPassed, known, longerTrail, glances, offers, storedEnd, withEnd, arrivals};
 
 // A rule of the table with its written letters and their processes as masks; the place of the last letter that a record of the last round reads; whether a
 // record has the rule's letter and states before; the round, the records that it starts from, those from lo on being of the last round, and how many the log
@@ -88,7 +87,7 @@ fn capped(x: u32) -> u32
 
 // The path with record r behind it.
 fn longer(log: &[u8], trail: Trail, level: usize, r: usize) -> Trail
-    requires { ⌜ (level < writtenPlaces) × (r < 65536) × HasRecord (now log) r × (trail .steps ≤ stepsCap) ⌝ }
+    requires { ⌜ Lengthens (now log) trail level r ⌝ }
     ensures { λ t. ⌜ t ≡ longerTrail (now (log .entry)) trail level r ⌝ }
 {
     let mut places = trail.places;
@@ -143,7 +142,7 @@ fn slot(level: usize, found: bool) -> usize
 
 // Whether the search has come by the state at this depth, so that it leads to nothing new.
 fn is_passed(scratch: &[u8], level: usize, found: bool, x: usize) -> bool
-    requires { ⌜ (level < writtenPlaces) × (x < stateCount) × (passedEnd ≤ length (now scratch)) ⌝ }
+    requires { ⌜ Passable (now scratch) level x ⌝ }
     ensures { λ r. ⌜ r ≡ isPassed (now (scratch .entry)) level found x ⌝ }
 {
     if sets::contains(scratch, slot(level, true) + x) {
@@ -155,14 +154,11 @@ fn is_passed(scratch: &[u8], level: usize, found: bool, x: usize) -> bool
     sets::contains(scratch, slot(level, found) + x)
 }
 
-// Notes that the search has come by the state. The first depth is come by once only.
+// Notes that the search has come by the state.
 fn pass(scratch: &mut [u8], level: usize, found: bool, x: usize)
-    requires { ⌜ (level < writtenPlaces) × (x < stateCount) × (passedEnd ≤ length (now scratch)) ⌝ }
-    ensures { λ _. ⌜ now (scratch .exit) ≡ withPassed (now (scratch .entry)) level found x ⌝ }
+    requires { ⌜ Passable (now scratch) level x ⌝ }
+    ensures { λ _. ⌜ now (scratch .exit) ≡ inserted (now (scratch .entry)) (passedBit level found x) ⌝ }
 {
-    if level == 0 {
-        return;
-    }
     sets::insert(scratch, slot(level, found) + x);
 }
 
@@ -212,7 +208,7 @@ fn is_known(log: &[u8], scratch: &mut [u8], job: Job, x: usize) -> bool
     is_held(log, scratch, job, x)
 }
 
-// A path ends in the state: its record is added if its end is not known. A path without a record of the last round adds nothing.
+// The path with record r behind it ends in the state: its record is added if its end is not known. A path without a record of the last round adds nothing.
 fn arrive(
     log: &mut [u8],
     scratch: &mut [u8],
@@ -220,10 +216,12 @@ fn arrive(
     state: u32,
     found: bool,
     trail: Trail,
+    level: usize,
+    r: usize,
     count: usize,
 ) -> usize
-    requires { ⌜ Searchable job (now log) (now scratch) × Standing job (now log) (job .count) state trail × (job .base ≤ count) × (count ≤ job .n + 1) ⌝ }
-    ensures { λ r. ⌜ Searched job (heldBy job (now (log .entry))) (arrivals job found state trail) count (now (log .entry)) (now (scratch .entry)) r (now (log .exit)) (now (scratch .exit)) ⌝ }
+    requires { ⌜ Begins job (job .count) state (longerTrail (now log) trail level r) count (now log) (now scratch) × Lengthens (now log) trail level r ⌝ }
+    ensures { λ total. ⌜ Searched job (heldBy job (now (log .entry))) (arrivals job found state (longerTrail (now (log .entry)) trail level r)) count (now (log .entry)) (now (scratch .entry)) total (now (log .exit)) (now (scratch .exit)) ⌝ }
 {
     if !found {
         return count;
@@ -232,7 +230,8 @@ fn arrive(
     if is_known(log, scratch, job, number(after)) {
         return count;
     }
-    store(log, job, after, trail, count)
+    let on = longer(log, trail, level, r);
+    store(log, job, after, on, count)
 }
 
 // A rule that writes no letter ends in its states after. This is `arrive` once more: with one call alone, in the loop below, the compiler lays that one out
@@ -245,7 +244,7 @@ pub fn end_at_once(
     trail: Trail,
     count: usize,
 ) -> usize
-    requires { ⌜ Searchable job (now log) (now scratch) × Standing job (now log) (job .count) state trail × (job .base ≤ count) × (count ≤ job .n + 1) ⌝ }
+    requires { ⌜ Begins job (job .count) state trail count (now log) (now scratch) ⌝ }
     ensures { λ r. ⌜ Searched job (heldBy job (now (log .entry))) (arrivals job true state trail) count (now (log .entry)) (now (scratch .entry)) r (now (log .exit)) (now (scratch .exit)) ⌝ }
 {
     let end = restricted(job.mask, state);
@@ -256,7 +255,8 @@ pub fn end_at_once(
 }
 
 // Goes through the paths that read the rest of the job's word from a state, first by the records with the lowest numbers. `count` is the number of
-// records there are, `found` whether one of the last round is on the path; gives the number of records then, more than n where the log is full.
+// records there are, `found` whether one of the last round is on the path; gives the number of records then, more than n where the log is full. A state that
+// was passed is left before the path is extended to it.
 pub fn explore(
     log: &mut [u8],
     scratch: &mut [u8],
@@ -267,14 +267,10 @@ pub fn explore(
     trail: Trail,
     count: usize,
 ) -> usize
-    requires { ⌜ Searchable job (now log) (now scratch) × Standing job (now log) level state trail × (job .base ≤ count) × (count ≤ job .n + 1) × (level < job .count) ⌝ }
+    requires { ⌜ Begins job level state trail count (now log) (now scratch) × (level < job .count) ⌝ }
     ensures { λ r. ⌜ Searched job (heldBy job (now (log .entry))) (offers job (glances (now (log .entry)) (job .base)) level found (unpacked state) (take level (trail .places))) count (now (log .entry)) (now (scratch .entry)) r (now (log .exit)) (now (scratch .exit)) ⌝ }
 {
     let width = job.count;
-    let x = number(state);
-    if is_passed(scratch, level, found, x) {
-        return count;
-    }
     let letter = letter_of(job, level);
     let mask = mask_of(job, level);
     let g = restricted(mask, state);
@@ -285,14 +281,17 @@ pub fn explore(
     while r < base {
         let next = merged(mask, after_at(log, r), state);
         let new = is_fresh(job, found, r);
-        let on = longer(log, trail, level, r);
         if level + 1 == width {
-            total = arrive(log, scratch, job, next, new, on, total);
+            total = arrive(log, scratch, job, next, new, trail, level, r, total);
         } else {
-            total = explore(log, scratch, job, level + 1, next, new, on, total);
+            let x = number(next);
+            if !is_passed(scratch, level + 1, new, x) {
+                let on = longer(log, trail, level, r);
+                total = explore(log, scratch, job, level + 1, next, new, on, total);
+                pass(scratch, level + 1, new, x);
+            }
         }
         r = next_match(log, scratch, RINGS, n, base, r, letter, g);
     }
-    pass(scratch, level, found, x);
     total
 }

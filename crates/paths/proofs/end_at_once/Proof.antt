@@ -6,9 +6,7 @@ use Rattle.paths.proofs.end_at_once.Statement.{statement}
 use Rattle.paths.proofs.end_at_once.Tie as tie
 
 abbrev restricted : tie.After-is-known → tie.After-restricted
-restricted c =
-    let place = c .before .before .before .before in
-    place
+restricted c = c .before .before .before .before
 
 abbrev entry : tie.After-is-known → tie.Start
 entry c = restricted c .before .before .before
@@ -16,17 +14,16 @@ entry c = restricted c .before .before .before
 returns : tie.Need-returns
 returns c =
     let at-known = c .before .before .before in
-    let p = entry at-known .pre in
-    arrived-known (p .0) (p .1) _ _ (p .3) (restricted at-known .restricted .ensures) (at-known .before .number .ensures .0) (at-known .is-known .ensures .1)
+    arrived-known (entry at-known .pre) _ (restricted at-known .restricted .ensures) (at-known .before .number .ensures .0) (at-known .is-known .ensures .1)
     (sym (at-known .is-known .ensures .0) ∙ c .if1 .taken)
 
 returns-2 : tie.Need-returns-2
 returns-2 c =
-    let at-if1 = c .before .before .before .before in
-    let at-known = c .before .before .before .before .before .before .before in
-    let p = entry at-known .pre in
-    arrived-new (p .0) (p .1) _ _ (p .3) (restricted at-known .restricted .ensures) (at-known .before .number .ensures .0) (at-known .is-known .ensures .1)
-    (sym (at-known .is-known .ensures .0) ∙ at-if1 .if1 .left) (c .before .before .store .ensures)
+    let at-store = c .before .before in
+    let at-test = at-store .before .before in
+    let at-known = at-test .before .before .before in
+    arrived-new (entry at-known .pre) _ (restricted at-known .restricted .ensures) (at-known .before .number .ensures .0) (at-known .is-known .ensures .1)
+    (sym (at-known .is-known .ensures .0) ∙ at-test .if1 .left) (at-store .store .ensures)
 
 pub end-at-once-spec : {M : Type 1} → statement M
 end-at-once-spec = tie.close (tie.spec (λ c κs. search needs) (λ c κs. search needs) (λ c κs. search needs) (λ c. search needs) (λ c. search needs)

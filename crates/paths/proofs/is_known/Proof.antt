@@ -21,7 +21,8 @@ returns-2 : tie.Need-returns-2
 returns-2 c =
     let at-insert = c .before .before .before .before in
     let at-contains = at-insert .before .before .before in
-    let a = at-contains .before .before .before .before .args in
+    let start = at-contains .before .before .before .before in
+    let a = start .args in
     end-new (heldBy (a .job) (a .log .now)) _ _ (sym (at-contains .contains .ensures) ∙ at-insert .before .before .if1 .left) (c .is-held .ensures) (at-insert .insert .ensures)
 
 pub is-known-spec : {M : Type 1} → statement M

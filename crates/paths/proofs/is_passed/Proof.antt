@@ -25,7 +25,8 @@ returns-3 : tie.Need-returns-3
 unfolding isPassed
 returns-3 c =
     let at-test = c .before .before .before in
-    let a = at-test .before .before .before .before .args in
+    let start = at-test .before .before .before .before in
+    let a = start .args in
     rw (first (at-test .before) ∙ at-test .if1 .left) (c .contains2 .ensures ∙ ap (λ (n : ℕ). member (a .scratch .now) (n + a .x)) (c .before .slot2 .ensures .0))
 
 pub is-passed-spec : {M : Type 1} → statement M

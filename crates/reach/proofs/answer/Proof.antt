@@ -8,13 +8,15 @@ use Rattle.reach.proofs.answer.Tie as tie
 returns : tie.Need-returns
 returns c =
     let at-read = c .before .before .before in
-    let a = at-read .before .before .before .before .args in
+    let start = at-read .before .before .before .before in
+    let a = start .args in
     answer-demands (a .table .now) (a .log .now) (a .scratch .now) (answers-refused (a .table .now) (a .log .now) (a .scratch .now) (sym (at-read .read .ensures) ∙ c .before .number .given .1))
 
 returns-2 : tie.Need-returns-2
 returns-2 c =
     let at-table = c .before .before .before .before in
-    let a = at-table .before .before .before .before .before .before .before .before .before .before .args in
+    let start = at-table .before .before .before .before .before .before .before .before .before .before in
+    let a = start .args in
     answer-demands (a .table .now) (a .log .now) (a .scratch .now) (at-table .answer-table .ensures)
 
 pub answer-spec : {M : Type 1} → statement M

@@ -8,7 +8,8 @@ use Rattle.reach.proofs.answer_and_run.Tie as tie
 returns : tie.Need-returns
 returns c =
     let at-read = c .before .before .before .before in
-    let a = at-read .before .before .before .before .before .args in
+    let start = at-read .before .before .before .before .before in
+    let a = start .args in
     let refused = sym (at-read .read .ensures) ∙ c .before .before .number .given .1 in
     rw (c .refused .ensures .0, c .refused .ensures .1) (both-demands (a .table .now) (a .log .now) (a .scratch .now) (a .page .now)
     (answers-refused (a .table .now) (a .log .now) (a .scratch .now) refused) (runs-refused (a .table .now) (a .log .now) (a .scratch .now) refused (a .page .now)))
@@ -16,7 +17,8 @@ returns c =
 returns-2 : tie.Need-returns-2
 returns-2 c =
     let at-table = c .before .before .before .before .before .before in
-    let a = at-table .before .before .before .before .before .before .before .before .before .before .before .before .args in
+    let start = at-table .before .before .before .before .before .before .before .before .before .before .before .before in
+    let a = start .args in
     both-demands (a .table .now) (a .log .now) (a .scratch .now) (a .page .now) (at-table .answer-and-run-table .ensures .0) (at-table .answer-and-run-table .ensures .1)
 
 pub answer-and-run-spec : {M : Type 1} → statement M

@@ -8,26 +8,30 @@ use Rattle.reach.proofs.answer_and_run_table.Tie as tie
 returns : tie.Need-returns
 returns c =
     let at-records = c .before .before in
-    let holds = at-records .before .before .before .before .before .pre in
+    let start = at-records .before .before .before .before .before in
+    let holds = start .pre in
     let is = at-records .records-in .ensures in
     rw (c .refused .ensures .0, c .refused .ensures .1) (answers-short holds is (c .before .if1 .taken), runs-short holds is (c .before .if1 .taken))
 
 figure-requires : tie.Need-figure-requires
 figure-requires c κs =
     let at-count = c .before .before .before .before in
-    rounds-few (rw (at-count .count .given .1) at (at-count .before .before .before .before .before .before .fill-log .ensures))
+    let at-fill = at-count .before .before .before .before .before .before in
+    rounds-few (rw (at-count .count .given .1) at (at-fill .fill-log .ensures))
 
 answer-and-run-limit-requires : tie.Need-answer-and-run-limit-requires
 answer-and-run-limit-requires c κs =
     let at-count = c .before .before .before .before .before in
-    let left = rw (at-count .count .given .1) at (at-count .before .before .before .before .before .before .fill-log .ensures) in
+    let at-fill = at-count .before .before .before .before .before .before in
+    let left = rw (at-count .count .given .1) at (at-fill .fill-log .ensures) in
     rw (c .figure .ensures) (left .settled)
 
 returns-2 : tie.Need-returns-2
 returns-2 c =
     let at-fill = c .before .before .before .before .before .before .before in
     let at-test = at-fill .before .before .before in
-    let holds = at-test .before .before .before .before .before .before .pre in
+    let start = at-test .before .before .before .before .before .before in
+    let holds = start .pre in
     let is = at-test .before .records-in .ensures in
     let left = rw (c .before .enum-told .given .1) at (at-fill .fill-log .ensures) in
     rw (c .refused2 .ensures .0, c .refused2 .ensures .1) (answers-full holds is (at-test .if1 .left) left, runs-full holds is (at-test .if1 .left) left)
@@ -38,7 +42,8 @@ returns-3 c =
     let at-count = at-limit .before .before .before .before .before .before in
     let at-fill = at-count .before .before .before .before .before .before in
     let at-test = at-fill .before .before .before in
-    let holds = at-test .before .before .before .before .before .before .pre in
+    let start = at-test .before .before .before .before .before .before in
+    let holds = start .pre in
     let is = at-test .before .records-in .ensures in
     let left = rw (at-count .count .given .1) at (at-fill .fill-log .ensures) in
     let both = at-limit .answer-and-run-limit .ensures in

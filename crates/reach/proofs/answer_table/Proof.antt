@@ -8,19 +8,22 @@ use Rattle.reach.proofs.answer_table.Tie as tie
 figure-requires : tie.Need-figure-requires
 figure-requires c κs =
     let at-count = c .before .before .before in
-    rounds-few (rw (at-count .count .given .1) at (at-count .before .before .before .before .before .before .fill-log .ensures))
+    let at-fill = at-count .before .before .before .before .before .before in
+    rounds-few (rw (at-count .count .given .1) at (at-fill .fill-log .ensures))
 
 answer-limit-requires : tie.Need-answer-limit-requires
 answer-limit-requires c κs =
     let at-count = c .before .before .before .before in
-    let left = rw (at-count .count .given .1) at (at-count .before .before .before .before .before .before .fill-log .ensures) in
+    let at-fill = at-count .before .before .before .before .before .before in
+    let left = rw (at-count .count .given .1) at (at-fill .fill-log .ensures) in
     rw (c .figure .ensures) (left .settled)
 
 returns-2 : tie.Need-returns-2
 returns-2 c =
     let at-fill = c .before .before .before .before .before .before in
     let at-records = at-fill .before .before .before .before in
-    answers-full (at-records .before .before .before .before .pre) (at-records .records-in .ensures) (at-fill .before .before .before .if1 .left) (rw (c .enum-told .given .1) at (at-fill .fill-log .ensures))
+    let start = at-records .before .before .before .before in
+    answers-full (start .pre) (at-records .records-in .ensures) (at-fill .before .before .before .if1 .left) (rw (c .enum-told .given .1) at (at-fill .fill-log .ensures))
 
 returns-3 : tie.Need-returns-3
 returns-3 c =
@@ -28,7 +31,8 @@ returns-3 c =
     let at-count = at-limit .before .before .before .before .before in
     let at-fill = at-count .before .before .before .before .before .before in
     let at-records = at-fill .before .before .before .before in
-    answers-limit (at-records .before .before .before .before .pre) (at-records .records-in .ensures) (at-fill .before .before .before .if1 .left)
+    let start = at-records .before .before .before .before in
+    answers-limit (start .pre) (at-records .records-in .ensures) (at-fill .before .before .before .if1 .left)
     (rw (at-count .count .given .1) at (at-fill .fill-log .ensures)) (at-limit .answer-limit .ensures .0) (at-limit .answer-limit .ensures .1)
 
 pub answer-table-spec : {M : Type 1} → statement M

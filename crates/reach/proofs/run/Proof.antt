@@ -7,7 +7,8 @@ use Rattle.reach.proofs.run.Tie as tie
 returns : tie.Need-returns
 returns c =
     let at-both = c .before .before .before .before .before .before in
-    let a = at-both .before .before .before .before .before .before .before .before .args in
+    let start = at-both .before .before .before .before .before .before .before .before in
+    let a = start .args in
     run-demands (a .table .now) (a .log .now) (a .scratch .now) (a .page .now) (at-both .answer-and-run .ensures .1 .0)
 
 pub run-spec : {M : Type 1} → statement M

@@ -23,7 +23,8 @@ write-initial-requires c κs =
 returns : tie.Need-returns
 returns c =
     let at-write = c .before .before .before .before .before in
-    initial-full _ _ _ _ (at-write .before .before .before .before .before .before .pre) (at-write .write-initial .ensures) (c .if1 .taken)
+    let start = at-write .before .before .before .before .before .before in
+    initial-full _ _ _ _ (start .pre) (at-write .write-initial .ensures) (c .if1 .taken)
 
 add-rounds-requires : tie.Need-add-rounds-requires
 add-rounds-requires c κs =

@@ -17,6 +17,13 @@ Inv-loop table t log₀ scratch₀ lo base n k fresh number first round at₀ lo
 abbrev μ-loop : tie.MeasureT-loop
 μ-loop table t log₀ scratch₀ lo base n k fresh number first round at₀ log scratch at = t .rules - at .position
 
+abbrev entry : tie.After-append Inv-loop μ-loop → tie.Start Inv-loop μ-loop
+entry c = c .before .before .before .before .before .before
+
+-- the rings are grown, from where the active rules are set
+abbrev append : tie.After-set-active Inv-loop μ-loop → tie.After-append Inv-loop μ-loop
+append c = c .before .before .before .before .before .before
+
 loop-holds : tie.Need-loop-holds Inv-loop μ-loop
 loop-holds c =
     let at-index = c .before .before in
@@ -24,7 +31,7 @@ loop-holds c =
     let at-active = at-next .before .before .before .before in
     let at-letters = at-active .before .before in
     let at-append = at-letters .before .before .before .before in
-    let begins = at-append .before .before .before .before .before .before .pre in
+    let begins = entry at-append .pre in
     let rings = at-append .append .ensures in
     let letters = at-letters .fresh-letters .ensures in
     let active = at-active .set-active .ensures in
@@ -34,28 +41,28 @@ loop-holds c =
 
 add-number : tie.Need-add-number Inv-loop μ-loop
 add-number c =
-    let entry = c .before .before .before .before .before .before .before .before .before .before in
-    let begins = entry .pre in omega (arith, begins .late, begins .fits, begins .room)
+    let start = c .before .before .before .before .before .before .before .before .before .before in
+    let begins = start .pre in omega (arith, begins .late, begins .fits, begins .room)
 
 set-active-requires : tie.Need-set-active-requires Inv-loop μ-loop
 set-active-requires c κs =
     let at-append = c .before .before .before .before .before in
-    let entry = at-append .before .before .before .before .before .before in
-    let modest = table-modest (entry .args .table .now) (entry .args .t) (entry .pre .holds) in
-    (modest .rules, modest .letters, omega (arith, entry .pre .scratch, at-append .append .ensures .0 .size))
+    let start = entry at-append in
+    let modest = table-modest (start .args .table .now) (start .args .t) (start .pre .holds) in
+    (modest .rules, modest .letters, omega (arith, start .pre .scratch, at-append .append .ensures .0 .size))
 
 next-active-requires : tie.Need-next-active-requires Inv-loop μ-loop
 next-active-requires c κs =
     let at-active = c .before .before .before in
-    let at-append = at-active .before .before .before .before .before .before in
-    omega (arith, at-append .before .before .before .before .before .before .pre .scratch, at-append .append .ensures .0 .size, at-active .set-active .ensures .kept .size)
+    let at-append = append at-active in
+    omega (arith, entry at-append .pre .scratch, at-append .append .ensures .0 .size, at-active .set-active .ensures .kept .size)
 
 index-keys-requires : tie.Need-index-keys-requires Inv-loop μ-loop
 index-keys-requires c κs =
     let at-active = c .before .before .before .before .before .before in
     let at-letters = at-active .before .before in
     let at-append = at-letters .before .before .before .before in
-    may-index (at-append .before .before .before .before .before .before .pre) (at-append .append .ensures .0) (at-letters .fresh-letters .ensures) (at-active .set-active .ensures)
+    may-index (entry at-append .pre) (at-append .append .ensures .0) (at-letters .fresh-letters .ensures) (at-active .set-active .ensures)
 
 add-head-requires : tie.Need-add-head-requires Inv-loop μ-loop
 add-head-requires c κs =
@@ -82,14 +89,14 @@ same-length-2 c =
     let at-index = c .before .before .before .before .before .before in
     let at-active = at-index .before .before .before .before .before .before .before in
     c .before .before .before .loop .inv .scratch-length ∙ at-index .index-keys .ensures .outside .size ∙ at-active .set-active .ensures .kept .size
-    ∙ at-active .before .before .before .before .before .before .append .ensures .0 .size
+    ∙ append at-active .append .ensures .0 .size
 
 returns : tie.Need-returns Inv-loop μ-loop
 returns c =
     let at-index = c .before .before .before .before .before .before in
     let at-active = at-index .before .before .before .before .before .before .before in
-    let at-append = at-active .before .before .before .before .before .before in
-    round-ends (at-append .before .before .before .before .before .before .pre) (heads-end (c .before .before .before .loop .inv) (c .before .before .goes-on .ensures) (c .before .if1 .left))
+    let at-append = append at-active in
+    round-ends (entry at-append .pre) (heads-end (c .before .before .before .loop .inv) (c .before .before .goes-on .ensures) (c .before .if1 .left))
     (at-index .index-keys .ensures .outside .size ∙ at-active .set-active .ensures .kept .size ∙ at-append .append .ensures .0 .size) (c .told .ensures)
 
 pub add-round-spec : {M : Type 1} → statement M
