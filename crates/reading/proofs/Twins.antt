@@ -13,12 +13,13 @@ use borrow.Author.Tests.{eq-eqb, leb-true, ne-eqb}
 use Rattle.model.proofs.Tests.{and-both, and-left, and-right, by-test}
 use Rattle.model.specs.Lists.{anyOf}
 use Rattle.model.specs.Records.{numberAt}
-use Rattle.model.specs.Tables.{bodies, bodyLength, count, sameBytes}
+use Rattle.model.specs.Tables.{bodyLength, isTwin, sameBytes}
 use Rattle.numbers.proofs.NumberBytes.{AllBytes, number-test}
 use Rattle.table.proofs.Cursors.{kind-place}
 use Rattle.table.proofs.Places.{bodies-below}
-use Rattle.table.specs.Places.{Passed, bodiesAt, bodyAt, countsAt, itemsBefore, offset}
+use Rattle.table.specs.Places.{bodiesAt, bodyAt, countsAt, itemsBefore, offset}
 use Rattle.table.specs.declared.Cursor.{Cursor}
+use Rattle.reading.specs.Marks.{ItemAt, hasTwins}
 
 -- ---- two parts byte by byte
 pub same-more : (x y : List ℕ) (j : ℕ) → j < length x → j < length y → sameBytes (take j x) (take j y) ≡ true → getD x j 0 ≡ getD y j 0 → sameBytes (take (j + 1) x) (take (j + 1) y) ≡ true
@@ -87,19 +88,14 @@ module _ {bytes : List ℕ} {size count at place left : ℕ} (g : Left bytes siz
   left-end h = let e : left ≡ 0 = omega arith in g .same ∙ rw e
 
 -- what check 8 needs of an item at the cursor: the items of its kind stand right before it
-pub record Seen (bytes : List ℕ) (c : Cursor) (k : ℕ) : Type 0 where
+pub record Seen (bytes : List ℕ) (c : Cursor) (k : ℕ) (body : List ℕ) : Type 0 where
   pub room : countsAt c k * (1 + bodyLength k) ≤ c .at
-  pub inside : c .at + 1 + bodyLength k ≤ length bytes
-  pub same : anyOf (sameBytes (bodyAt bytes (bodyLength k) (c .at))) (bodiesAt bytes (bodyLength k) (c .at - countsAt c k * (1 + bodyLength k)) (countsAt c k)) ≡ anyOf (sameBytes (bodyAt bytes (bodyLength k) (c .at))) (bodies k (itemsBefore bytes c))
+  pub same : anyOf (sameBytes (bodyAt bytes (bodyLength k) (c .at))) (bodiesAt bytes (bodyLength k) (c .at - countsAt c k * (1 + bodyLength k)) (countsAt c k)) ≡ isTwin (itemsBefore bytes c) k body
 
-pub seen-of : (bytes : List ℕ) (c : Cursor) (kind k : ℕ) → kind ≡ k → k < 8 → Passed bytes c → c .last ≤ kind → c .at + 1 + bodyLength kind ≤ length bytes → Seen bytes c k
-seen-of bytes c kind k e h p l w =
-    let place = kind-place bytes c p k h (rw e at l) in
+pub seen-of : {bytes seen : List ℕ} {c : Cursor} {k : ℕ} {body : List ℕ} → ItemAt bytes seen c k body → hasTwins k ≡ true → Seen bytes c k body
+unfolding isTwin
+seen-of {bytes} {seen} {c} {k} {body} h t =
+    let small : k ≤ 5 = leb-true k 5 (and-right (leb 3 k) (leb k 5) t) in
+    let place = kind-place bytes c (h .passed) k (omega arith) (h .turn) in
     let first : c .at - countsAt c k * (1 + bodyLength k) ≡ offset (countsAt c) k = omega arith in
-    record { room = omega arith; inside = rw e at w; same = rw (first, bodies-below bytes (countsAt c) k 8 h) refl }
-
--- kinds without check 8
-pub no-twin : (k : ℕ) (b : Bool) → (k ≡ 3 → ⊥) → (k ≡ 4 → ⊥) → (k ≡ 5 → ⊥) → (leb 3 k && leb k 5 && b) ≡ false
-no-twin k b n3 n4 n5 = by-test (leb 3 k)
-    (λ y. by-test (leb k 5) (λ z. absurd (omega (arith, leb-true 3 k y, leb-true k 5 z))) (λ z. rw (y, z)))
-    (λ y. rw y)
+    record { room = omega arith; same = rw (first, ← (bodies-below bytes (countsAt c) k 8 (omega arith)), ← (h .same), t) refl }

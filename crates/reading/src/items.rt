@@ -11,7 +11,11 @@ use model::TURN;
 use model::TWIN;
 use model::VALUE;
 use numbers::eight_at;
+use numbers::four_at;
 use numbers::wide;
+use numbers::wide_four;
+use states::sets::contains;
+use states::sets::insert;
 use table::Cursor;
 use table::RULE_BODY;
 use table::Table;
@@ -24,8 +28,12 @@ ghost use lib.Dec.{eqb, leb};
 ghost use lib.ListN.{length, take, drop};
 ghost use Rattle.model.specs.Lists.{anyOf};
 ghost use Rattle.model.specs.Tables.{bodyLength, ceiling, isStranger, sameBytes, isTwin, refusal};
-ghost use Rattle.table.specs.Places.{bodyAt, bodiesAt, countsAt, itemsBefore, Modest, advanced, Whole, Passed};
+ghost use Rattle.table.specs.Places.{bodyAt, bodiesAt, countsAt, itemsBefore, Modest, advanced, Passed};
 ghost use Rattle.table.specs.Reading.{outOfTurn, bodyRefusal};
+ghost use Rattle.reading.specs.Marks.{filterLength, hasTwins, markOf, withMark, Marked, ItemAt, ItemChecked};
+
+// How many bytes the filter of check 8 has.
+pub const FILTER: usize = 512;
 
 // ---- kinds
 // How many bytes follow the kind.
@@ -122,30 +130,48 @@ pub fn is_seen(bytes: &[u8], size: usize, count: usize, at: usize) -> bool
     false
 }
 
-// Check 8: the body stands before in kinds 3, 4, 5.
-pub fn is_twin(bytes: &[u8], c: Cursor, kind: u8) -> bool
-    requires { ⌜ Passed (now bytes) c × (c .last ≤ kind) × (c .at + 1 + bodyLength kind ≤ length (now bytes)) ⌝ }
-    ensures { λ r. ⌜ r ≡ isTwin (itemsBefore (now (bytes .entry)) c) kind (bodyAt (now (bytes .entry)) (bodyLength kind) (c .at)) ⌝ }
+// Check 8 asks of this kind.
+pub fn has_twins(kind: u8) -> bool
+    ensures { λ r. ⌜ r ≡ hasTwins kind ⌝ }
 {
-    let at = c.at;
-    let t = c.table;
-    if kind == 3 {
-        return is_seen(bytes, RULE_BODY, t.rules, at);
+    (3 <= kind) & (kind <= 5)
+}
+
+// The mark of a body: equal bodies have equal marks, and others seldom.
+pub fn mark_of(body: &[u8]) -> usize
+    requires { ⌜ 4 ≤ length (now body) ⌝ }
+    ensures { λ r. ⌜ (r ≡ markOf (now (body .entry))) × (r < 8 * filterLength) ⌝ }
+{
+    if body.len() < 8 {
+        return wide_four(four_at(body, 0)) % 4021;
     }
-    if kind == 4 {
-        return is_seen(bytes, 9, t.transitions, at);
+    let first = eight_at(body, 0) % 4021;
+    let last = eight_at(body, body.len() - 8) % 4001;
+    ((first + last) as usize) % (8 * FILTER)
+}
+
+// Check 8: the body stands before in kinds 3, 4, 5. It is looked for only where its bit in the filter was set, and the bit is set.
+pub fn is_twin(bytes: &[u8], seen: &mut [u8], c: Cursor, kind: u8, body: &[u8]) -> bool
+    requires { ⌜ ItemAt (now bytes) (now seen) c kind (now body) ⌝ }
+    ensures { λ r. ⌜ (r ≡ isTwin (itemsBefore (now (bytes .entry)) c) kind (now (body .entry))) × (now (seen .exit) ≡ withMark (now (seen .entry)) kind (now (body .entry))) ⌝ }
+{
+    if !has_twins(kind) {
+        return false;
     }
-    if kind == 5 {
-        return is_seen(bytes, 4, t.accepting, at);
+    let mark = mark_of(body);
+    let was_set = contains(seen, mark);
+    insert(seen, mark);
+    if was_set {
+        return is_seen(bytes, body_length(kind), count_of(c, kind), c.at);
     }
     false
 }
 
 // ---- one item
 // The checks 5 to 8, of an item that is whole: the number of the first that it does not pass, or 0.
-pub fn check_body(bytes: &[u8], c: Cursor, kind: u8, body: &[u8]) -> u8
-    requires { ⌜ Passed (now bytes) c × (c .last ≤ kind) × (c .at + 1 + bodyLength kind ≤ length (now bytes)) × (now body ≡ bodyAt (now bytes) (bodyLength kind) (c .at)) × Whole (now bytes) (c .table) kind (now body) ⌝ }
-    ensures { λ r. ⌜ r ≡ bodyRefusal (itemsBefore (now (bytes .entry)) c) kind (now (body .entry)) ⌝ }
+pub fn check_body(bytes: &[u8], seen: &mut [u8], c: Cursor, kind: u8, body: &[u8]) -> u8
+    requires { ⌜ ItemAt (now bytes) (now seen) c kind (now body) ⌝ }
+    ensures { λ r. ⌜ ItemChecked bodyRefusal (itemsBefore (now (bytes .entry)) c) kind (now (body .entry)) r (now (seen .entry)) (now (seen .exit)) ⌝ }
 {
     let t = c.table;
     if value_fits(bytes, t, kind, body) {} else {
@@ -157,7 +183,7 @@ pub fn check_body(bytes: &[u8], c: Cursor, kind: u8, body: &[u8]) -> u8
     if is_reentry(bytes, t, kind, body) {
         return REENTRY;
     }
-    if is_twin(bytes, c, kind) {
+    if is_twin(bytes, seen, c, kind, body) {
         return TWIN;
     }
     0
@@ -183,9 +209,9 @@ pub fn early_refusal(c: Cursor, kind: u8, left: usize) -> u8
 }
 
 // The number of the first check that the item at the cursor does not pass, in the order 2, 3, 4, 1, 5, 6, 7, 8, or 0.
-pub fn check_item(bytes: &[u8], c: Cursor, kind: u8) -> u8
-    requires { ⌜ Passed (now bytes) c × (c .at < length (now bytes)) ⌝ }
-    ensures { λ r. ⌜ r ≡ refusal (itemsBefore (now (bytes .entry)) c) kind (bodyAt (now (bytes .entry)) (bodyLength kind) (c .at)) ⌝ }
+pub fn check_item(bytes: &[u8], seen: &mut [u8], c: Cursor, kind: u8) -> u8
+    requires { ⌜ Passed (now bytes) c × (c .at < length (now bytes)) × Marked (itemsBefore (now bytes) c) (now seen) ⌝ }
+    ensures { λ r. ⌜ ItemChecked refusal (itemsBefore (now (bytes .entry)) c) kind (bodyAt (now (bytes .entry)) (bodyLength kind) (c .at)) r (now (seen .entry)) (now (seen .exit)) ⌝ }
 {
     let at = c.at;
     if is_stranger(kind) {
@@ -195,7 +221,7 @@ pub fn check_item(bytes: &[u8], c: Cursor, kind: u8) -> u8
     if number != 0 {
         return number;
     }
-    check_body(bytes, c, kind, body_at(bytes, at, body_length(kind)))
+    check_body(bytes, seen, c, kind, body_at(bytes, at, body_length(kind)))
 }
 
 // 1 where the kinds are equal, else 0.

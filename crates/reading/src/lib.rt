@@ -2,6 +2,7 @@
 mod checks;
 mod items;
 
+use crate::items::FILTER;
 use crate::items::advance;
 use crate::items::body_length;
 use crate::items::check_item;
@@ -13,13 +14,14 @@ use table::Step;
 use table::Table;
 ghost use mathlib.Core.Path.{_≡_};
 ghost use Rattle.model.specs.Tables as Tables;
-ghost use Rattle.table.specs.Places.{Passed};
-ghost use Rattle.table.specs.Reading.{parsed, Stepped};
+ghost use Rattle.table.specs.Places.{itemsBefore, Passed};
+ghost use Rattle.table.specs.Reading.{parsed};
+ghost use Rattle.reading.specs.Marks.{Marked, ItemStepped};
 
 // The item at the cursor: what comes behind it, or the end of the reading.
-fn next_item(bytes: &[u8], c: Cursor) -> Step
-    requires { ⌜ Passed (now bytes) c ⌝ }
-    ensures { λ r. ⌜ Stepped (now (bytes .entry)) c r ⌝ }
+fn next_item(bytes: &[u8], seen: &mut [u8], c: Cursor) -> Step
+    requires { ⌜ Passed (now bytes) c × Marked (itemsBefore (now bytes) c) (now seen) ⌝ }
+    ensures { λ r. ⌜ ItemStepped (now (bytes .entry)) c r (now (seen .exit)) ⌝ }
 {
     let at = c.at;
     if bytes.len() <= at {
@@ -29,7 +31,7 @@ fn next_item(bytes: &[u8], c: Cursor) -> Step
         });
     }
     let kind = bytes[at];
-    let number = check_item(bytes, c, kind);
+    let number = check_item(bytes, seen, c, kind);
     if number != 0 {
         return Step::Done(Parsed::Refused { number, place: at });
     }
@@ -57,8 +59,9 @@ pub fn read(bytes: &[u8]) -> Parsed
         starts: 0,
         table: Table::empty(),
     };
+    let mut seen = [0u8; FILTER];
     loop {
-        match next_item(bytes, c) {
+        match next_item(bytes, &mut seen, c) {
             Step::Next(n) => {
                 c = n;
             }
