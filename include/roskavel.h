@@ -207,7 +207,7 @@ static inline size_t roskavel_scratch_bytes(size_t log_bytes)
  *          accepts what the table's automaton accepts.
  * scratch  work memory, at least roskavel_scratch_bytes(log_length) bytes.
  */
-#define ROSKAVEL_ANSWER_STACK 3432
+#define ROSKAVEL_ANSWER_STACK 3440
 ROSKAVEL_READS(1, 2) ROSKAVEL_WRITES(3, 4) ROSKAVEL_WRITES(5, 6) ROSKAVEL_NONNULL(7)
 void roskavel_answer(const uint8_t *ROSKAVEL_RESTRICT table, size_t table_length,
                      uint8_t *ROSKAVEL_RESTRICT log, size_t log_length,
@@ -220,7 +220,7 @@ void roskavel_answer(const uint8_t *ROSKAVEL_RESTRICT table, size_t table_length
  * log, scratch  as in roskavel_answer; the log holds its records after 16 and 11 too.
  * page          holds the numbers of the run's rules, then zeros; unchanged if refused.
  */
-#define ROSKAVEL_RUN_STACK 6712
+#define ROSKAVEL_RUN_STACK 6720
 ROSKAVEL_READS(1, 2) ROSKAVEL_WRITES(3, 4) ROSKAVEL_WRITES(5, 6) ROSKAVEL_WRITES(7, 8)
 ROSKAVEL_NONNULL(9)
 void roskavel_run(const uint8_t *ROSKAVEL_RESTRICT table, size_t table_length,
@@ -294,7 +294,7 @@ typedef struct roskavel_planned {
  * rule of the table is looked at for 19, whether the run has it or not. Windows past the count, and
  * what is given for processes or rules that the table lacks, are not looked at.
  */
-#define ROSKAVEL_PLAN_STACK 1712
+#define ROSKAVEL_PLAN_STACK 1904
 ROSKAVEL_READS(1, 2) ROSKAVEL_READS(3, 4) ROSKAVEL_READS(6, 7) ROSKAVEL_WRITES(9, 10)
 roskavel_planned roskavel_plan(const uint8_t *ROSKAVEL_RESTRICT table, size_t table_length,
                                const uint16_t *ROSKAVEL_RESTRICT run, size_t run_length,

@@ -1,4 +1,4 @@
--- What is passed over on the way to a step's first minute: for one process, for the processes of a step, and from minute to minute.
+-- What is passed over on the way to a step's first minute: for the processes of a step, and from minute to minute.
 use mathlib.Core.Path.{_≡_, refl, sym, ap, _∙_, subst}
 use mathlib.Core.Bool.{Bool, true, false, true≢false}
 use mathlib.Core.List.{List, []}
@@ -6,66 +6,20 @@ use mathlib.Core.Option.{Option, none, some}
 use Prim.Native.Nat.{ℕ, zero, suc, _+_, _-_, _/_, _%_, _^_, _≤_, _<_, min}
 use native.Mathlib.Nat.{div-one, not-suc-le-zero}
 use native.Mathlib.Omega.{arith}
-use lib.Dec.{eqb, ltb, leb}
+use lib.Dec.{eqb, ltb}
 use lib.IntN.{ℤ, pos}
 use lib.ListN.{getD, take}
-use borrow.Author.Tests.{leb-true, leb-false, ltb-true, ltb-false}
+use borrow.Author.Tests.{ltb-true, ltb-false}
 use Rattle.plan_model.specs.declared.Window.{Window}
 use Rattle.model.specs.Groups.{Process, p0, p1, p2, p3, has, processesOf, numberOf}
-use Rattle.model.specs.Lists.{anyOf, isMissing, valueOr}
-use Rattle.plan_model.specs.Hours.{PlannedStep, delay, fits, inWindow, isOpen, longestStep, minuteOfWeek, neverFits, weekMinutes, weekOf, windowPlaces, windowsOf}
+use Rattle.model.specs.Lists.{isMissing, valueOr}
+use Rattle.plan_model.specs.Hours.{PlannedStep, delay, fits, isOpen, minuteOfWeek, neverFits, weekMinutes, weekOf, windowPlaces, windowsOf}
 use Rattle.model.proofs.Tests.{by-test}
 use Rattle.plan_model.proofs.Weeks.{delay-found, delay-in-week, delay-none, delay-some, fits-not, fits-of, fits-same}
 use Rattle.table.specs.Reading.{processAt}
 use Rattle.table.proofs.Layouts.{number-at}
-use Rattle.hours.specs.Searching.{OpenUntil, Passes, ProcessPasses, ShutFor, Skips, waited}
+use Rattle.hours.specs.Searching.{Passes, ProcessPasses, Skips, waited}
 use Rattle.hours.specs.declared.Waited.{Waited}
-
--- two minutes of the same minute of the week
-open-same : (ws : List Window) (j k : ℕ) → j % weekMinutes ≡ k % weekMinutes → isOpen ws (pos j) ≡ isOpen ws (pos k)
-open-same ws j k e = ap (λ (m : ℕ). anyOf (inWindow m) ws) e
-
--- ---- one process
--- it stays open for the first `run` minutes from minute m on
-pub record Staying (ws : List Window) (m run : ℕ) : Type 0 where
-  pub short : run ≤ longestStep + weekMinutes
-  pub opened : (k : ℕ) → k < run → isOpen ws (pos (m + k)) ≡ true
-
-module _ (ws : List Window) (length m : ℕ) (l : length ≤ longestStep) where
-  pub staying-start : Staying ws m 0
-  staying-start = record { short = omega arith; opened = λ k a. absurd (not-suc-le-zero a) }
-
-  pub staying-turn : (run until : ℕ) → run < length → Staying ws m run → OpenUntil ws ((m + run) % weekMinutes) until
-      → Staying ws m (run + (until - (m + run) % weekMinutes))
-  staying-turn run until h s o =
-      let at = (m + run) % weekMinutes in
-      record {
-        short = omega (arith, o .within);
-        opened = λ k a.
-            by-test (ltb k run)
-            (λ y. s .opened k (ltb-true k run y))
-            (λ y. let b : run ≤ k = ltb-false k run y in
-            open-same ws (m + k) (at + (k - run)) (omega arith) ∙ o .opened (at + (k - run)) (omega arith) (omega (arith, o .after)));
-      }
-
-  pub staying-end : (run : ℕ) → length ≤ run → Staying ws m run → Skips ws length m 0
-  staying-end run h s = record { short = omega arith; stays = λ e k a. s .opened k (omega arith); misses = λ e a. absurd (not-suc-le-zero a) }
-
-  -- it is shut at the minute `run`
-  pub staying-stop : (run until gap : ℕ) → run < length → OpenUntil ws ((m + run) % weekMinutes) until → until ≡ (m + run) % weekMinutes
-      → ShutFor ws ((m + run) % weekMinutes) gap → Skips ws length m (run + gap)
-  staying-stop run until gap h o e g =
-      let at = (m + run) % weekMinutes in
-      record {
-        short = omega (arith, g .within);
-        stays = λ z. absurd (let a = g .some-minute in omega arith);
-        misses = λ d a.
-            by-test (leb d run)
-            (λ y. let b : d ≤ run = leb-true d run y in
-            record { minute = run - d; within = omega arith; shut = open-same ws (m + d + (run - d)) at (omega arith) ∙ o .shut e })
-            (λ y. let b : run < d = leb-false d run y in
-            record { minute = 0; within = omega arith; shut = open-same ws (m + d + 0) (at + (d - run)) (omega arith) ∙ g .shut (d - run) (omega arith) });
-      }
 
 -- ---- the processes of a step
 -- the bit of process i

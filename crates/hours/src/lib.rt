@@ -1,8 +1,9 @@
-// Request 2.7: when the processes of a step are open for its whole length. The windows are searched as they stand, in any order; a search passes from one
-// opening to the next, never minute by minute.
+// Request 2.7: when the processes of a step are open for its whole length. The windows stay as they stand, in any order; before the first step it is noted of
+// each for how long the process stays open from its opening on. A step then asks each window once, and passes over all that are too short for it.
 use minutes::minute_of_week;
 use numbers::wide;
 use numbers::wide_two;
+use plan_model::LONGEST_STEP;
 use plan_model::WEEK;
 use plan_model::WINDOW_PLACES;
 use plan_model::Window;
@@ -15,9 +16,12 @@ ghost use lib.IntN.{pos};
 ghost use lib.ListN.{take};
 ghost use Rattle.model.specs.Groups.{has, processesOf};
 ghost use Rattle.model.specs.Lists.{valueOr};
-ghost use Rattle.plan_model.specs.Hours.{delay, isOpen, longestStep, neverFits, weekMinutes, weekOf, windowPlaces};
+ghost use Rattle.plan_model.specs.Hours.{delay, isOpen, longestStep, neverFits, weekMinutes, weekOf, windowAt, windowPlaces};
 ghost use Rattle.table.specs.Reading.{processAt};
-ghost use Rattle.hours.specs.Searching.{OpenUntil, Passes, ProcessPasses, ShutFor, Skips, stepBy, untilOpening, waited};
+ghost use Rattle.hours.specs.Searching.{OpenUntil, Passes, ProcessPasses, ProcessStays, Searched, Skips, Stays, WeekStays, stepBy, untilFitting, untilOpening, waited};
+
+// The last minute, counted from an opening, at which a step ends that begins in the week after it.
+const FARTHEST: usize = WEEK + LONGEST_STEP as usize;
 
 // How long a step waits until its processes are open for its whole length.
 pub enum Waited {
@@ -25,7 +29,7 @@ pub enum Waited {
     Never,
 }
 
-// ---- one process, from minute m of the week on
+// ---- how long a process stays open
 // The closing of a window that holds minute m, if it is later than the latest so far.
 fn later_closing(w: Window, m: usize, latest: usize) -> usize
     ensures { λ r. ⌜ r ≡ cond (leb (w .opens) m && ltb latest (w .closes)) (w .closes) latest ⌝ }
@@ -59,18 +63,6 @@ fn open_until(windows: [Window; WINDOW_PLACES], count: usize, m: usize) -> usize
     latest
 }
 
-// The minutes from minute m to the next opening of a window.
-fn until_opening(w: Window, m: usize) -> usize
-    requires { ⌜ m < weekMinutes ⌝ }
-    ensures { λ r. ⌜ r ≡ untilOpening w m ⌝ }
-{
-    let opens = wide_two(w.opens);
-    if m < opens {
-        return opens - m;
-    }
-    opens + WEEK - m
-}
-
 fn smaller_of(a: usize, b: usize) -> usize
     ensures { λ r. ⌜ r ≡ min a b ⌝ }
 {
@@ -80,45 +72,42 @@ fn smaller_of(a: usize, b: usize) -> usize
     b
 }
 
-// The minutes up to the next opening, of a process that is shut at minute m.
-fn shut_for(windows: [Window; WINDOW_PLACES], count: usize, m: usize) -> usize
-    requires { ⌜ (count ≤ windowPlaces) × (m < weekMinutes) × (isOpen (take count windows) (pos m) ≡ false) ⌝ }
-    ensures { λ r. ⌜ ShutFor (take count windows) m r ⌝ }
+// How long the process stays open from the opening of window k on, over windows that touch or overlap and over Sunday midnight; not at all where the window
+// holds no minute. It is not asked further than a step may last that begins in the week after the opening.
+fn stay_from(windows: [Window; WINDOW_PLACES], count: usize, k: usize) -> usize
+    requires { ⌜ (count ≤ windowPlaces) × (k < count) ⌝ }
+    ensures { λ r. ⌜ Stays (take count windows) (windowAt windows k) r ⌝ }
 {
-    let mut least = WEEK;
-    let mut k = 0;
-    while k < count {
-        let w = windows[k];
-        least = smaller_of(least, until_opening(w, m));
-        k += 1;
+    let w = windows[k];
+    let opens = wide_two(w.opens);
+    let closes = smaller_of(wide_two(w.closes), WEEK);
+    if closes <= opens {
+        return 0;
     }
-    least
-}
-
-// How many minutes are passed over: none where the process stays open for the whole length. Else it is shut in some minute of every step that begins before its
-// next opening.
-fn skip_at(windows: [Window; WINDOW_PLACES], count: usize, length: usize, m: usize) -> usize
-    requires { ⌜ (count ≤ windowPlaces) × (length ≤ longestStep) × (m < weekMinutes) ⌝ }
-    ensures { λ r. ⌜ Skips (take count windows) length m r ⌝ }
-{
-    let mut run = 0;
-    while run < length {
-        let at = (m + run) % WEEK;
+    let mut run = closes - opens;
+    while run < FARTHEST {
+        let at = (opens + run) % WEEK;
         let until = open_until(windows, count, at);
         if until == at {
-            return run + shut_for(windows, count, at);
+            return run;
         }
         run += until - at;
     }
-    0
+    run
 }
 
-// ---- the processes of a step
-fn has_process(bits: u8, i: usize) -> bool
-    requires { ⌜ i < 4 ⌝ }
-    ensures { λ r. ⌜ r ≡ has (processesOf bits) (processAt i) ⌝ }
+// The same of each window of a process.
+fn stays_in(windows: [Window; WINDOW_PLACES], count: usize) -> [u16; WINDOW_PLACES]
+    requires { ⌜ count ≤ windowPlaces ⌝ }
+    ensures { λ r. ⌜ ProcessStays windows count r ⌝ }
 {
-    (bits >> i) % 2 == 1
+    let mut stays = [0; WINDOW_PLACES];
+    let mut k = 0;
+    while k < count {
+        stays[k] = stay_from(windows, count, k) as u16;
+        k += 1;
+    }
+    stays
 }
 
 // A process has so many windows, whatever its count says.
@@ -132,21 +121,100 @@ fn window_count(count: u8) -> usize
     WINDOW_PLACES
 }
 
+// The same of each process.
+pub fn stays_of(
+    hours: [[Window; WINDOW_PLACES]; Table::PROCESSES],
+    counts: [u8; Table::PROCESSES],
+) -> [[u16; WINDOW_PLACES]; Table::PROCESSES]
+    ensures { λ r. ⌜ WeekStays hours counts r ⌝ }
+{
+    let mut stays = [[0; WINDOW_PLACES]; Table::PROCESSES];
+    let mut i = 0;
+    while i < Table::PROCESSES {
+        let windows = hours[i];
+        stays[i] = stays_in(windows, window_count(counts[i]));
+        i += 1;
+    }
+    stays
+}
+
+// ---- one process, from minute m of the week on
+// The minutes from minute m to the next opening of a window.
+fn until_opening(w: Window, m: usize) -> usize
+    requires { ⌜ m < weekMinutes ⌝ }
+    ensures { λ r. ⌜ r ≡ untilOpening w m ⌝ }
+{
+    let opens = wide_two(w.opens);
+    if m < opens {
+        return opens - m;
+    }
+    opens + WEEK - m
+}
+
+// The minutes from minute m to the first from which the process stays open for the whole length by this window; a week where it is too short.
+fn until_fitting(w: Window, stay: usize, length: usize, m: usize) -> usize
+    requires { ⌜ (stay < 65536) × (length ≤ longestStep) × (m < weekMinutes) ⌝ }
+    ensures { λ r. ⌜ r ≡ untilFitting w stay length m ⌝ }
+{
+    if stay < length {
+        return WEEK;
+    }
+    let gap = until_opening(w, m);
+    if WEEK + length <= stay + gap {
+        return 0;
+    }
+    gap
+}
+
+// How many minutes are passed over: none where the process stays open for the whole length. Else it is shut in some minute of every step that begins before the
+// next opening of a window that is long enough.
+fn skip_at(
+    windows: [Window; WINDOW_PLACES],
+    stays: [u16; WINDOW_PLACES],
+    count: usize,
+    length: usize,
+    m: usize,
+) -> usize
+    requires { ⌜ (count ≤ windowPlaces) × ProcessStays windows count stays × (0 < length) × (length ≤ longestStep) × (m < weekMinutes) ⌝ }
+    ensures { λ r. ⌜ Skips (take count windows) length m r ⌝ }
+{
+    let mut least = WEEK;
+    let mut k = 0;
+    while k < count {
+        let gap = until_fitting(windows[k], wide_two(stays[k]), length, m);
+        if gap == 0 {
+            return 0;
+        }
+        least = smaller_of(least, gap);
+        k += 1;
+    }
+    least
+}
+
+// ---- the processes of a step
+fn has_process(bits: u8, i: usize) -> bool
+    requires { ⌜ i < 4 ⌝ }
+    ensures { λ r. ⌜ r ≡ has (processesOf bits) (processAt i) ⌝ }
+{
+    (bits >> i) % 2 == 1
+}
+
 // How many minutes are passed over for process i: none where it has no part, or stays open for the whole length.
 fn skip_process(
     hours: [[Window; WINDOW_PLACES]; Table::PROCESSES],
     counts: [u8; Table::PROCESSES],
+    stays: [[u16; WINDOW_PLACES]; Table::PROCESSES],
     i: usize,
     bits: u8,
     length: usize,
     m: usize,
 ) -> usize
-    requires { ⌜ (i < 4) × (length ≤ longestStep) × (m < weekMinutes) ⌝ }
+    requires { ⌜ Searched hours counts stays length × (i < 4) × (m < weekMinutes) ⌝ }
     ensures { λ r. ⌜ ProcessPasses (weekOf hours counts) (processAt i) (stepBy bits length) m r ⌝ }
 {
     if has_process(bits, i) {
         let windows = hours[i];
-        return skip_at(windows, window_count(counts[i]), length, m);
+        return skip_at(windows, stays[i], window_count(counts[i]), length, m);
     }
     0
 }
@@ -155,16 +223,17 @@ fn skip_process(
 fn skip_for(
     hours: [[Window; WINDOW_PLACES]; Table::PROCESSES],
     counts: [u8; Table::PROCESSES],
+    stays: [[u16; WINDOW_PLACES]; Table::PROCESSES],
     bits: u8,
     length: usize,
     m: usize,
 ) -> usize
-    requires { ⌜ (length ≤ longestStep) × (m < weekMinutes) ⌝ }
+    requires { ⌜ Searched hours counts stays length × (m < weekMinutes) ⌝ }
     ensures { λ r. ⌜ Passes (weekOf hours counts) (stepBy bits length) m r ⌝ }
 {
     let mut i = 0;
     while i < Table::PROCESSES {
-        let minutes = skip_process(hours, counts, i, bits, length, m);
+        let minutes = skip_process(hours, counts, stays, i, bits, length, m);
         if minutes != 0 {
             return minutes;
         }
@@ -177,16 +246,17 @@ fn skip_for(
 fn wait_from(
     hours: [[Window; WINDOW_PLACES]; Table::PROCESSES],
     counts: [u8; Table::PROCESSES],
+    stays: [[u16; WINDOW_PLACES]; Table::PROCESSES],
     bits: u8,
     length: usize,
     m: usize,
 ) -> Waited
-    requires { ⌜ (length ≤ longestStep) × (m < weekMinutes) ⌝ }
+    requires { ⌜ Searched hours counts stays length × (m < weekMinutes) ⌝ }
     ensures { λ r. ⌜ r ≡ waited (delay (weekOf hours counts) (stepBy bits length) (pos m)) ⌝ }
 {
     let mut d = 0;
     while d < WEEK {
-        let minutes = skip_for(hours, counts, bits, length, (m + d) % WEEK);
+        let minutes = skip_for(hours, counts, stays, bits, length, (m + d) % WEEK);
         if minutes == 0 {
             return Waited::After(d);
         }
@@ -199,14 +269,15 @@ fn wait_from(
 pub fn delay_of(
     hours: [[Window; WINDOW_PLACES]; Table::PROCESSES],
     counts: [u8; Table::PROCESSES],
+    stays: [[u16; WINDOW_PLACES]; Table::PROCESSES],
     bits: u8,
     length: usize,
     bound: i64,
 ) -> usize
-    requires { ⌜ length ≤ longestStep ⌝ }
+    requires { ⌜ Searched hours counts stays length ⌝ }
     ensures { λ r. ⌜ (r ≡ valueOr 0 (λ (d : ℕ). d) (delay (weekOf hours counts) (stepBy bits length) bound)) × (r < weekMinutes) ⌝ }
 {
-    match wait_from(hours, counts, bits, length, minute_of_week(bound)) {
+    match wait_from(hours, counts, stays, bits, length, minute_of_week(bound)) {
         Waited::After(d) => {
             return d;
         }
@@ -220,13 +291,14 @@ pub fn delay_of(
 pub fn fits_never(
     hours: [[Window; WINDOW_PLACES]; Table::PROCESSES],
     counts: [u8; Table::PROCESSES],
+    stays: [[u16; WINDOW_PLACES]; Table::PROCESSES],
     bits: u8,
     length: usize,
 ) -> bool
-    requires { ⌜ length ≤ longestStep ⌝ }
+    requires { ⌜ Searched hours counts stays length ⌝ }
     ensures { λ r. ⌜ r ≡ neverFits (weekOf hours counts) (stepBy bits length) ⌝ }
 {
-    match wait_from(hours, counts, bits, length, 0) {
+    match wait_from(hours, counts, stays, bits, length, 0) {
         Waited::After(_) => {
             return false;
         }

@@ -20,8 +20,8 @@ use Rattle.model.proofs.Tests.{and-left, and-right, by-test, allBelow-at, allBe
 use Rattle.table.specs.declared.Table.{Table}
 use Rattle.table.specs.Reading.{BitsOf, Holds, ruleIn, systemIn}
 use Rattle.table.proofs.Layouts.{rule-processes}
-use Rattle.hours.specs.Searching.{stepBy}
-use Rattle.plans.specs.Planning.{Judged}
+use Rattle.hours.specs.Searching.{Searched, stepBy}
+use Rattle.plans.specs.Planning.{Judged, Ready}
 
 -- ---- a loop that tests all numbers below n: those below k have passed
 pub record Passing (n : ℕ) (f : ℕ → Bool) (k : ℕ) : Type 0 where
@@ -53,6 +53,19 @@ module _ (rules : ℕ) (lengths : List ℕ) (e : lengthsFit rules lengths ≡ tr
       let each = and-right (leb rules (length lengths)) (allBelow rules (λ n. lengthFits (getD lengths n 0))) e in
       let one = allBelow-at rules (λ n. lengthFits (getD lengths n 0)) each n l in
       rw q (leb-true (getD lengths n 0) longestStep (and-right (leb 1 (getD lengths n 0)) (leb (getD lengths n 0) longestStep) one))
+
+  pub length-some : (n m : ℕ) → n < rules → m ≡ getD lengths n 0 → 0 < m
+  unfolding lengthsFit
+  length-some n m l q =
+      let each = and-right (leb rules (length lengths)) (allBelow rules (λ n. lengthFits (getD lengths n 0))) e in
+      let one = allBelow-at rules (λ n. lengthFits (getD lengths n 0)) each n l in
+      rw q (leb-true 1 (getD lengths n 0) (and-left (leb 1 (getD lengths n 0)) (leb (getD lengths n 0) longestStep) one))
+
+-- what the search for a step of rule n is given
+pub searched : {table : List ℕ} {t : Table} {hours : List (List Window)} {counts : List ℕ} {stays : List (List ℕ)} {lengths : List ℕ}
+    → Ready table t hours counts stays lengths → (n m : ℕ) → n < t .rules → m ≡ getD lengths n 0 → Searched hours counts stays m
+searched {t = t} {lengths = lengths} r n m l q =
+    record { stay = r .stay; some-minute = length-some (t .rules) lengths (r .lengths-fit) n m l q; short = length-short (t .rules) lengths (r .lengths-fit) n m l q }
 
 module _ (rules : ℕ) (run : List ℕ) (e : runFits rules run ≡ true) where
   pub run-short : length run ≤ 1000000

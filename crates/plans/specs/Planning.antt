@@ -14,11 +14,14 @@ use Rattle.plan_model.specs.Hours.{weekMinutes, mostSteps}
 use Rattle.model.specs.Systems.{System}
 use Rattle.table.specs.Reading.{Holds}
 use Rattle.table.specs.declared.Table.{Table}
+use Rattle.hours.specs.Searching.{WeekStays}
 use Rattle.plans.specs.declared.Seen.{Seen}
 
--- the table is read, and its rules have lengths
-pub record Ready (table : List ℕ) (t : Table) (lengths : List ℕ) : Type 0 where
+-- the table is read, it is known how long processes stay open, and the table's rules have lengths
+pub record Ready (table : List ℕ) (t : Table) (hours : List (List Window)) (counts : List ℕ) (stays : List (List ℕ))
+    (lengths : List ℕ) : Type 0 where
   pub holds : Holds table t
+  pub stay : WeekStays hours counts stays
   pub lengths-fit : lengthsFit (t .rules) lengths ≡ true
 
 -- a step of each noted rule fits some minute

@@ -1,6 +1,7 @@
 // Request 2.7: the plan of a run on the week.
 use hours::delay_of;
 use hours::fits_never;
+use hours::stays_of;
 use minutes::after;
 use minutes::later_of;
 use minutes::start_fits;
@@ -24,9 +25,9 @@ ghost use mathlib.Core.Path.{_≡_};
 ghost use Prim.Native.Nat.{_≤_, _<_};
 ghost use lib.ListN.{length, drop};
 ghost use Rattle.model.specs.Groups.{processesOf};
-ghost use Rattle.plan_model.specs.Hours.{PlanMeans, atStart, beginOf, beginsFrom, boundOf, endedAt, firstNever, hoursFit, laterOf, lengthFits, lengthsFit, longestStep, neverFits, planCall, planFits, plannedPlace, plannedRefusal, processFits, runFits, startFits, stepOf, stepsOf, weekOf, windowFits};
+ghost use Rattle.plan_model.specs.Hours.{PlanMeans, atStart, beginOf, beginsFrom, boundOf, endedAt, firstNever, hoursFit, laterOf, lengthFits, lengthsFit, neverFits, planCall, planFits, plannedPlace, plannedRefusal, processFits, runFits, startFits, stepOf, stepsOf, weekOf, windowFits};
 ghost use Rattle.table.specs.Reading.{Holds, systemIn};
-ghost use Rattle.hours.specs.Searching.{stepBy};
+ghost use Rattle.hours.specs.Searching.{Searched, stepBy};
 ghost use Rattle.plans.specs.Planning.{Judged, Near, Plans, Ready, planReach, seen};
 
 // The last closing of a window.
@@ -164,13 +165,20 @@ fn never_at(
     t: Table,
     hours: [[Window; WINDOW_PLACES]; Table::PROCESSES],
     counts: [u8; Table::PROCESSES],
+    stays: [[u16; WINDOW_PLACES]; Table::PROCESSES],
     lengths: &[u16],
     n: usize,
 ) -> bool
-    requires { ⌜ Ready (now table) t (now lengths) × (n < t .rules) ⌝ }
+    requires { ⌜ Ready (now table) t hours counts stays (now lengths) × (n < t .rules) ⌝ }
     ensures { λ r. ⌜ r ≡ neverFits (weekOf hours counts) (stepOf (systemIn (now (table .entry))) (now (lengths .entry)) n) ⌝ }
 {
-    fits_never(hours, counts, rule_bits(table, t, n), wide_two(lengths[n]))
+    fits_never(
+        hours,
+        counts,
+        stays,
+        rule_bits(table, t, n),
+        wide_two(lengths[n]),
+    )
 }
 
 // A step of rule n fits no minute of any week. A rule that fits some is noted, and not judged again.
@@ -179,17 +187,18 @@ fn judge(
     t: Table,
     hours: [[Window; WINDOW_PLACES]; Table::PROCESSES],
     counts: [u8; Table::PROCESSES],
+    stays: [[u16; WINDOW_PLACES]; Table::PROCESSES],
     lengths: &[u16],
     fitting: &mut [bool; Table::RULES],
     n: usize,
 ) -> bool
-    requires { ⌜ Ready (now table) t (now lengths) × (n < t .rules) × Judged (weekOf hours counts) (systemIn (now table)) (now lengths) (now fitting) ⌝ }
+    requires { ⌜ Ready (now table) t hours counts stays (now lengths) × (n < t .rules) × Judged (weekOf hours counts) (systemIn (now table)) (now lengths) (now fitting) ⌝ }
     ensures { λ r. ⌜ (r ≡ neverFits (weekOf hours counts) (stepOf (systemIn (now (table .entry))) (now (lengths .entry)) n)) × Judged (weekOf hours counts) (systemIn (now (table .entry))) (now (lengths .entry)) (now (fitting .exit)) ⌝ }
 {
     if fitting[n] {
         return false;
     }
-    if never_at(table, t, hours, counts, lengths, n) {
+    if never_at(table, t, hours, counts, stays, lengths, n) {
         return true;
     }
     fitting[n] = true;
@@ -203,16 +212,17 @@ fn first_never(
     run: &[u16],
     hours: [[Window; WINDOW_PLACES]; Table::PROCESSES],
     counts: [u8; Table::PROCESSES],
+    stays: [[u16; WINDOW_PLACES]; Table::PROCESSES],
     lengths: &[u16],
 ) -> Seen
-    requires { ⌜ Ready (now table) t (now lengths) × (runFits (t .rules) (now run) ≡ true) ⌝ }
+    requires { ⌜ Ready (now table) t hours counts stays (now lengths) × (runFits (t .rules) (now run) ≡ true) ⌝ }
     ensures { λ r. ⌜ r ≡ seen (firstNever (weekOf hours counts) (stepsOf (systemIn (now (table .entry))) (now (lengths .entry)) (now (run .entry))) 0) ⌝ }
 {
     let mut fitting = [false; Table::RULES];
     let mut k = 0;
     while k < run.len() {
         let n = wide_two(run[k]);
-        if judge(table, t, hours, counts, lengths, &mut fitting, n) {
+        if judge(table, t, hours, counts, stays, lengths, &mut fitting, n) {
             return Seen::At(k);
         }
         k += 1;
@@ -264,16 +274,17 @@ fn ended_at(bits: u8, t: i64, ends: [i64; Table::PROCESSES]) -> [i64; Table::PRO
 fn begin_of(
     hours: [[Window; WINDOW_PLACES]; Table::PROCESSES],
     counts: [u8; Table::PROCESSES],
+    stays: [[u16; WINDOW_PLACES]; Table::PROCESSES],
     bits: u8,
     length: usize,
     start: i64,
     ends: [i64; Table::PROCESSES],
 ) -> i64
-    requires { ⌜ (length ≤ longestStep) × Near start ends planReach ⌝ }
+    requires { ⌜ Searched hours counts stays length × Near start ends planReach ⌝ }
     ensures { λ r. ⌜ r ≡ beginOf (weekOf hours counts) start ends (stepBy bits length) ⌝ }
 {
     let bound = bound_of(start, ends, bits);
-    after(bound, delay_of(hours, counts, bits, length, bound))
+    after(bound, delay_of(hours, counts, stays, bits, length, bound))
 }
 
 // Writes the begins of the run's steps.
@@ -283,11 +294,12 @@ fn lay(
     run: &[u16],
     hours: [[Window; WINDOW_PLACES]; Table::PROCESSES],
     counts: [u8; Table::PROCESSES],
+    stays: [[u16; WINDOW_PLACES]; Table::PROCESSES],
     lengths: &[u16],
     start: i64,
     begins: &mut [i64],
 )
-    requires { ⌜ Ready (now table) t (now lengths) × (runFits (t .rules) (now run) ≡ true) × (startFits start ≡ true) × (length (now run) ≤ length (now begins)) ⌝ }
+    requires { ⌜ Ready (now table) t hours counts stays (now lengths) × (runFits (t .rules) (now run) ≡ true) × (startFits start ≡ true) × (length (now run) ≤ length (now begins)) ⌝ }
     ensures { λ _. ⌜ now (begins .exit) ≡ beginsFrom (weekOf hours counts) start (atStart start) (stepsOf (systemIn (now (table .entry))) (now (lengths .entry)) (now (run .entry))) ++ drop (length (now (run .entry))) (now (begins .entry)) ⌝ }
 {
     let mut ends = [start; Table::PROCESSES];
@@ -296,7 +308,7 @@ fn lay(
         let n = wide_two(run[k]);
         let bits = rule_bits(table, t, n);
         let length = wide_two(lengths[n]);
-        let begin = begin_of(hours, counts, bits, length, start, ends);
+        let begin = begin_of(hours, counts, stays, bits, length, start, ends);
         let next = ended_at(bits, after(begin, length), ends);
         ends = next;
         begins[k] = begin;
@@ -324,7 +336,8 @@ fn plan_accepted(
             place: 0,
         };
     }
-    match first_never(table, t, run, hours, counts, lengths) {
+    let stays = stays_of(hours, counts);
+    match first_never(table, t, run, hours, counts, stays, lengths) {
         Seen::At(k) => {
             return Planned::Refused {
                 number: NEVER_OPEN,
@@ -332,7 +345,7 @@ fn plan_accepted(
             };
         }
         Seen::Nowhere => {
-            lay(table, t, run, hours, counts, lengths, start, begins);
+            lay(table, t, run, hours, counts, stays, lengths, start, begins);
             return Planned::Given;
         }
     }

@@ -1,17 +1,17 @@
 -- The minutes passed over do not fit; the first that is not passed over does (Skipping).
 use native.Mathlib.Omega.{arith}
-use Prim.Native.Nat.{_-_, _≤_, _<_}
-use Rattle.plan_model.specs.Hours.{longestStep, weekMinutes, weekOf}
-use Rattle.hours.specs.Searching.{stepBy}
+use Prim.Native.Nat.{_-_, _<_}
+use Rattle.plan_model.specs.Hours.{weekMinutes, weekOf}
+use Rattle.hours.specs.Searching.{Searched, stepBy}
 use Rattle.hours.proofs.Skipping.{Missed, missed-all, missed-found, missed-start, missed-turn}
 use Rattle.hours.proofs.wait_from.Statement.{statement}
 use Rattle.hours.proofs.wait_from.Tie as tie
 
 abbrev Inv-loop : tie.InvT-loop
-Inv-loop hours counts bits length m d₀ d = (length ≤ longestStep) × (m < weekMinutes) × Missed (weekOf hours counts) (stepBy bits length) m d
+Inv-loop hours counts stays bits length m d₀ d = Searched hours counts stays length × (m < weekMinutes) × Missed (weekOf hours counts) (stepBy bits length) m d
 
 abbrev μ-loop : tie.MeasureT-loop
-μ-loop hours counts bits length m d₀ d = weekMinutes - d
+μ-loop hours counts stays bits length m d₀ d = weekMinutes - d
 
 loop-holds : tie.Need-loop-holds Inv-loop μ-loop
 loop-holds c = let s = c .args in (c .pre .0, c .pre .1, missed-start (weekOf (s .hours) (s .counts)) (stepBy (s .bits) (s .length)) (s .m))

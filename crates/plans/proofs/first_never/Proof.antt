@@ -11,12 +11,12 @@ use Rattle.plans.proofs.first_never.Statement.{statement}
 use Rattle.plans.proofs.first_never.Tie as tie
 
 abbrev Inv-loop : tie.InvT-loop
-Inv-loop table t run hours counts lengths fitting₀ k₀ fitting k =
+Inv-loop table t run hours counts stays lengths fitting₀ k₀ fitting k =
     (firstNever (weekOf hours counts) (stepsOf (systemIn table) lengths run) 0 ≡ firstNever (weekOf hours counts) (stepsOf (systemIn table) lengths (drop k run)) k)
     × Judged (weekOf hours counts) (systemIn table) lengths fitting
 
 abbrev μ-loop : tie.MeasureT-loop
-μ-loop table t run hours counts lengths fitting₀ k₀ fitting k = length run - k
+μ-loop table t run hours counts stays lengths fitting₀ k₀ fitting k = length run - k
 
 loop-holds : tie.Need-loop-holds Inv-loop μ-loop
 loop-holds c = (refl, judged-none _ _ _ 200)

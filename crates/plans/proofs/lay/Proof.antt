@@ -11,7 +11,7 @@ use Rattle.plan_model.specs.Hours.{atStart, beginsFrom, endedAt, startFits, ste
 use Rattle.table.specs.Reading.{systemIn}
 use Rattle.hours.specs.Searching.{stepBy}
 use Rattle.minutes.proofs.Signed.{readBack, read-back}
-use Rattle.plans.proofs.Checks.{length-short, lengths-enough, rule-in-run, run-short, step-is}
+use Rattle.plans.proofs.Checks.{length-short, lengths-enough, rule-in-run, run-short, searched, step-is}
 use Rattle.plans.proofs.Laying.{Laying, laying-start, laying-near, laying-turn, laying-end}
 use Rattle.plans.proofs.Minutes.{end-fits}
 use native.Mathlib.Omega.{arith}
@@ -19,10 +19,10 @@ use Rattle.plans.proofs.lay.Statement.{statement}
 use Rattle.plans.proofs.lay.Tie as tie
 
 abbrev Inv-loop : tie.InvT-loop
-Inv-loop table t run hours counts lengths start begins₀ ends₀ k₀ begins ends k = Laying (weekOf hours counts) (systemIn table) lengths run (toZ w64 start) begins₀ begins ends k
+Inv-loop table t run hours counts stays lengths start begins₀ ends₀ k₀ begins ends k = Laying (weekOf hours counts) (systemIn table) lengths run (toZ w64 start) begins₀ begins ends k
 
 abbrev μ-loop : tie.MeasureT-loop
-μ-loop table t run hours counts lengths start begins₀ ends₀ k₀ begins ends k = length run - k
+μ-loop table t run hours counts stays lengths start begins₀ ends₀ k₀ begins ends k = length run - k
 
 loop-holds : tie.Need-loop-holds Inv-loop μ-loop
 loop-holds c =
@@ -49,7 +49,7 @@ begin-of-requires c κs =
     let at-loop = at-test .before in
     let entry = at-loop .before .before .before .before in
     let known = rule-in-run _ _ (entry .pre .1) (at-loop .loop .k) (at-wide .wide-two .result) (at-test .loop-test .taken) (at-wide .wide-two .ensures .0) in (
-      length-short _ _ (entry .pre .0 .lengths-fit) (at-wide .wide-two .result) (c .wide-two2 .result) known (c .wide-two2 .ensures .0),
+      searched (entry .pre .0) (at-wide .wide-two .result) (c .wide-two2 .result) known (c .wide-two2 .ensures .0),
       laying-near (at-loop .loop .inv) (run-short _ _ (entry .pre .1)),
     )
 
@@ -68,6 +68,14 @@ after-requires c κs =
     let s = stepBy (at-bits .rule-bits .result) (at-length .wide-two2 .result) in
     let fits = end-fits (weekOf (a .hours) (a .counts)) (readBack (a .start)) (at-loop .loop .ends) s near short (omega arith) in
     (rw (read-back (record { sfits = c .begin-of .ok }), c .begin-of .ensures) fits, omega (arith, short))
+
+mul-begin : tie.Need-mul-begin Inv-loop μ-loop
+mul-begin c =
+    let at-length = c .before .before .before in
+    let at-wide = at-length .before .before .before in
+    let at-test = at-wide .before .before in
+    let entry = at-test .before .before .before .before .before in
+    omega (arith, at-test .loop-test .taken, run-short _ _ (entry .pre .1))
 
 loop-again : tie.Need-loop-again Inv-loop μ-loop
 loop-again c =
@@ -101,5 +109,5 @@ returns c =
 
 pub lay-spec : {M : Type 1} → statement M
 lay-spec = tie.close (tie.spec Inv-loop μ-loop loop-holds (λ c. omega arith) (λ c. omega arith) (λ c κs. tt) rule-bits-requires (λ c. omega arith)
-    shared-slice-read-wide-two-2 (λ c κs. tt) begin-of-requires after-requires (λ c κs. tt) (λ c. omega arith) (λ c. omega arith) (λ c. omega arith)
+    shared-slice-read-wide-two-2 (λ c κs. tt) begin-of-requires after-requires (λ c κs. tt) mul-begin (λ c. omega arith) (λ c. omega arith)
     (λ c. omega arith) loop-again (λ c. c .before .loop .inv .size) returns)

@@ -1,7 +1,7 @@
 -- The step of the rule, by the bits of its letter and its length.
 use mathlib.Core.Path.{ap, _∙_}
 use Rattle.plan_model.specs.Hours.{neverFits, weekOf}
-use Rattle.plans.proofs.Checks.{length-short, lengths-enough, step-is}
+use Rattle.plans.proofs.Checks.{lengths-enough, searched, step-is}
 use native.Mathlib.Omega.{arith}
 use borrow.Author.Needs.{needs}
 use Rattle.plans.proofs.never_at.Statement.{statement}
@@ -18,7 +18,7 @@ shared-slice-read-wide-two c =
 fits-never-requires : tie.Need-fits-never-requires
 fits-never-requires c κs =
     let entry = c .before .before .before .before .before in
-    length-short _ _ (entry .pre .0 .lengths-fit) (entry .args .n) (c .wide-two .result) (entry .pre .1) (c .wide-two .ensures .0)
+    searched (entry .pre .0) (entry .args .n) (c .wide-two .result) (entry .pre .1) (c .wide-two .ensures .0)
 
 returns : tie.Need-returns
 returns c =
