@@ -19,7 +19,7 @@ fn put(out: &mut [u8], at: usize, n: usize) -> usize
 }
 
 // An item.
-pub fn append(out: &mut [u8], end: usize, item: &[usize]) -> usize
+pub(crate) fn append(out: &mut [u8], end: usize, item: &[usize]) -> usize
     requires { ⌜ end ≤ length (now out) ⌝ }
     ensures { λ r. ⌜ r ≤ length (now (out .exit)) ⌝ }
 {
@@ -45,7 +45,7 @@ fn is_named(numbers: &[usize], place: usize) -> bool {
     false
 }
 
-pub fn one_if(same: bool) -> usize
+pub(crate) fn one_if(same: bool) -> usize
     ensures { λ r. ⌜ r ≤ 1 ⌝ }
 {
     if same {
@@ -96,7 +96,7 @@ fn product(a: usize, b: usize) -> usize {
 }
 
 // So many times the last so many items of so many bytes, each time with one more at the named places of each item.
-pub fn append_more(out: &mut [u8], end: usize, numbers: &[usize]) -> usize
+pub(crate) fn append_more(out: &mut [u8], end: usize, numbers: &[usize]) -> usize
     requires { ⌜ end ≤ length (now out) ⌝ }
     ensures { λ r. ⌜ r ≤ length (now (out .exit)) ⌝ }
 {
@@ -117,7 +117,7 @@ pub fn append_more(out: &mut [u8], end: usize, numbers: &[usize]) -> usize
 
 // ---- changes
 // The list has a place and a value for each change.
-pub fn change_all(out: &mut [u8], list: &[usize]) {
+pub(crate) fn change_all(out: &mut [u8], list: &[usize]) {
     let mut j = 0;
     while j < list.len() / 2 {
         put(out, list[2 * j], list[2 * j + 1]);

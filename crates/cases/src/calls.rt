@@ -38,7 +38,7 @@ const PAGE: usize = 1000000;
 
 // ---- reading
 // With changed bytes: the numbers are a place and a value for each.
-pub fn show_read(table: &[u8], numbers: &[usize]) {
+pub(crate) fn show_read(table: &[u8], numbers: &[usize]) {
     if numbers.len() == 0 {
         print_parsed(read(table));
         return;
@@ -76,7 +76,7 @@ fn show_cut(table: &[u8], n: usize, before: usize) -> usize
 }
 
 // Every beginning that is shorter than the whole: a line for the first that is read so.
-pub fn show_cuts(table: &[u8]) {
+pub(crate) fn show_cuts(table: &[u8]) {
     print_end();
     let mut before = 0;
     let mut n = 0;
@@ -220,7 +220,7 @@ fn call_in_parts(
 }
 
 // The numbers: how long the log or the pile is, the scratch, and the page.
-pub fn lend(kind: u16, table: &[u8], numbers: &[usize]) {
+pub(crate) fn lend(kind: u16, table: &[u8], numbers: &[usize]) {
     let mut first = [7u8; FIRST];
     let mut scratch = [7u8; SCRATCH];
     let mut page = [7u16; PAGE];

@@ -19,17 +19,17 @@ const MOST: usize = 64;
 const FIRST: usize = 4;
 
 // ---- numbers
-pub fn print_end() {
+pub(crate) fn print_end() {
     io::write_all(1, b"\n");
 }
 
 // The line of a call: what it gives follows.
-pub fn print_call(line: &[u8]) {
+pub(crate) fn print_call(line: &[u8]) {
     io::write_all(1, line);
     io::write_all(1, b":");
 }
 
-pub fn print_number(n: u64) {
+pub(crate) fn print_number(n: u64) {
     io::write_all(1, b" ");
     io::print_decimal(1, n);
 }
@@ -43,7 +43,7 @@ fn print_numbers(numbers: &[u64]) {
 }
 
 // A word and numbers.
-pub fn print_named(word: &[u8], numbers: &[u64]) {
+pub(crate) fn print_named(word: &[u8], numbers: &[u64]) {
     io::write_all(1, word);
     print_numbers(numbers);
 }
@@ -56,7 +56,7 @@ fn print_place(x: u16) {
     print_number(x as u64);
 }
 
-pub fn print_bytes(bytes: &[u8]) {
+pub(crate) fn print_bytes(bytes: &[u8]) {
     let mut i = 0;
     while i < bytes.len() {
         print_byte(bytes[i]);
@@ -64,7 +64,7 @@ pub fn print_bytes(bytes: &[u8]) {
     }
 }
 
-pub fn print_places(places: &[u16]) {
+pub(crate) fn print_places(places: &[u16]) {
     let mut i = 0;
     while i < places.len() {
         print_place(places[i]);
@@ -73,7 +73,7 @@ pub fn print_places(places: &[u16]) {
 }
 
 // ---- answers
-pub fn print_refused(number: u8, place: usize) {
+pub(crate) fn print_refused(number: u8, place: usize) {
     print_named(b" refused", &[number as u64]);
     print_named(b" at", &[place as u64]);
 }
@@ -93,7 +93,7 @@ fn print_peak(peak: u32) {
     print_named(b" peak", &[peak as u64]);
 }
 
-pub fn print_answered(answered: Answered) {
+pub(crate) fn print_answered(answered: Answered) {
     match answered {
         Answered::Reachable {
             transitions,
@@ -114,7 +114,7 @@ pub fn print_answered(answered: Answered) {
     }
 }
 
-pub fn print_ran(ran: Ran) {
+pub(crate) fn print_ran(ran: Ran) {
     match ran {
         Ran::Reached {
             transitions,
@@ -132,7 +132,7 @@ pub fn print_ran(ran: Ran) {
 }
 
 // The counts of an accepted table: processes, letters, rules, transitions, accepting, pile.
-pub fn print_parsed(p: Parsed) {
+pub(crate) fn print_parsed(p: Parsed) {
     match p {
         Parsed::Accepted(t) => {
             print_named(
@@ -180,13 +180,13 @@ fn print_counts(zeros: usize, sevens: usize) {
     print_named(b" sevens", &[sevens as u64]);
 }
 
-pub fn print_buffer(bytes: &[u8]) {
+pub(crate) fn print_buffer(bytes: &[u8]) {
     let n = least(FIRST, bytes.len());
     print_bytes(&bytes[0..n]);
     print_counts(count_bytes(bytes, 0), count_bytes(bytes, 7));
 }
 
-pub fn print_page(page: &[u16]) {
+pub(crate) fn print_page(page: &[u16]) {
     let n = least(FIRST, page.len());
     print_places(&page[0..n]);
     print_counts(count_places(page, 0), count_places(page, 7));
@@ -222,7 +222,7 @@ fn print_records(log: &[u8]) {
 }
 
 // The first so many records of a log, a line for each.
-pub fn print_log(log: &[u8], count: usize) {
+pub(crate) fn print_log(log: &[u8], count: usize) {
     let end = least(RECORD * least(count, MOST), log.len());
     print_records(&log[0..end]);
 }

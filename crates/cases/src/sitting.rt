@@ -138,7 +138,7 @@ fn work(opened: Desk, text: &[u8], from: usize) -> usize
 }
 
 // A desk is worked at only where the opening told that there is one.
-pub fn open_desk(table: &[u8], text: &[u8], from: usize) -> usize
+pub(crate) fn open_desk(table: &[u8], text: &[u8], from: usize) -> usize
     requires { ⌜ from ≤ length (now text) ⌝ }
     ensures { λ r. ⌜ (from ≤ r) × (r ≤ length (now (text .entry))) ⌝ }
 {

@@ -11,7 +11,7 @@ const HASH: u8 = 35;
 // A number that has reached it takes no further digit.
 const LARGE: usize = 100000000;
 
-pub fn least(a: usize, b: usize) -> usize
+pub(crate) fn least(a: usize, b: usize) -> usize
     ensures { λ r. ⌜ (r ≤ a) × (r ≤ b) ⌝ }
 {
     if a < b {
@@ -22,7 +22,7 @@ pub fn least(a: usize, b: usize) -> usize
 
 // ---- lines
 // A line without its line feed and what stands behind a #.
-pub fn content(line: &[u8]) -> &[u8] {
+pub(crate) fn content(line: &[u8]) -> &[u8] {
     let mut i = 0;
     while i < line.len() {
         if line[i] == LINE_FEED {
@@ -37,7 +37,7 @@ pub fn content(line: &[u8]) -> &[u8] {
 }
 
 // Where the line behind the one at a place begins.
-pub fn next_line(text: &[u8], at: usize) -> usize
+pub(crate) fn next_line(text: &[u8], at: usize) -> usize
     requires { ⌜ at < length (now text) ⌝ }
     ensures { λ r. ⌜ (at < r) × (r ≤ length (now (text .entry))) ⌝ }
 {
@@ -87,7 +87,7 @@ pub const LOOK: u16 = b'l' as u16 + 256 * (b'o' as u16);
 pub const COUNT: u16 = b'c' as u16 + 256 * (b'o' as u16);
 
 // The word of a line, 0 for a line that is empty.
-pub fn kind_of(line: &[u8]) -> u16 {
+pub(crate) fn kind_of(line: &[u8]) -> u16 {
     if line.len() < 2 {
         return 0;
     }
@@ -95,7 +95,7 @@ pub fn kind_of(line: &[u8]) -> u16 {
 }
 
 // The bytes of an item are hexadecimal.
-pub fn base_of(kind: u16) -> usize {
+pub(crate) fn base_of(kind: u16) -> usize {
     if kind == ITEM {
         return 16;
     }
@@ -180,7 +180,7 @@ fn take_byte(numbers: &mut [usize], d: Digits, x: u8, base: usize) -> Digits
 }
 
 // The numbers of a line, as many as there is room for: what is no digit stands between them.
-pub fn read_numbers(line: &[u8], base: usize, numbers: &mut [usize]) -> usize
+pub(crate) fn read_numbers(line: &[u8], base: usize, numbers: &mut [usize]) -> usize
     ensures { λ r. ⌜ r ≤ length (now (numbers .exit)) ⌝ }
 {
     let mut d = Digits {
@@ -198,7 +198,7 @@ pub fn read_numbers(line: &[u8], base: usize, numbers: &mut [usize]) -> usize
 }
 
 // Number i of a line, 0 where there is none.
-pub fn get(numbers: &[usize], i: usize) -> usize {
+pub(crate) fn get(numbers: &[usize], i: usize) -> usize {
     if i < numbers.len() {
         return numbers[i];
     }

@@ -18,7 +18,7 @@ pub links-apart : (n : ℕ) → Disjoint (linkRegions n) (scratchFor n)
 links-apart n = (omega arith, omega arith)
 
 pub start-apart : (n : ℕ) → Disjoint (startRegions n) (scratchFor n)
-start-apart n = (omega arith, (omega arith, omega arith))
+start-apart n = (omega arith, (omega arith, (omega arith, (omega arith, omega arith))))
 
 pub walk-apart : Disjoint walkRegions 2048
 walk-apart = (omega arith, omega arith)

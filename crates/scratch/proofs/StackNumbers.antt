@@ -38,7 +38,7 @@ down-below s at zero j x h = refl
 down-below s at (suc k) j x h = ap₂ (λ (y : ℕ) (l : List ℕ). y ∷ l) (number-kept 2 2 s j x (at + 2 * k) (inr (omega arith))) (down-below s at k j x h)
 
 -- the lowest number comes last
-down-last : (s : List ℕ) (at k : ℕ) → numbersDown s at (suc k) ≡ numbersDown s (at + 2) k ++ (numberAt 2 s at ∷ [])
+pub down-last : (s : List ℕ) (at k : ℕ) → numbersDown s at (suc k) ≡ numbersDown s (at + 2) k ++ (numberAt 2 s at ∷ [])
 unfolding numbersDown
 down-last s at zero = ap (λ (i : ℕ). numberAt 2 s i ∷ []) (omega arith)
 down-last s at (suc k) = ap₂ (λ (i : ℕ) (l : List ℕ). numberAt 2 s i ∷ l) (omega arith) (down-last s at k)

@@ -78,6 +78,13 @@ linksEnd n = keysAt n + 4 * n
 abbrev pub setsAt : ℕ
 setsAt = 0
 
+-- the first leader of each letter, a link for each byte that a letter may be
+abbrev pub leadersAt : ℕ
+leadersAt = 65 * setLength
+
+abbrev pub leadersEnd : ℕ
+leadersEnd = leadersAt + 2 * 256
+
 -- the stack of record numbers
 abbrev pub stackAt : ℕ
 stackAt = ringsAt - 128
@@ -119,9 +126,12 @@ roundRegions =
 abbrev pub linkRegions : ℕ → List Region
 linkRegions n = region ringsAt (6 * n) ∷ region (keysAt n) (4 * n) ∷ []
 
--- while the start's path is looked for, in a log of n records
+-- while the start's path is looked for, in a log of n records; a leader's link to the next one stands where the index
+-- of keys was
 abbrev pub startRegions : ℕ → List Region
-startRegions n = region setsAt (65 * setLength) ∷ region stackAt 128 ∷ region ringsAt (6 * n) ∷ []
+startRegions n =
+    region setsAt (65 * setLength) ∷ region leadersAt (2 * 256) ∷ region stackAt 128 ∷ region ringsAt (6 * n)
+    ∷ region (keysAt n) (2 * n) ∷ []
 
 -- while a walk tells whether a configuration is accepted
 abbrev pub walkRegions : List Region

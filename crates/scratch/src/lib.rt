@@ -1,5 +1,5 @@
 // Where everything stands in the scratch, phase by phase. Round 0 uses eight bytes for each of its records; the other rounds the first 9,000 bytes, the rings
-// and the keys; the start's path 65 sets, the stack and the rings. specs/Regions.antt has the same regions for proofs, and the law that those of one phase do not meet.
+// and the keys; the start's path 65 sets, the leaders, the stack and the rings. specs/Regions.antt has the same regions for proofs, and the law that those of one phase do not meet.
 pub mod stack;
 
 use states::numbering::STATES;
@@ -59,6 +59,10 @@ pub fn keys_at(n: usize) -> usize
 }
 
 // ---- the start's path and its unfolding
+// The first leader of each letter, a link of 16 bits for each byte that a letter may be, behind the 65 sets. A leader's link to the next one stands where
+// the index of keys was.
+pub const LEADERS: usize = 65 * SET_BYTES;
+
 // The stack of record numbers, 16 bits each: 64 for the start's path, and then over the rings and the keys, which the unfolding does not need.
 pub const STACK: usize = RINGS - 128;
 

@@ -1,10 +1,4 @@
-pub mod ScratchRegions
-pub mod Leading
-pub mod OwnGroups
-pub mod NextNumbers
-pub mod Adding
-pub mod Grounds
-pub mod LastSet
-pub mod RestRight
 pub mod Tracing
-pub mod GreedyPath
+pub mod Steps
+pub mod Backwards
+pub mod Deciding

@@ -1,4 +1,1 @@
-pub mod Regions
-pub mod RestSets
-pub mod OwnGroups
 pub mod Search

@@ -10,7 +10,7 @@ use Rattle.numbers.proofs.NumberBytes.{number-same}
 use Rattle.scratch.specs.Regions.{ringsAt}
 use Rattle.packs.specs.Packs.{packedBefore}
 use Rattle.rings.proofs.Keeping.{ringed-log}
-use Rattle.start.specs.Regions.{Linked}
+use Rattle.leaders.specs.Leaders.{Linked}
 
 -- zeros behind the records leave their rings as they are
 pub linked-cleared : {log log′ : List ℕ} {count n : ℕ} {s : List ℕ} → log′ ≡ take (count * recordLength) log ++ replicate (length log - count * recordLength) 0

@@ -16,7 +16,7 @@ use Rattle.logs.specs.RoundLogs.{LimitLog}
 use Rattle.scratch.specs.StackNumbers.{stackOf}
 use Rattle.start.specs.declared.StartPath.{StartPath}
 use Rattle.start.specs.declared.StartPath.the-variants.{NoPath, Found}
-use Rattle.start.specs.Regions.{Linked}
+use Rattle.leaders.specs.Leaders.{Linked}
 
 -- document 01: "gives the verdict, transitions, rounds, steps", "Unreachable has no steps"
 unfoldable pub stated : StartPath → ℕ → ℕ → Answered

@@ -33,7 +33,7 @@ by-digit {ℓ} : (P : ℕ → Type ℓ) (n : ℕ) → P 0 → P 1 → P (n % 2)
 by-digit P n a b = by-test (eqb (n % 2) 1) (λ t. rw (eqb-true (n % 2) 1 t) b)
     (λ e. let z : n % 2 ≡ 0 = (let ne : n % 2 ≡ 1 → ⊥ = eqb-false (n % 2) 1 e in omega arith) in rw z a)
 
-bit-or : (a b j : ℕ) → hasBit (bitOr a b) j ≡ hasBit a j || hasBit b j
+pub bit-or : (a b j : ℕ) → hasBit (bitOr a b) j ≡ hasBit a j || hasBit b j
 unfolding hasBit
 bit-or a b j =
     let e : bitOr a b / 2 ^ j % 2 ≡ max (a / 2 ^ j % 2) (b / 2 ^ j % 2) = ap (λ (n : ℕ). n % 2) (or-shr a b j) ∙ omega (arith, or-step (a / 2 ^ j) (b / 2 ^ j)) in

@@ -1,7 +1,8 @@
 //! The calls at a desk of the proved engine, through its C functions: the time and the
 //! instructions of each, from batches of many.
 
-use crate::measure::{CALLS, counted, median_of, numbers_of, time_of};
+use crate::measure::{CALLS, Options, median_of, numbers_of, time_of};
+use crate::sheet::{Sheet, count, counted};
 use roskavel::{Cause, DESK_PILE, Desk, Refusal};
 use std::hint::black_box;
 use tables::{Table, bench, named};
@@ -156,10 +157,10 @@ struct Figures {
 
 impl Figures {
     /// Those of the row with this number.
-    fn of(number: usize) -> Figures {
+    fn of(options: &Options, number: usize) -> Figures {
         Figures {
             nanoseconds: nanoseconds(&ROWS[number]),
-            instructions: instructions(number),
+            instructions: instructions(options, number),
         }
     }
 
@@ -171,27 +172,25 @@ impl Figures {
         }
     }
 
-    fn print(&self, name: &str) {
-        print!("{name:38}{:11.1}", self.nanoseconds);
-        if let Some(count) = self.instructions {
-            print!("{count:15}");
-        }
-        println!();
+    fn cells(&self, name: &str) -> [String; 3] {
+        let nanoseconds = self.nanoseconds.round() as u64;
+        let instructions = counted(self.instructions);
+        [name.to_string(), count(nanoseconds), instructions]
     }
 }
 
 /// The figures of every row, and those of a forget alone.
-pub fn print_calls() {
+pub fn print_calls(options: &Options) {
     println!("calls at a desk: median time of {CALLS} batches, and instructions by valgrind");
-    println!("{:38}{:>11}{:>15}", "call", "ours ns", "ours instr.");
+    let sheet = Sheet::new(options.form, &["call", "nanoseconds", "instructions"]);
     let mut all = Vec::new();
     for (number, row) in ROWS.iter().enumerate() {
-        let figures = Figures::of(number);
-        figures.print(row.name);
+        let figures = Figures::of(options, number);
+        sheet.row(&figures.cells(row.name));
         all.push(figures);
     }
     let forget = all[SAVE_AND_FORGET].less(&all[SAVE]);
-    forget.print("forget, the difference");
+    sheet.row(&forget.cells("forget, the difference"));
 }
 
 /// The median time of a call.
@@ -203,9 +202,9 @@ fn nanoseconds(row: &Row) -> f64 {
 
 /// The instructions of a call: those of this program with twice as many calls, less those with
 /// the calls once.
-fn instructions(number: usize) -> Option<u64> {
-    let twice = counted(NAME, &[number, 2 * COUNTED], &[])?;
-    let once = counted(NAME, &[number, COUNTED], &[])?;
+fn instructions(options: &Options, number: usize) -> Option<u64> {
+    let twice = options.counted(NAME, &[number, 2 * COUNTED], &[])?;
+    let once = options.counted(NAME, &[number, COUNTED], &[])?;
     Some(twice.checked_sub(once)? / COUNTED as u64)
 }
 

@@ -1,6 +1,7 @@
 //! The plan call of both engines: its time, and the instructions of the proved one.
 
-use crate::measure::{CALLS, counted, median_of, numbers_of, time_of};
+use crate::measure::{CALLS, Options, median_of, numbers_of, time_of};
+use crate::sheet::{Sheet, count, counted, milliseconds};
 use roskavel::{STEP_CEILING, WEEK_MINUTES, WINDOWS, Week};
 use second_engine::{Hours, Window};
 use tables::{Rng, named};
@@ -127,32 +128,30 @@ impl Subject {
 }
 
 /// The figures of every row.
-pub fn print_calls() {
+pub fn print_calls(options: &Options) {
     println!("plan call: median time of {CALLS} calls, and instructions of one by valgrind");
-    println!("the second engine has at most {FEW} steps");
-    println!(
-        "{:38}{:>9}{:>11}{:>9}{:>11}{:>15}{:>9}",
-        "week", "steps", "ours ms", "steps", "second ms", "ours instr.", "a step"
-    );
+    println!("the second engine has at most {} steps", count(FEW as u64));
+    let headings = ["week", "steps", "ours", "instructions a step", "second"];
+    let sheet = Sheet::new(options.form, &headings);
     for (number, row) in ROWS.iter().enumerate() {
         let (mut whole, mut part) = (Subject::new(row, row.steps), Subject::new(row, FEW));
         let ours = whole.milliseconds(Subject::plan_ours);
         let second = part.milliseconds(Subject::plan_second);
-        let steps = part.run.len();
-        print!(
-            "{:38}{:9}{ours:11.3}{steps:9}{second:11.3}",
-            row.name, row.steps
-        );
-        if let Some(count) = instructions(number) {
-            print!("{count:15}{:9}", count / row.steps as u64);
-        }
-        println!();
+        let steps = row.steps as u64;
+        let a_step = instructions(options, number).map(|count| count / steps);
+        sheet.row(&[
+            row.name.to_string(),
+            count(steps),
+            milliseconds(ours),
+            counted(a_step),
+            milliseconds(second),
+        ]);
     }
 }
 
 /// The instructions of one call: those of this program with two calls, less those with one.
-fn instructions(number: usize) -> Option<u64> {
-    let with_calls = |calls| counted(NAME, &[number, calls], &[]);
+fn instructions(options: &Options, number: usize) -> Option<u64> {
+    let with_calls = |calls| options.counted(NAME, &[number, calls], &[]);
     with_calls(2)?.checked_sub(with_calls(1)?)
 }
 

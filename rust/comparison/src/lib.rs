@@ -7,6 +7,7 @@ mod peaks;
 mod records;
 mod refusals;
 mod rules;
+mod starts;
 mod written;
 
 pub use cases::{Case, Make, Maker, random_table};
@@ -16,6 +17,7 @@ pub use peaks::{note_peak, peak_situations};
 pub use records::{transition_of, transitions};
 pub use refusals::{note_refusal, refusal_situations};
 pub use rules::{RULES, absent, rule};
+pub use starts::{records_tried, situations_of_start, start_situations};
 pub use written::{note_rules, note_written, rule_situations, written_situations};
 
 use cases::Cases;

@@ -18,6 +18,7 @@ pub struct Facts {
     /// The records of the limit, one above the ceiling if they are more.
     pub records: usize,
     pub rounds: usize,
+    pub reachable: bool,
     pub steps: usize,
     /// The length of the start pile.
     pub start: usize,
@@ -70,7 +71,10 @@ impl Facts {
                 transitions,
                 rounds,
                 steps,
-            } => (transitions, rounds, steps),
+            } => {
+                self.reachable = true;
+                (transitions, rounds, steps)
+            }
             Answer::Unreachable {
                 transitions,
                 rounds,

@@ -14,12 +14,15 @@ mod reasons;
 mod situations;
 mod trials;
 
-use comparison::{Case, Counts, Make, Program, RULES, Tally, note_copy, random_table};
+use comparison::{Case, Counts, Make, Program, RULES, Tally, note_copy};
 use engines::Pool;
 use facts::Facts;
 use std::process::ExitCode;
-use tables::{Rng, Table};
+use tables::{Rng, Table, starts};
 use trials::Trials;
+
+/// How many random tables there are to one whose start is hard to search.
+const STARTS: usize = 50;
 
 const PROGRAM: Program = Program {
     name: "outcome_tests",
@@ -33,6 +36,13 @@ fn main() -> ExitCode {
     PROGRAM.main(comparer)
 }
 
+fn random_table(rng: &mut Rng, number: usize) -> Table {
+    match number % STARTS {
+        0 => starts::table(rng),
+        _ => comparison::random_table(rng, number),
+    }
+}
+
 /// Makes all calls on each table, with buffers filled from a pool.
 fn comparer(seed: u64) -> impl FnMut(&Case, &mut Counts) -> Result<(), String> {
     let pool = Pool::new(&mut Rng::new(seed));
@@ -44,10 +54,12 @@ fn compare_one(pool: &Pool, case: &Case, counts: &mut Counts) -> Result<(), Stri
     let mut rng = Rng::new(!case.seed);
     let facts = Facts::of(&case.bytes, &mut rng);
     let mut rules = RULES;
+    let mut start = Vec::new();
     match &case.make {
         Make::Random(table) if facts.accepted => {
             situations::note_shape(table, &facts, counts);
             rules = table.rules.len();
+            start = situations::of_start(table, &facts);
         }
         Make::Damaged if !facts.accepted => counts.meet(situations::REFUSED),
         _ => (),
@@ -64,6 +76,7 @@ fn compare_one(pool: &Pool, case: &Case, counts: &mut Counts) -> Result<(), Stri
         facts: &facts,
         copied: copied.as_ref(),
         rules,
+        start,
         rng,
         counts,
     };

@@ -5,7 +5,7 @@ use crate::reasons::{Several, note_paths, path_situations};
 use crate::{bounds, lists, participation};
 use comparison::{
     Counts, Demand, copy_situations, note_peak, note_rules, on_copy, peak_situations,
-    refusal_situations, rule_situations,
+    refusal_situations, rule_situations, situations_of_start, start_situations,
 };
 use tables::Table;
 
@@ -13,8 +13,9 @@ use tables::Table;
 const LEAST: usize = 20_000;
 /// How many random tables must have a copied automaton.
 const LEAST_COPIED: usize = 5_000;
-/// The most records of a limit whose reasons are counted.
+/// The most records of a limit whose reasons are counted, and of one whose start is searched.
 const COUNTED: usize = 60;
+const SEARCHED: usize = 5_000;
 
 const ACCEPTED: &str = "random tables accepted";
 pub const REFUSED: &str = "damaged tables refused";
@@ -81,6 +82,14 @@ pub fn note_shape(table: &Table, facts: &Facts, counts: &mut Counts) {
     }
 }
 
+/// What is special about the start of a random accepted table.
+pub fn of_start(table: &Table, facts: &Facts) -> Vec<String> {
+    match facts.records <= SEARCHED {
+        true => situations_of_start(table, &facts.log, facts.reachable),
+        false => Vec::new(),
+    }
+}
+
 /// Every situation that must be met.
 pub fn all() -> Vec<Demand> {
     let refusals = [
@@ -104,6 +113,7 @@ pub fn all() -> Vec<Demand> {
     names.extend(peak_situations().map(str::to_string));
     names.extend(rule_situations().chain(path_situations()));
     names.extend(refusal_situations());
+    names.extend(start_situations());
     names.extend(bounds::names());
     names.extend(lists::NAMES.map(str::to_string));
     let mut situations: Vec<_> = names.into_iter().map(Demand::once).collect();

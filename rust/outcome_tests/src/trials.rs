@@ -23,6 +23,8 @@ pub struct Trials<'t> {
     pub copied: Option<&'t Table>,
     /// How many rules the table has, or a guess.
     pub rules: usize,
+    /// What is special about the start.
+    pub start: Vec<String>,
     pub rng: Rng,
     pub counts: &'t mut Counts,
 }
@@ -51,8 +53,8 @@ impl Trials<'_> {
         let lengths = [log.value, scratch.value];
         let names = [&scratch.name[..], &log.name];
         match self.pool.answer(&mut self.rng, self.table, lengths)? {
-            Answer::Reachable { .. } => self.meet("answer reachable", &names),
-            Answer::Unreachable { .. } => self.meet("answer unreachable", &names),
+            Answer::Reachable { .. } => self.searched("answer reachable", &names),
+            Answer::Unreachable { .. } => self.searched("answer unreachable", &names),
             Answer::Refused(refusal) => {
                 self.note_log(refusal, log.value);
                 self.refused("answer", refusal, &names);
@@ -75,8 +77,8 @@ impl Trials<'_> {
         let lengths = [log.value, scratch.value, page.value];
         let names = [&scratch.name[..], &log.name, &page.name];
         match self.pool.run(&mut self.rng, self.table, lengths)? {
-            Run::Reachable { steps: 0, .. } => self.meet("run without steps", &names),
-            Run::Reachable { .. } => self.meet("run with steps", &names),
+            Run::Reachable { steps: 0, .. } => self.searched("run without steps", &names),
+            Run::Reachable { .. } => self.searched("run with steps", &names),
             Run::Refused(refusal) => {
                 self.note_log(refusal, log.value);
                 if refusal.cause == Cause::LongRun && page.value > STEP_CEILING {
@@ -139,6 +141,14 @@ impl Trials<'_> {
         {
             note_short_log(table, log_capacity(log), self.counts);
         }
+    }
+
+    /// Counts a call that came to search the start's path.
+    fn searched(&mut self, outcome: &str, names: &[&str]) {
+        for situation in self.start.clone() {
+            self.meet(&situation, &[]);
+        }
+        self.meet(outcome, names);
     }
 
     fn meet(&mut self, outcome: &str, names: &[&str]) {

@@ -4,6 +4,7 @@
 use crate::model::{Group, Process, Rule, Table, WRITTEN_PLACES, drop_twin, group, overlay};
 use crate::named;
 use crate::rng::Rng;
+use crate::searches;
 
 const ALL: u8 = 0b1111;
 
@@ -446,7 +447,7 @@ pub fn more_rounds() -> Vec<Table> {
 
 /// All benchmark tables with their names.
 pub fn all() -> Vec<(&'static str, Table)> {
-    vec![
+    let mut tables = vec![
         ("small", named::t()),
         ("2,000 records in 5 rounds", wide(2_000, 5)),
         ("65,535 records in 2 rounds", wide(65_535, 2)),
@@ -469,5 +470,7 @@ pub fn all() -> Vec<(&'static str, Table)> {
         ("chain of 200 rules", chain()),
         ("200 transitions, one rule", one_rule()),
         ("200 transitions copied to 3,200", copied()),
-    ]
+    ];
+    tables.extend(searches::all());
+    tables
 }

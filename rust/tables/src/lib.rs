@@ -6,6 +6,8 @@ pub mod bench;
 pub mod damage;
 pub mod named;
 pub mod random;
+pub mod searches;
+pub mod starts;
 
 mod copies;
 mod model;

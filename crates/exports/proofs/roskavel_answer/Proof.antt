@@ -11,7 +11,8 @@ use Rattle.exports.proofs.roskavel_answer.Tie as tie
 returns : tie.Need-returns
 returns c =
     let at-call = c .before .before .before .before .before .before in
-    let a = at-call .before .before .before .before .before .before .args in
+    let start = at-call .before .before .before .before .before .before in
+    let a = start .args in
     let o = at-call .answer .ensures .0 in
     let f = c .put-answer .ensures ∙ ap (λ (x : Answered). sixteen (answerFigures x)) (o .answer) in (
       record { figures = f; log = o .log-left; scratch = o .scratch-left },

@@ -21,7 +21,7 @@ inside : tie.Need-array-copy-out-until-fitting Inv-loop μ-loop
 inside c = omega (arith, c .before .before .pre .0)
 
 until-fitting-requires : tie.Need-until-fitting-requires Inv-loop μ-loop
-until-fitting-requires c κs = let pre = c .before .before .before .before .pre in (c .wide-two .ensures .1, pre .3, pre .4)
+until-fitting-requires c κs = let start = c .before .before .before .before in let pre = start .pre in (c .wide-two .ensures .1, pre .3, pre .4)
 
 returns : tie.Need-returns Inv-loop μ-loop
 returns c =

@@ -24,7 +24,8 @@ loop-holds c =
 has-key-requires : tie.Need-has-key-requires Inv-loop μ-loop
 has-key-requires c κs =
     let at-loop = c .before in
-    let room = at-loop .before .before .before .before .before .before .pre .0 in
+    let start = at-loop .before .before .before .before .before .before in
+    let room = start .pre .0 in
     omega (arith, room .records, seeking-below (at-loop .loop .inv) (c .loop-test .taken))
 
 returns-2 : tie.Need-returns-2 Inv-loop μ-loop
@@ -37,14 +38,16 @@ add-link-at : tie.Need-add-link-at Inv-loop μ-loop
 add-link-at c =
     let at-test = c .before .before in
     let at-loop = at-test .before in
-    let room = at-loop .before .before .before .before .before .before .pre .0 in
+    let start = at-loop .before .before .before .before .before .before in
+    let room = start .pre .0 in
     omega (arith, room .short, room .fits, seeking-below (at-loop .loop .inv) (at-test .loop-test .taken))
 
 link-at-requires-2 : tie.Need-link-at-requires-2 Inv-loop μ-loop
 link-at-requires-2 c κs =
     let at-test = c .before .before in
     let at-loop = at-test .before in
-    let room = at-loop .before .before .before .before .before .before .pre .0 in
+    let start = at-loop .before .before .before .before .before .before in
+    let room = start .pre .0 in
     omega (arith, room .room, room .fits, seeking-below (at-loop .loop .inv) (at-test .loop-test .taken))
 
 loop-less : tie.Need-loop-less Inv-loop μ-loop
@@ -65,7 +68,8 @@ loop-again c =
 returns-3 : tie.Need-returns-3 Inv-loop μ-loop
 returns-3 c =
     let at-loop = c .before in
-    let room = at-loop .before .before .before .before .before .before .pre .0 in
+    let start = at-loop .before .before .before .before .before .before in
+    let room = start .pre .0 in
     seeking-end (omega (arith, room .short, room .fits)) (at-loop .loop .inv) (c .loop-test .left)
 
 pub holds-spec : {M : Type 1} → statement M

@@ -12,7 +12,7 @@ abbrev restricted : tie.After-is-known → tie.After-restricted
 restricted c = c .before .before .before .before
 
 abbrev entry : tie.After-is-known → tie.Start
-entry c = restricted c .before .before .before .before
+entry c = let place = restricted c .before .before .before .before in place
 
 returns : tie.Need-returns
 returns c =

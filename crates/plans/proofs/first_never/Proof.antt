@@ -35,7 +35,8 @@ returns c =
     let at-wide = at-judge .before .before in
     let at-test = at-wide .before .before in
     let loop = at-test .before .loop in
-    let a = at-test .before .before .before .before .before .args in
+    let start = at-test .before .before .before .before .before in
+    let a = start .args in
     let here = never-here (weekOf (a .hours) (a .counts)) (systemIn (a .table .now)) (a .lengths .now) (a .run .now) (loop .k) (at-wide .wide-two .result) (at-wide .wide-two .ensures .0) (at-test .loop-test .taken) in
     sym (ap seen (loop .inv .0 ∙ here (sym (at-judge .judge .ensures .0) ∙ c .if1 .taken)))
 
@@ -45,14 +46,16 @@ loop-again c =
     let at-wide = at-judge .before .before in
     let at-test = at-wide .before .before in
     let loop = at-test .before .loop in
-    let a = at-test .before .before .before .before .before .args in
+    let start = at-test .before .before .before .before .before in
+    let a = start .args in
     let later = never-later (weekOf (a .hours) (a .counts)) (systemIn (a .table .now)) (a .lengths .now) (a .run .now) (loop .k) (at-wide .wide-two .result) (at-wide .wide-two .ensures .0) (at-test .loop-test .taken) in
     (loop .inv .0 ∙ later (sym (at-judge .judge .ensures .0) ∙ c .if1 .left), at-judge .judge .ensures .1)
 
 returns-2 : tie.Need-returns-2 Inv-loop μ-loop
 returns-2 c =
     let at-loop = c .before in
-    let a = at-loop .before .before .before .before .args in
+    let start = at-loop .before .before .before .before in
+    let a = start .args in
     sym (ap seen (at-loop .loop .inv .0 ∙ never-over (weekOf (a .hours) (a .counts)) (systemIn (a .table .now)) (a .lengths .now) (a .run .now) (at-loop .loop .k) (c .loop-test .left)))
 
 pub first-never-spec : {M : Type 1} → statement M

@@ -16,7 +16,8 @@ use Rattle.plans.proofs.plan.Tie as tie
 returns : tie.Need-returns
 returns c =
     let at-read = c .before .before .before in
-    let a = at-read .before .before .before .before .args in
+    let start = at-read .before .before .before .before in
+    let a = start .args in
     let given = c .before .number .given in
     let p = table-refused (a .table .now) (a .run .now) (a .hours) (a .counts) (a .lengths .now) (a .start) (a .begins .now) (given .0 .0) (given .0 .1 .0) (refused-reading _ _ _ (sym (at-read .read .ensures) ∙ given .1)) in
     (p, plans-mean (a .table .now) (a .run .now) (a .hours) (a .counts) (a .lengths .now) (a .start) (a .begins .now) _ _ p)
@@ -26,7 +27,8 @@ plan-accepted-requires c κs =
     let at-read = c .before .before .before .before in
     let given = c .before .before .t .given in
     let accepted : at-read .read .result ≡ Accepted (given .0 .0) = given .1 in
-    let holds : Holds (at-read .before .before .before .before .args .table .now) (given .0 .0) = record { reading = sym (at-read .read .ensures) ∙ accepted } in
+    let start = at-read .before .before .before .before in
+    let holds : Holds (start .args .table .now) (given .0 .0) = record { reading = sym (at-read .read .ensures) ∙ accepted } in
     (holds, table-modest _ _ holds .processes)
 
 returns-2 : tie.Need-returns-2

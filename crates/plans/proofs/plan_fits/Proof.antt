@@ -21,7 +21,8 @@ unfolding planFits
 returns-3 c =
     let at-if2 = c .before .before in
     let at-if1 = at-if2 .before .before in
-    let start = ap startFits (sym (read-back (at-if1 .before .before .before .before .fits .start))) in
+    let entry = at-if1 .before .before .before .before in
+    let start = ap startFits (sym (read-back (entry .fits .start))) in
     rw (sym (at-if1 .before .hours-fit .ensures) ∙ at-if1 .if1 .taken, sym (at-if2 .before .lengths-fit .ensures) ∙ at-if2 .if2 .taken, start ∙ sym (c .before .start-fits .ensures) ∙ c .if3 .left)
 
 returns-4 : tie.Need-returns-4
@@ -31,7 +32,8 @@ returns-4 c =
     let at-if2 = at-if3 .before .before in
     let at-if1 = at-if2 .before .before in
     let hours = sym (at-if1 .before .hours-fit .ensures) ∙ at-if1 .if1 .taken in
-    let start = ap startFits (sym (read-back (at-if1 .before .before .before .before .fits .start))) ∙ sym (at-if3 .before .start-fits .ensures) ∙ at-if3 .if3 .taken in
+    let entry = at-if1 .before .before .before .before in
+    let start = ap startFits (sym (read-back (entry .fits .start))) ∙ sym (at-if3 .before .start-fits .ensures) ∙ at-if3 .if3 .taken in
     rw (hours, sym (at-if2 .before .lengths-fit .ensures) ∙ at-if2 .if2 .taken, start, sym (c .before .run-fits .ensures) ∙ c .if4 .left)
 
 returns-5 : tie.Need-returns-5
@@ -41,7 +43,8 @@ returns-5 c =
     let at-if2 = at-if3 .before .before in
     let at-if1 = at-if2 .before .before in
     let hours = sym (at-if1 .before .hours-fit .ensures) ∙ at-if1 .if1 .taken in
-    let start = ap startFits (sym (read-back (at-if1 .before .before .before .before .fits .start))) ∙ sym (at-if3 .before .start-fits .ensures) ∙ at-if3 .if3 .taken in
+    let entry = at-if1 .before .before .before .before in
+    let start = ap startFits (sym (read-back (entry .fits .start))) ∙ sym (at-if3 .before .start-fits .ensures) ∙ at-if3 .if3 .taken in
     rw (hours, sym (at-if2 .before .lengths-fit .ensures) ∙ at-if2 .if2 .taken, start, sym (c .before .run-fits .ensures) ∙ c .if4 .taken)
 
 pub plan-fits-spec : {M : Type 1} → statement M

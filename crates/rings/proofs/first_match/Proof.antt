@@ -43,8 +43,9 @@ follow-requires c κs =
 returns-3 : tie.Need-returns-3
 returns-3 c =
     let at-link = c .before .before .before in
-    let a = at-link .before .before .before .before .before .args in
-    let w = walks-head (a .letter) (a .g) (at-link .before .before .before .before .before .pre .1) (at-link .before .bucket .ensures) (at-link .link-at .ensures .0) (c .before .before .if2 .left) (c .before .link-at2 .ensures .0) in
+    let start = at-link .before .before .before .before .before in
+    let a = start .args in
+    let w = walks-head (a .letter) (a .g) (start .pre .1) (at-link .before .bucket .ensures) (at-link .link-at .ensures .0) (c .before .before .if2 .left) (c .before .link-at2 .ensures .0) in
     walks-first w (c .follow .ensures) ∙ ap (λ (k : ℕ). firstFrom (recordReads (a .log .now) (a .letter) (a .g)) 0 k) (omega arith)
 
 pub first-match-spec : {M : Type 1} → statement M

@@ -5,8 +5,8 @@ use Prim.Native.Nat.{ℕ}
 use borrow.Author.Needs.{needs}
 use Rattle.states.specs.StateNumbers.{stateNumber}
 use Rattle.states.specs.StateSets.{member}
-use Rattle.start.specs.RestSets.{processesOfTable, zeroedGroup, ownNumber}
-use Rattle.start.proofs.ScratchRegions.{set-part}
+use Rattle.rests.specs.Rests.{processesOfTable, zeroedGroup, ownNumber}
+use Rattle.rests.proofs.Sets.{set-part}
 use Rattle.start.proofs.is_accepted.Statement.{statement}
 use Rattle.start.proofs.is_accepted.Tie as tie
 

@@ -16,37 +16,40 @@ Inv-loop table changes log scratch₀ page₀ count top w₀ scratch page w = Wo
 abbrev μ-loop : tie.MeasureT-loop
 μ-loop table changes log scratch₀ page₀ count top w₀ scratch page w = (1 + writtenPlaces) * (length page₀ - w .rules) + w .top
 
+abbrev start : tie.At-loop Inv-loop μ-loop → tie.Start Inv-loop μ-loop
+start c = let place = c .before .before .before .before .before .before .before in place
+
 work-one-requires : tie.Need-work-one-requires Inv-loop μ-loop
 work-one-requires c κs =
     let at-loop = c .before .before .before .before in
-    working-workable (at-loop .before .before .before .before .before .before .before .pre) (c .before .before .if1 .taken) (at-loop .loop .inv)
+    working-workable (start at-loop .pre) (c .before .before .if1 .taken) (at-loop .loop .inv)
 
 loop-less : tie.Need-loop-less Inv-loop μ-loop
 loop-less c =
     let at-call = c .before .before .before .before in
     let at-loop = at-call .before .before .before .before .before in
-    working-less (at-loop .before .before .before .before .before .before .before .pre) (at-call .before .before .before .if1 .taken) (at-loop .loop .inv) (at-call .work-one .ensures)
+    working-less (start at-loop .pre) (at-call .before .before .before .if1 .taken) (at-loop .loop .inv) (at-call .work-one .ensures)
 
 loop-again : tie.Need-loop-again Inv-loop μ-loop
 loop-again c =
     let at-call = c .before .before .before .before in
     let at-loop = at-call .before .before .before .before .before in
-    working-turn (at-loop .before .before .before .before .before .before .before .pre) (at-call .before .before .before .if1 .taken) (at-loop .loop .inv) (at-call .work-one .ensures)
+    working-turn (start at-loop .pre) (at-call .before .before .before .if1 .taken) (at-loop .loop .inv) (at-call .work-one .ensures)
 
 cast-result : tie.Need-cast-result Inv-loop μ-loop
 cast-result c =
     let at-loop = c .before .before .before .before in
-    omega (arith, working-small (at-loop .before .before .before .before .before .before .before .pre) (at-loop .loop .inv) .0)
+    omega (arith, working-small (start at-loop .pre) (at-loop .loop .inv) .0)
 
 sub-result : tie.Need-sub-result Inv-loop μ-loop
 sub-result c =
     let at-loop = c .before .before .before .before in
-    omega (arith, c .before .highest .ensures, working-small (at-loop .before .before .before .before .before .before .before .pre) (at-loop .loop .inv) .1)
+    omega (arith, c .before .highest .ensures, working-small (start at-loop .pre) (at-loop .loop .inv) .1)
 
 returns : tie.Need-returns Inv-loop μ-loop
 returns c =
     let at-loop = c .before .before .before .before in
-    rw (c .before .highest .ensures) (working-end (at-loop .before .before .before .before .before .before .before .pre) (c .before .before .if1 .left) (at-loop .loop .inv))
+    rw (c .before .highest .ensures) (working-end (start at-loop .pre) (c .before .before .if1 .left) (at-loop .loop .inv))
 
 pub work-off-spec : {M : Type 1} → statement M
 work-off-spec = tie.close (tie.spec Inv-loop μ-loop (λ c κs. let entry = c .before .before .before .before .before in entry .pre .0 .holds)

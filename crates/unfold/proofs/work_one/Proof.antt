@@ -13,13 +13,15 @@ replace-requires : tie.Need-replace-requires
 replace-requires c κs =
     let at-if1 = c .before .before in
     let at-number = at-if1 .before .before .before .before in
-    turn-replaceable (at-number .number-at .ensures) (at-if1 .before .round-at .ensures) (at-if1 .if1 .left) (at-number .before .before .before .before .before .before .before .pre)
+    let start = at-number .before .before .before .before .before .before .before in
+    turn-replaceable (at-number .number-at .ensures) (at-if1 .before .round-at .ensures) (at-if1 .if1 .left) (start .pre)
 
 returns-2 : tie.Need-returns-2
 returns-2 c =
     let at-replace = c .before .before .before .before in
     let at-if1 = at-replace .before .before .before in
-    worked-replaced (at-if1 .before .before .before .before .number-at .ensures) (at-if1 .before .round-at .ensures) (at-if1 .if1 .left) (at-replace .replace .ensures)
+    let at-number = at-if1 .before .before .before .before in
+    worked-replaced (at-number .number-at .ensures) (at-if1 .before .round-at .ensures) (at-if1 .if1 .left) (at-replace .replace .ensures)
 
 pub work-one-spec : {M : Type 1} → statement M
 work-one-spec = tie.close (tie.spec (λ c. search needs) (λ c κs. search needs) (λ c κs. search needs) (λ c. search needs) (λ c. search needs) returns

@@ -10,7 +10,8 @@ returns c =
     let at-enum-told = c .before .before .before .before in
     let at-verdict = c .before .before .before .before .before .before in
     let at-find = at-verdict .before .before .before .before in
-    let w = at-find .before .before .before .before .before .before .pre in
+    let start = at-find .before .before .before .before .before .before in
+    let w = start .pre in
     let sought = at-find .find .ensures _ (w .log-of) in (
       at-verdict .stated-verdict .ensures ∙ rw (at-verdict .before .figure .ensures) (verdict-stated w sought),
       run-none w sought (at-find .find .kept .1 .1 .1 .0) (at-enum-told .enum-told .given .1) (c .before .before .clear .ensures),
@@ -20,7 +21,8 @@ write-run-requires : tie.Need-write-run-requires
 write-run-requires c κs =
     let at-found = c .before .before .before in
     let at-find = at-found .before .before .before .before .before .before in
-    let w = at-find .before .before .before .before .before .before .pre in
+    let start = at-find .before .before .before .before .before .before in
+    let w = start .pre in
     path-stacked w (at-find .find .ensures _ (w .log-of)) (at-find .find .kept .1 .1 .1 .0) (at-found .path .given .1)
 
 returns-2 : tie.Need-returns-2
@@ -28,7 +30,8 @@ returns-2 c =
     let at-write-run = c .before .before .before .before in
     let at-verdict = c .before .before .before .before .before .before .before .before .before .before in
     let at-find = at-verdict .before .before .before .before in
-    let w = at-find .before .before .before .before .before .before .pre in
+    let start = at-find .before .before .before .before .before .before in
+    let w = start .pre in
     let sought = at-find .find .ensures _ (w .log-of) in (
       at-verdict .stated-verdict .ensures ∙ rw (at-verdict .before .figure .ensures) (verdict-stated w sought),
       run-back w sought (at-find .find .kept .1 .1 .1 .0) (at-write-run .write-run .ensures),

@@ -11,7 +11,7 @@ returns : tie.Need-returns
 returns c =
     let at-clear = c .before .before .before .before in
     let at-find = c .before .before .before .before .before .before .before .before in
-    let w = at-find .before .before .before .before .before .pre in (
+    let start = at-find .before .before .before .before .before in let w = start .pre in (
       c .stated-verdict .ensures ∙ rw (c .before .figure .ensures) (verdict-stated w (at-find .find .ensures _ (w .log-of))),
       at-clear .clear .ensures ∙ ap (λ (n : ℕ). replicate n 0) (at-find .find .kept .1 .1 .1 .0),
     )

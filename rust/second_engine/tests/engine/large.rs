@@ -4,7 +4,7 @@ use crate::calls::{Seed, answered, ran, walked};
 use second_engine::{Answer, RECORD_BYTES, Refusal, Run, Walk};
 use std::collections::{HashMap, HashSet};
 use tables::random::{self, Shape};
-use tables::{Group, Rng, Table, Transition, WRITTEN_PLACES, bench, overlay};
+use tables::{Group, Rng, Table, Transition, WRITTEN_PLACES, bench, overlay, searches};
 
 const FULL: usize = RECORD_BYTES * 65_535;
 /// Where the path of a record begins.
@@ -171,6 +171,13 @@ fn reachable(transitions: u32, rounds: u32, steps: u32) -> Answer {
     }
 }
 
+fn unreachable(transitions: u32, rounds: u32) -> Answer {
+    Answer::Unreachable {
+        transitions,
+        rounds,
+    }
+}
+
 const SHORT_LOG: Answer = Answer::Refused(Refusal {
     number: 10,
     place: 0,
@@ -235,6 +242,21 @@ fn benchmark_tables() {
         check(&bench::mixed(44_284, 200, 64)),
         reachable(2_990, 8, 66)
     );
+}
+
+#[test]
+fn searched_tables() {
+    assert_eq!(check(&searches::one_record()), unreachable(1, 1));
+    assert_eq!(check(&searches::copied_word()), unreachable(3_300, 1));
+    assert_eq!(check(&searches::two_worlds()), unreachable(1_921, 1));
+    assert_eq!(check(&searches::wide_chain()), reachable(190, 1, 64));
+    assert_eq!(check(&searches::deep_word()), reachable(96, 1, 64));
+    assert_eq!(check(&searches::dense_search()), unreachable(1_433, 6));
+    assert_eq!(check(&searches::six_paths()), reachable(192, 3, 33));
+    assert_eq!(check(&searches::shared_head()), reachable(216, 3, 10));
+    assert_eq!(check(&searches::hard_1()), reachable(156, 5, 94));
+    assert_eq!(check(&searches::hard_2()), reachable(197, 5, 67));
+    assert_eq!(check(&searches::product_word()), reachable(61_472, 2, 320));
 }
 
 #[test]

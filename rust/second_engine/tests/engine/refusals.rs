@@ -5,7 +5,7 @@ use crate::reader::judge;
 use second_engine::{Answer, Refusal, Run, Walk, answer, run, walk};
 use std::collections::BTreeMap;
 use tables::random::{self, Shape};
-use tables::{BODY, Rng, bench, damage, named};
+use tables::{BODY, Rng, bench, damage, named, starts};
 
 /// The refusal that all three calls give for a refused table. No buffer may change, and the
 /// buffers' own faults, an empty scratch among them, may not show.
@@ -67,9 +67,11 @@ fn named_tables_are_judged_alike() {
 #[test]
 fn random_tables_are_accepted() {
     for seed in (700_000..702_000).map(Seed) {
-        let bytes = random::any(&mut seed.rng()).bytes();
-        assert_eq!(judge(&bytes), None);
-        assert_eq!(refusal_of(&bytes, 0), None);
+        for table in [random::any(&mut seed.rng()), starts::table(&mut seed.rng())] {
+            let bytes = table.bytes();
+            assert_eq!(judge(&bytes), None);
+            assert_eq!(refusal_of(&bytes, 0), None);
+        }
     }
 }
 

@@ -28,7 +28,8 @@ returns-2 : tie.Need-returns-2
 unfolding isReentry
 returns-2 c =
     let at-bits = c .before .before .before in
-    let x = at-bits .before .before .before .before .before .before .args in
+    let start = at-bits .before .before .before .before .before .before in
+    let x = start .args in
     rw (
       eq-eqb _ _ (at-bits .before .before .before .if1 .left),
       leaves (x .bytes .now) (x .t) (x .body .now) _ _ _ _ true (at-bits .before .wide .ensures .0) (at-bits .bits-of .ensures) (c .before .before .group-at .ensures) (c .before .leaves-control .ensures) (c .if2 .taken),
@@ -38,7 +39,8 @@ returns-3 : tie.Need-returns-3
 unfolding isReentry
 returns-3 c =
     let at-bits = c .before .before .before .before in
-    let x = at-bits .before .before .before .before .before .before .args in
+    let start = at-bits .before .before .before .before .before .before in
+    let x = start .args in
     rw (
       eq-eqb _ _ (at-bits .before .before .before .if1 .left),
       leaves (x .bytes .now) (x .t) (x .body .now) _ _ _ _ false (at-bits .before .wide .ensures .0) (at-bits .bits-of .ensures) (c .before .before .before .group-at .ensures) (c .before .before .leaves-control .ensures) (c .before .if2 .left),

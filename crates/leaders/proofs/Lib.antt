@@ -1,0 +1,3 @@
+pub mod Leaders
+pub mod Chains
+pub mod Chaining

@@ -1,0 +1,6 @@
+pub mod ScratchRegions
+pub mod OwnGroups
+pub mod Adding
+pub mod LastStates
+pub mod LastSet
+pub mod Filling
