@@ -1,5 +1,7 @@
 // The accepted test (document 01: watched). The word is read letter by letter with the set of the states that the letters so far lead
 // to; those that one letter more leads to are collected in a second set.
+#![tactic(auto)]
+
 ghost use Rattle.std.specs.Prelude.{◌≡◌, ◌&&◌, List, [], ◌∷◌, ℕ, ◌+◌, ◌≤◌, ◌<◌, eqb, length};
 ghost use Rattle.model.specs.Automata.{move};
 ghost use Rattle.model.specs.Calls.{zeros};

@@ -1,5 +1,7 @@
 // An attempt at the first accepting path of a rest of the start word: depth first from a state by rising record numbers, letter by letter, back where no record
 // is left. It keeps nothing but the record numbers so far, on the stack. It finds the first path, or that there is none, or gives up and has shown nothing.
+#![tactic(auto)]
+
 ghost use Rattle.std.specs.Prelude.{◌≡◌, true, ◌+◌, ◌<◌, ◌≤◌, length};
 ghost use Rattle.states.specs.StateSets.{set_length, member};
 ghost use Rattle.packs.specs.Packs.{packed_number};

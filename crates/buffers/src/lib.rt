@@ -1,4 +1,6 @@
 // Lent buffers: bytes cleared, copied and moved, and pages of numbers cleared.
+#![tactic(auto)]
+
 ghost use Rattle.std.specs.Prelude.{◌≡◌, ◌++◌, ◌+◌, ◌-◌, ◌≤◌, length, replicate, take};
 ghost use Rattle.std.proofs.Math.Seq.{paste};
 ghost use Rattle.model.specs.Calls.{zeros};

@@ -1,4 +1,6 @@
 // Cases by hand: reads calls as text, makes them, and writes what each gives and leaves. The head of the file stdin says how a line is read.
+#![tactic(auto)]
+
 mod building;
 mod calls;
 mod printing;

@@ -1,5 +1,7 @@
 // The copy of Lemma 10 (request 2.6), as the code makes it: whether a table's automaton is copied, how many states each process has, and the copies of a
 // group's states.
+#![tactic(auto)]
+
 ghost use Rattle.std.specs.Prelude.{◌≡◌, true, cond, ◌+◌, ◌<◌, ◌≤◌, ltb, length};
 ghost use Rattle.model.specs.Copies.{copies, leaves_control, reenters, subsets};
 ghost use Rattle.model.specs.Groups.{Process, at, has, processes_of, restrict};

@@ -1,5 +1,7 @@
 // Requests 2.1 and 2.5, named situations at the desk, and who took part: opened once on a table, changed only by its calls. Its owner lends it: each call over
 // `&mut Desk` or `&Desk` is a thin one over a function that takes the desk by value.
+#![tactic(auto)]
+
 ghost use Rattle.std.specs.Prelude.{◌≡◌, ◌<◌, ◌≤◌, length, take};
 ghost use Rattle.desk_model.specs.declared.Told.{Told};
 ghost use Rattle.desk_model.specs.Desks.{checks, count_ceiling, first_stop, fires, saves, returns, forgets, name_count};

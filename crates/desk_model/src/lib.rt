@@ -1,4 +1,5 @@
 // The types and constants that the definitions of the desk and the crates above share. There is no code here.
+#![tactic(auto)]
 
 // The most letters of a desk's pile, the number of its names, and where a count of steps stops.
 pub const PILE: usize = 256;

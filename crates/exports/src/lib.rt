@@ -1,6 +1,8 @@
 // The calls for C and Rust. Here the three of document 01: slices as pointer and length, the answer as 16 numbers. The clauses of each are the mission's
 // demands, in figures; `word` is demand 3 without its premises. The desk's calls are in
 // desks.rt, the plan in planning.rt.
+#![tactic(auto)]
+
 mod desks;
 mod planning;
 

@@ -1,4 +1,6 @@
 // Firing a rule on a word that stands at the end of its buffer: only what lies above the letter that fires is moved, by one place.
+#![tactic(auto)]
+
 ghost use Rattle.std.specs.Prelude.{◌≡◌, ℕ, ◌+◌, ◌-◌, ◌≤◌, ◌<◌, length, drop, get_or};
 ghost use Rattle.std.proofs.Math.Seq.{paste};
 ghost use Rattle.model.specs.Groups.{apart_test, processes_of};

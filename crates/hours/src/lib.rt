@@ -1,5 +1,7 @@
 // Request 2.7: when the processes of a step are open for its whole length. The windows stay as they stand, in any order; before the first step it is noted of
 // each for how long the process stays open from its opening on. A step then asks each window once, and passes over all that are too short for it.
+#![tactic(auto)]
+
 ghost use Rattle.std.specs.Prelude.{cond, false, ◌&&◌, ◌≡◌, ℕ, ◌+◌, ◌-◌, ◌≤◌, ◌<◌, min, leb, ltb, pos, take};
 ghost use Rattle.model.specs.Groups.{has, processes_of};
 ghost use Rattle.model.specs.Lists.{value_or};

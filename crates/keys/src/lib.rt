@@ -1,6 +1,8 @@
 // An index of the log's records in scratch by their keys: letter, states before, states after. There are n buckets, each a list of record numbers from
 // its greatest down. The links are numbers of 16 bits from the offset `at` on: n first records, and n next links. A record is pushed in front of its
 // bucket's list; nothing is linked anew.
+#![tactic(auto)]
+
 ghost use Rattle.std.specs.Prelude.{◌≡◌, ◌+◌, ◌*◌, ◌<◌, ◌≤◌, length};
 ghost use Rattle.states.specs.StateNumbers.{state_count};
 ghost use Rattle.records.specs.Entries.{HasRecord};

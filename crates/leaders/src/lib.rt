@@ -1,5 +1,7 @@
 // The leaders of the log's letters: of each letter and states before the least record. Those of a letter are chained in scratch in rising order by links of
 // 16 bits: a first one for each byte that a letter may be, and a next one for each record where the index of keys was, which saturation no longer needs.
+#![tactic(auto)]
+
 ghost use Rattle.std.specs.Prelude.{◌≡◌, ◌&&◌, ◌+◌, ◌-◌, ◌*◌, ◌<◌, ◌≤◌, ltb, length};
 ghost use Rattle.records.specs.Entries.{HasRecord};
 ghost use Rattle.rings.specs.Rings.{no_link, link_at, record_reads};

@@ -1,5 +1,7 @@
 // How long the processes' projections of a word are: those of the start's word, and what each rule of the table makes of them. Document 01: the stations'
 // own piles.
+#![tactic(auto)]
+
 ghost use Rattle.std.specs.Prelude.{◌≡◌, ◌<◌, max, length};
 ghost use Rattle.model.specs.Groups.{greatest, processes_of};
 ghost use Rattle.table.specs.Reading.{BitsOf, Holds, rule_in, system_in};

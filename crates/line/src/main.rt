@@ -1,4 +1,6 @@
 // Document 01, the program `line`: a table from standard input; the verdict, its figures and a run to standard output.
+#![tactic(auto)]
+
 ghost use Rattle.std.specs.Prelude.{◌≡◌, ◌≤◌, length, take};
 ghost use Rattle.listing.specs.LineText.{Lent, line_text};
 ghost use Rattle.listing.specs.Listing.{is_reachable};

@@ -1,5 +1,7 @@
 // Document 01, the text of the program `line`, put into a lent buffer: the answer's lines and the run's. Each function gives the place after
 // its text.
+#![tactic(auto)]
+
 ghost use Rattle.std.specs.Prelude.{◌++◌, ◌+◌, ◌*◌, ◌≤◌, length};
 ghost use Rattle.listing.specs.Listing.{ascii, decimal, line, counted, refused_line, answer_lines, spaced, run_line, run_lines, listed};
 ghost use Rattle.listing.specs.Puts.{Puts};

@@ -74,6 +74,7 @@ module _ (loc : ℕ → Processes) (log : List Record) where
   paths_sound (a ∷ w) g = extend_sound a w g (λ h. paths loc log w h) (λ h. paths_sound w h) log [] 0 refl refl
 
   mem_push : (n : ℕ) (t : Path) (ts : List Path) → Memᴰ t ts → Memᴰ (push n t) (map (push n) ts)
+  mem_push n t [] x' = elim x' [ ]
   mem_push n t (s ∷ ts) (Memᴰ.head e) = Memᴰ.head (ap (push n) e)
   mem_push n t (s ∷ ts) (Memᴰ.tail m) = Memᴰ.tail (mem_push n t ts m)
 

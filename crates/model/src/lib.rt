@@ -1,4 +1,5 @@
 // The types and constants that the definitions of specs/ and the crates above share. There is no code here.
+#![tactic(auto)]
 
 // The places of a rule's written letters, and of a record's path.
 pub const WRITTEN_PLACES: usize = 6;

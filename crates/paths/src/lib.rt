@@ -1,5 +1,7 @@
 // Search of the paths of the log for what a rule adds: depth first, in rising record numbers. From round 2 on only paths with a record of the last round
 // are gone through, since no other adds anything. The first path to an end that the head's search has not come by adds a record.
+#![tactic(auto)]
+
 ghost use Rattle.std.specs.Prelude.{◌≡◌, true, cond, ◌||◌, ◌+◌, ◌-◌, ◌*◌, ◌<◌, ◌≤◌, min, leb, length, get_or, take};
 ghost use Rattle.model.specs.Log.{steps_cap};
 ghost use Rattle.model.specs.Records.{record_length};

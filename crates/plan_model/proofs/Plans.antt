@@ -77,7 +77,8 @@ module _ (week : Process → List Window) where
 pub begins_count : (week : Process → List Window) (start : ℤ) (ends : List ℤ) (steps : List PlannedStep) → length (begins_from week start ends steps) ≡ length steps
 unfolding begins_from
 begins_count week start ends [] = refl
-begins_count week start ends (s ∷ steps) = ap suc (begins_count week start _ steps)
+begins_count week start ends (s ∷ steps) =
+    ap suc (begins_count week start (ended_at s.processes (begin_of week start ends s +ℤ pos s.minutes) ends) steps)
 
 module _ (table run : List ℕ) (hours : List (List Window)) (counts lengths : List ℕ) (start : ℤ) (begins : List ℤ) where
   -- what the call means, by its answer and its closing list

@@ -1,4 +1,5 @@
 // The types that the definitions of the plan and the crates above share, and constants. There is no code here.
+#![tactic(auto)]
 
 // The places for the windows of a process.
 pub const WINDOW_PLACES: usize = 14;

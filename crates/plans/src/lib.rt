@@ -1,4 +1,6 @@
 // Request 2.7: the plan of a run on the week.
+#![tactic(auto)]
+
 ghost use Rattle.std.specs.Prelude.{cond, true, ◌++◌, ◌≡◌, ◌≤◌, ◌<◌, length, drop};
 ghost use Rattle.model.specs.Groups.{processes_of};
 ghost use Rattle.plan_model.specs.Hours.{PlanMeans, at_start, begin_of, begins_from, bound_of, ended_at, first_never, hours_fit, later_of, length_fits, lengths_fit, never_fits, plan_call, plan_fits, planned_place, planned_refusal, process_fits, run_fits, start_fits, step_of, steps_of, week_of, window_fits};

@@ -1,4 +1,6 @@
 // The calls answer and run: whether a run joins the start and the watched set, and such a run.
+#![tactic(auto)]
+
 ghost use Rattle.std.specs.Prelude.{◌≡◌, ℕ, List};
 ghost use Rattle.model.specs.Calls.{capacity, answer_call, answer_refusal, run_call, run_refusal};
 ghost use Rattle.model.specs.Demands.{LogHolds, Demand3};

@@ -1,4 +1,6 @@
 // Reading a table: document 01, "Table bytes" and refusals 1 to 9, item by item in their order.
+#![tactic(auto)]
+
 mod checks;
 mod items;
 

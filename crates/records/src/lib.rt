@@ -1,4 +1,6 @@
 // The records of the log: one writer, which gets the log from its record's offset on, and a reader of each field by the record's number.
+#![tactic(auto)]
+
 ghost use Rattle.std.specs.Prelude.{◌≡◌, ◌∷◌, ◌++◌, ◌+◌, ◌*◌, ◌-◌, ◌<◌, ◌≤◌, length, drop, replicate, take};
 ghost use Rattle.model.specs.Tables.{written_places};
 ghost use Rattle.model.specs.Records.{record_length, group_bytes, path_bytes, letter_at, after_at, round_at, rule_at, place_at, steps_at};

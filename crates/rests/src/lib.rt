@@ -1,5 +1,7 @@
 // The rests of the start word, each from one of its letters on: the letters, and the states as the sets of the search number them. What a rest is
 // accepted from, and the first accepting path of a rest, stand in specs/Rests.antt.
+#![tactic(auto)]
+
 ghost use Rattle.std.specs.Prelude.{◌≡◌, ◌<◌};
 ghost use Rattle.table.specs.Reading.{Holds};
 ghost use Rattle.rests.specs.Rests.{processes_of_table, zeroed_group, LetterAt};

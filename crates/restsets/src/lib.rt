@@ -1,5 +1,7 @@
 // Sets of states: for a rest of the start word those from which it is accepted, made from the set of the next rest by the records of its first letter. Where
 // the sets stand in the scratch is the caller's matter.
+#![tactic(auto)]
+
 pub mod groups;
 pub mod sets;
 

@@ -1,6 +1,8 @@
 // Rings of the log's records in scratch, by letter and states before: n buckets, each a ring of record numbers in rising order, and behind the
 // greatest the least. The links are numbers of 16 bits from the offset `at` on: n tails, n next links, and for each bucket its first record of the
 // round that gave it one last. Records are appended round by round; nothing is linked anew.
+#![tactic(auto)]
+
 ghost use Rattle.std.specs.Prelude.{◌≡◌, true, ◌+◌, ◌-◌, ◌*◌, ◌<◌, ◌≤◌, length};
 ghost use Rattle.states.specs.StateSets.{first_from};
 ghost use Rattle.records.specs.Entries.{HasRecord};

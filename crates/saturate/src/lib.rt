@@ -1,4 +1,6 @@
 // Saturation: the log of the limit, round by round.
+#![tactic(auto)]
+
 pub mod rounds;
 
 ghost use Rattle.std.specs.Prelude.{◌≡◌, ◌≤◌, length};

@@ -1,5 +1,7 @@
 // Where everything stands in the scratch, phase by phase. Round 0 uses eight bytes for each of its records; the other rounds the first 9,000 bytes, the rings
 // and the keys; the start's path 65 sets, the leaders, the stack and the rings. specs/Regions.antt has the same regions for proofs, and the law that those of one phase do not meet.
+#![tactic(auto)]
+
 pub mod stack;
 
 ghost use Rattle.std.specs.Prelude.{◌≡◌, ◌≤◌};

@@ -1,1 +1,2 @@
 // How a round is searched: definitions and laws, no code.
+#![tactic(auto)]

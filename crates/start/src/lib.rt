@@ -1,6 +1,8 @@
 // The start's path: the first accepting path of the log's records from the start, by record numbers. An attempt without memory comes first and ends most
 // starts. Where it gives up, sets of states, from the back of the start word on, tell from which states the rest of the word is accepted; then each letter
 // takes the lowest record that leads into the next set.
+#![tactic(auto)]
+
 pub mod paths;
 pub mod sets;
 

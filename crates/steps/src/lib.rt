@@ -1,5 +1,7 @@
 // What a walk and a desk have in common: the start's word put at the end of a buffer, one step there, the count of who took part, and the word moved to the
 // front.
+#![tactic(auto)]
+
 ghost use Rattle.std.specs.Prelude.{◌≡◌, ◌+◌, ◌≤◌, min, length, drop};
 ghost use Rattle.std.proofs.Math.Seq.{paste};
 ghost use Rattle.model.specs.Calls.{filled};

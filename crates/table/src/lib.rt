@@ -1,4 +1,6 @@
 // A table: document 01, "Table bytes". It stays in the caller's bytes; what is kept of it are its counts, by which its parts are found there.
+#![tactic(auto)]
+
 mod fields;
 mod groups;
 

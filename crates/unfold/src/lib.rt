@@ -1,5 +1,7 @@
 // The unfolding of a path of the limit into a run, with a stack of record numbers in scratch: the record on top goes; unless it is of round 0,
 // its rule is written to the page, and its path takes its place.
+#![tactic(auto)]
+
 ghost use Rattle.std.specs.Prelude.{◌≡◌, ◌+◌, ◌-◌, ◌<◌, ◌≤◌, length};
 ghost use Rattle.model.specs.Tables.{written_places};
 ghost use Rattle.records.specs.Entries.{HasRecord};

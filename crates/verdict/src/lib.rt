@@ -1,4 +1,6 @@
 // What the answer and the run come to where the log holds the limit: the start's path gives the verdict, and unfolds into the run.
+#![tactic(auto)]
+
 ghost use Rattle.std.specs.Prelude.{◌≡◌};
 ghost use Rattle.model.specs.Calls.{zeros, verdict, start_path, is_long};
 ghost use Rattle.model.specs.Log.{limit};

@@ -1,4 +1,6 @@
 // The walk call: rules fired one after the other from the table's start. While it walks, the word stands at the end of the pile buffer.
+#![tactic(auto)]
+
 ghost use Rattle.std.specs.Prelude.{◌≡◌, ◌-◌, ◌≤◌, ◌++◌, length, drop, get_or};
 ghost use Rattle.model.specs.Calls.{zeros, walk_scratch, walk_from, walk_call, walk_figures, watched_figure};
 ghost use Rattle.model.specs.Demands.{Demand2Walk, TookPart};

@@ -1,4 +1,6 @@
 // Sets of state numbers in lent bytes, 64 numbers at a time.
+#![tactic(auto)]
+
 ghost use Rattle.std.specs.Prelude.{◌≡◌, cond, ◌+◌, ◌*◌, ◌/◌, ◌^◌, ◌<◌, ◌≤◌, length};
 ghost use Rattle.model.specs.Records.{number_at};
 ghost use Rattle.numbers.specs.NumberBytes.{with_number};

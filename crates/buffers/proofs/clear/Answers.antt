@@ -1,0 +1,33 @@
+-- The bytes so far are 0, the rest is as it was (StateSets).
+use mathlib.Core.Path.{refl, ◌∙◌}
+use Prim.Native.Nat.{◌-◌}
+use lib.ListN.{length-set}
+use borrow.Author.Fill.{fill_more}
+use Rattle.buffers.proofs.Clearing.{fill_end}
+use native.Mathlib.Omega.{arith}
+use Rattle.buffers.proofs.clear.Goals as goal
+
+pub loop-i-init : goal.loop-i-init
+loop-i-init c = (omega arith, refl, refl)
+
+pub bounds-buffer-i : goal.bounds-buffer-i
+bounds-buffer-i c = omega arith
+
+pub overflow_add-i : goal.overflow_add-i
+overflow_add-i c = omega arith
+
+pub loop-i-smaller : goal.loop-i-smaller
+loop-i-smaller c = omega arith
+
+pub loop-i-preserved : goal.loop-i-preserved
+loop-i-preserved c =
+    let m = c.loop-i in
+    (omega arith, simp length-set m.invariant.1, rw m.invariant.2 (fill_more m.i 0 _ (omega arith)))
+
+pub shape_of-buffer : goal.shape_of-buffer
+shape_of-buffer c = c.loop-i.invariant.1
+
+pub returns : goal.returns
+returns c =
+    let m = c.loop-i in
+    m.invariant.2 ∙ fill_end c.args.buffer.now 0 m.i (omega arith) (omega arith)
