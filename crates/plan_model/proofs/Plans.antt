@@ -16,7 +16,7 @@ use Rattle.plan_model.specs.declared.Planned.{Planned}
 use Rattle.plan_model.specs.declared.Window.{Window}
 use Rattle.model.specs.Groups.{Process}
 use Rattle.model.specs.Tables.{Item, Reading, accepted, count, read, refused, system_of}
-use Rattle.plan_model.specs.Hours.{BeginsFirst, Exact20, NeverOpen, PlanMeans, PlannedStep, at_start, begins_after, begins_from, first_never, fits, hours_fit, lengths_fit, never_fits, never_or, plan_begins, plan_call, plan_fits, plan_given, planned_place, planned_refusal, run_fits, start_fits, step_at, step_of, steps_of, week_of}
+use Rattle.plan_model.specs.Hours.{BeginsFirst, Exact20, NeverOpen, PlanMeans, PlannedStep, at_start, begins_after, begins_from, ended_at, begin_of, first_never, fits, hours_fit, lengths_fit, never_fits, never_or, plan_begins, plan_call, plan_fits, plan_given, planned_place, planned_refusal, run_fits, start_fits, step_at, step_of, steps_of, week_of}
 use Rattle.model.proofs.Closing.{refusal_number}
 use Rattle.plan_model.proofs.FirstMinutes.{NoneNever, plan_first}
 use Rattle.model.proofs.Tests.{and_right, by_test}
