@@ -21,7 +21,7 @@ use states::sets::contains;
 use table::Table;
 
 // The letters from `low` on and below `high`, and where the set stands that they shall lead into.
-#[derive(Drop)]
+#[derive(Clone, Copy)]
 pub struct Span {
     pub low: usize,
     pub high: usize,
@@ -29,7 +29,7 @@ pub struct Span {
 }
 
 // The first path is on the stack; there is none; or nothing is shown.
-#[derive(Drop)]
+#[derive(Clone, Copy)]
 pub enum Tried {
     Found,
     Nothing,
@@ -38,7 +38,7 @@ pub enum Tried {
 
 // Where an attempt stands: before a letter, whose number and processes it has; in a state, as one number; the record to be tried next there, or none below
 // the limit; and how many tries are left.
-#[derive(Drop)]
+#[derive(Clone, Copy)]
 pub struct Stand {
     pub place: usize,
     pub letter: u8,
@@ -48,7 +48,7 @@ pub struct Stand {
     pub left: usize,
 }
 
-#[derive(Drop)]
+#[derive(Clone, Copy)]
 pub enum Turn {
     Again(Stand),
     Done(Tried),

@@ -25,7 +25,7 @@ const ROOM: usize = 4096;
 const NUMBERS: usize = 24;
 
 // Where the text goes on, and where the table ends.
-#[derive(Drop)]
+#[derive(Clone, Copy)]
 struct Stage {
     at: usize,
     end: usize,

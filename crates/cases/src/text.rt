@@ -103,7 +103,7 @@ pub(crate) fn base_of(kind: u16) -> usize {
 
 // ---- numbers
 // A number that is being read: its value so far, whether it has a digit yet, and how many numbers stand before it.
-#[derive(Drop)]
+#[derive(Clone, Copy)]
 struct Digits {
     value: usize,
     open: bool,

@@ -17,7 +17,7 @@ use table::{
 };
 
 // Whether the automaton is copied, and the number of states of each process, 0 where the table lacks it.
-#[derive(Drop)]
+#[derive(Clone, Copy)]
 pub struct Copying {
     pub made: bool,
     pub states: Group,
@@ -125,7 +125,7 @@ fn copied(states: Group, bits: u8, g: Group) -> Group
 }
 
 // A group, and the copies of its states at the processes in bits.
-#[derive(Drop)]
+#[derive(Clone, Copy)]
 pub struct Mixed {
     pub bits: u8,
     pub plain: Group,

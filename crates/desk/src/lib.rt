@@ -19,7 +19,7 @@ use table::{Parsed, Table};
 
 // A name: whether it is held, and what is saved under it, the states, and a word at the end of its buffer.
 #[repr(C)]
-#[derive(Drop)]
+#[derive(Clone, Copy)]
 pub struct Named {
     held: bool,
     placed: Placed,
@@ -28,7 +28,7 @@ pub struct Named {
 
 // The accepted table's bytes and counts, the configuration where the desk stands, the steps that each process took part in, and the named configurations.
 #[repr(C)]
-#[derive(Drop)]
+#[derive(Clone, Copy)]
 pub struct Desk {
     size: usize,
     table: Table,
@@ -40,7 +40,7 @@ pub struct Desk {
 }
 
 // The desk after a call, and what the call tells.
-#[derive(Drop)]
+#[derive(Clone, Copy)]
 pub struct Next {
     pub desk: Desk,
     pub told: Told,
@@ -48,7 +48,7 @@ pub struct Next {
 
 // Where a desk stands: the states, and the pile at the front of its buffer, zeros behind it.
 #[repr(C)]
-#[derive(Drop)]
+#[derive(Clone, Copy)]
 pub struct Sight {
     pub states: Group,
     pub length: usize,
@@ -57,7 +57,7 @@ pub struct Sight {
 
 // For each process the number of steps that it took part in, since the desk was opened or last returned.
 #[repr(C)]
-#[derive(Drop)]
+#[derive(Clone, Copy)]
 pub struct Counts {
     pub steps: [u64; Table::PROCESSES],
 }

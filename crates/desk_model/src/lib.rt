@@ -15,7 +15,7 @@ pub const BAD_NAME: u8 = 18;
 
 // What the checks find of a call: no rule of its number; a name above the last; a name not held; a rule that does not fire; too many letters after it. Each is
 // false where the call is about no such thing.
-#[derive(Drop)]
+#[derive(Clone, Copy)]
 pub struct Findings {
     pub missing: bool,
     pub beyond: bool,
@@ -25,7 +25,7 @@ pub struct Findings {
 }
 
 // What a call of the desk tells: done; fired, with the processes of the rule's letter as bits; or a refusal.
-#[derive(Drop)]
+#[derive(Clone, Copy)]
 pub enum Told {
     Done,
     Fired { processes: u8 },

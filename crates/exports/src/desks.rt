@@ -10,7 +10,7 @@ use desk_model::Told;
 
 // What opening gives: a desk, or the number and the place of the refusal; then the desk is none.
 #[repr(C)]
-#[derive(Drop)]
+#[derive(Clone, Copy)]
 pub struct Opening {
     pub desk: Desk,
     pub number: u8,
@@ -19,7 +19,7 @@ pub struct Opening {
 
 // What firing gives: the number of the refusal, 0 if there is none, and the processes of the rule's letter as bits, 0 if it is refused.
 #[repr(C)]
-#[derive(Drop)]
+#[derive(Clone, Copy)]
 pub struct Fire {
     pub number: u8,
     pub processes: u8,

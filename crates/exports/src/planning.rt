@@ -9,7 +9,7 @@ use table::Table;
 
 // The windows of one process, and how many of them count.
 #[repr(C)]
-#[derive(Drop)]
+#[derive(Clone, Copy)]
 pub struct Hours {
     pub windows: [Window; WINDOW_PLACES],
     pub count: u8,
@@ -17,14 +17,14 @@ pub struct Hours {
 
 // The opening hours of each process.
 #[repr(C)]
-#[derive(Drop)]
+#[derive(Clone, Copy)]
 pub struct Week {
     pub processes: [Hours; Table::PROCESSES],
 }
 
 // The number of the refusal, 0 if there is none, and its place.
 #[repr(C)]
-#[derive(Drop)]
+#[derive(Clone, Copy)]
 pub struct PlanAnswer {
     pub number: u8,
     pub place: usize,

@@ -18,14 +18,14 @@ use table::{
 };
 
 // A rule that fired: the configuration after it, and the processes of its letter as bits.
-#[derive(Drop)]
+#[derive(Clone, Copy)]
 pub struct Fired {
     pub placed: Placed,
     pub processes: u8,
 }
 
 // What firing a rule comes to: it does not fire; the word after it is longer than the buffer; or it fired.
-#[derive(Drop)]
+#[derive(Clone, Copy)]
 pub enum Firing {
     Idle,
     Full,

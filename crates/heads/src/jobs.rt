@@ -13,7 +13,7 @@ use paths::Job;
 use table::Table;
 
 // The first written letters of a rule and their masks, and the place of the last of them that is fresh.
-#[derive(Drop)]
+#[derive(Clone, Copy)]
 pub struct Word {
     pub letters: [u8; WRITTEN_PLACES],
     pub masks: [u32; WRITTEN_PLACES],

@@ -18,7 +18,7 @@ use table::Table;
 const FARTHEST: usize = WEEK + LONGEST_STEP as usize;
 
 // How long a step waits until its processes are open for its whole length.
-#[derive(Drop)]
+#[derive(Clone, Copy)]
 pub enum Waited {
     After(usize),
     Never,

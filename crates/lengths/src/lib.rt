@@ -14,7 +14,7 @@ use table::{Table, letter_bits, pile_letter, rule_letter, written_count, written
 pub const CHANGES: usize = Table::PROCESSES * Table::RULES;
 
 // A number for each process.
-#[derive(Drop)]
+#[derive(Clone, Copy)]
 pub struct Lengths {
     pub s0: u32,
     pub s1: u32,

@@ -42,7 +42,7 @@ pub const NO_RUN: u8 = 16;
 
 // Document 01: a state group. One local state for each of the four processes, 255 where a process has no part.
 #[repr(C)]
-#[derive(Drop)]
+#[derive(Clone, Copy)]
 pub struct Group {
     pub s0: u8,
     pub s1: u8,
@@ -52,14 +52,14 @@ pub struct Group {
 
 // A configuration whose word stands at the end of a buffer: its states, and the place of the word's first letter.
 #[repr(C)]
-#[derive(Drop)]
+#[derive(Clone, Copy)]
 pub struct Placed {
     pub states: Group,
     pub top: usize,
 }
 
 // What the answer call gives: the verdict with its figures, or a refusal with its number and place.
-#[derive(Drop)]
+#[derive(Clone, Copy)]
 pub enum Answered {
     Reachable {
         transitions: u32,
@@ -77,7 +77,7 @@ pub enum Answered {
 }
 
 // What the run call gives: the figures of the reachable verdict and the peak, or a refusal.
-#[derive(Drop)]
+#[derive(Clone, Copy)]
 pub enum Ran {
     Reached {
         transitions: u32,
@@ -92,14 +92,14 @@ pub enum Ran {
 }
 
 // What the answer call and the run call give where one saturation serves both.
-#[derive(Drop)]
+#[derive(Clone, Copy)]
 pub struct AnswerAndRun {
     pub answered: Answered,
     pub ran: Ran,
 }
 
 // What the walk call gives: the end states, the length of the pile and whether the situation is watched, or a refusal.
-#[derive(Drop)]
+#[derive(Clone, Copy)]
 pub enum Walked {
     Ended {
         states: Group,

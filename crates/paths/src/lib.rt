@@ -25,7 +25,7 @@ use states::sets;
 // A rule of the table with its written letters and their processes as masks; the place of the last letter that a record of the last round reads; whether a
 // record has the rule's letter and states before; the round, the records that it starts from, those from lo on being of the last round, and how many the log
 // can hold.
-#[derive(Drop)]
+#[derive(Clone, Copy)]
 pub struct Job {
     pub letter: u8,
     pub mask: u32,
@@ -43,7 +43,7 @@ pub struct Job {
 }
 
 // The record numbers of a path so far, 65535 past its end, and one more than their steps.
-#[derive(Drop)]
+#[derive(Clone, Copy)]
 pub struct Trail {
     pub places: [u16; WRITTEN_PLACES],
     pub steps: u32,

@@ -18,14 +18,14 @@ pub const NEVER_OPEN: u8 = 20;
 
 // Request 2.7: a window of minutes in the week. The closing minute is not included.
 #[repr(C)]
-#[derive(Drop)]
+#[derive(Clone, Copy)]
 pub struct Window {
     pub opens: u16,
     pub closes: u16,
 }
 
 // What the plan call gives: the plan is laid, or a refusal.
-#[derive(Drop)]
+#[derive(Clone, Copy)]
 pub enum Planned {
     Given,
     Refused { number: u8, place: usize },

@@ -21,7 +21,7 @@ use table::{Parsed, Table, rule_bits};
 const LAST_CLOSING: u16 = WEEK as u16;
 
 // The number of a step, or none.
-#[derive(Drop)]
+#[derive(Clone, Copy)]
 pub enum Seen {
     At(usize),
     Nowhere,

@@ -32,7 +32,7 @@ pub const NO_NUMBER: u16 = 65535;
 pub const STEPS_CAP: u32 = LONGEST_RUN + 1;
 
 // A record of the log. The steps fit three bytes.
-#[derive(Drop)]
+#[derive(Clone, Copy)]
 pub struct Entry {
     pub letter: u8,
     pub before: Group,

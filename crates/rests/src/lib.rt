@@ -12,14 +12,14 @@ use states::groups::chosen;
 use table::{Table, letter_bits, pile_letter};
 
 // A letter with its processes as bits.
-#[derive(Drop)]
+#[derive(Clone, Copy)]
 pub struct Letter {
     pub number: u8,
     pub bits: u8,
 }
 
 // The records that a search goes by: those below the limit, of the count of records that are in rings for n.
-#[derive(Drop)]
+#[derive(Clone, Copy)]
 pub struct Scope {
     pub n: usize,
     pub count: usize,

@@ -17,7 +17,7 @@ use table::Table;
 
 // What is gone through for a letter: its processes as a mask, and the states of the other processes: so many of process 0, so many of process 1, and those
 // of processes 2 and 3 as bits.
-#[derive(Drop)]
+#[derive(Clone, Copy)]
 pub struct Frame {
     pub mask: u32,
     pub rows: usize,

@@ -15,7 +15,7 @@ use initial::write_initial;
 use table::Table;
 
 // The number of the limit's records and of the last round that adds one, or that the log has no room for the limit.
-#[derive(Drop)]
+#[derive(Clone, Copy)]
 pub enum Saturated {
     Limit { count: usize, rounds: usize },
     Full,

@@ -93,7 +93,7 @@ fn goes_on(t: Table, at: Progress, n: usize) -> bool
 }
 
 // What adding a round comes to: records, with how many there are then, or none, or that the log cannot hold them.
-#[derive(Drop)]
+#[derive(Clone, Copy)]
 pub enum Added {
     Records { count: usize },
     Nothing,

@@ -30,7 +30,7 @@ use states::sets::contains;
 use table::{Table, start_group};
 
 // Whether the start has an accepting path, and its steps.
-#[derive(Drop)]
+#[derive(Clone, Copy)]
 pub enum StartPath {
     NoPath,
     Found { steps: u32 },

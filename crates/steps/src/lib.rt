@@ -17,7 +17,7 @@ use numbers::as_bit;
 use table::{Table, pile_letter, start_group};
 
 // What one step comes to: the number of its refusal, or the rule that fired.
-#[derive(Drop)]
+#[derive(Clone, Copy)]
 pub enum Taken {
     Refused(u8),
     Onward(Fired),

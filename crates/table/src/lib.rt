@@ -19,7 +19,7 @@ use numbers::wide;
 
 // What an accepted table holds, besides one start: the number of items of each kind.
 #[repr(C)]
-#[derive(Drop)]
+#[derive(Clone, Copy)]
 pub struct Table {
     pub processes: usize,
     pub letters: usize,
@@ -88,14 +88,14 @@ pub fn ceiling_of(kind: u8) -> usize
 }
 
 // What reading gives: the counts, or the number and the place of the refusal.
-#[derive(Drop)]
+#[derive(Clone, Copy)]
 pub enum Parsed {
     Accepted(Table),
     Refused { number: u8, place: usize },
 }
 
 // A state of the reading: where the next item begins, the kind before it, and the counts so far; `starts` is 1 behind the start.
-#[derive(Drop)]
+#[derive(Clone, Copy)]
 pub struct Cursor {
     pub at: usize,
     pub last: u8,
@@ -104,7 +104,7 @@ pub struct Cursor {
 }
 
 // What one item leads to.
-#[derive(Drop)]
+#[derive(Clone, Copy)]
 pub enum Step {
     Next(Cursor),
     Done(Parsed),

@@ -22,7 +22,7 @@ use table::Table;
 
 // The height of the stack; of the run so far its rules, and of each process the length of its projection of the word after it and the greatest so far,
 // both counted with the rules, so that neither ever falls.
-#[derive(Drop)]
+#[derive(Clone, Copy)]
 pub struct Work {
     pub top: usize,
     pub rules: usize,

@@ -26,7 +26,7 @@ const UNBOUNDED: u64 = 18446744073709551615;
 
 // Where the steps stopped: the number of the refusal, 0 at the list's end; the step; the configuration there; and of the steps before it how many each process
 // took part in.
-#[derive(Drop)]
+#[derive(Clone, Copy)]
 pub struct Stop {
     pub number: u8,
     pub at: usize,
@@ -35,7 +35,7 @@ pub struct Stop {
 }
 
 // What a walk gives, the steps that each process took part in, and where the part of the list begins that it hands back.
-#[derive(Drop)]
+#[derive(Clone, Copy)]
 pub struct Halted {
     pub answer: Walked,
     pub counts: [u64; Table::PROCESSES],
