@@ -113,6 +113,9 @@ module _ {log₀ s₀ : List ℕ} {job : Job} {level state : ℕ} {found : Bool}
     pub is_next : next ≡ packed_merge mask y state
     pub is_new_lem : new ≡ (found || leb job.lo r)
 
+  pub turning : {y next : ℕ} {new : Bool} → r < base → y ≡ packed_after log r → next ≡ packed_merge mask y state → new ≡ (found || leb job.lo r) → Turning y next new
+  turning l a n w = record { below = l; is_after = a; is_next = n; is_new_lem = w }
+
   -- what the search from there comes to
   abbrev pub Turned : ℕ → Bool → ℕ → List ℕ → List ℕ → Type 0
   Turned next new total' log' s' = Explored job (level + 1) next new (longer_trail log trail level r) total log s total' log' s'

@@ -1,0 +1,12 @@
+-- The bytes so far are 255 (Scans).
+use Prim.Native.Nat.{◌-◌}
+use lib.Dec.{eqb}
+use lib.ListN.{length}
+use Rattle.table.proofs.Scans.{Tested}
+use Rattle.reading.proofs.checks.are_spare.Given as goal
+
+abbrev pub invariant-loop-j : goal.invariant-loop-j
+invariant-loop-j l = Tested (λ a. eqb a 255) l.part l.j
+
+abbrev pub decreases-loop-j : goal.decreases-loop-j
+decreases-loop-j l = length l.part - l.j
