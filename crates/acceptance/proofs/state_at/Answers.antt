@@ -1,0 +1,8 @@
+-- The bits stand for the table's processes.
+use mathlib.Core.Path.{refl}
+use Rattle.model.proofs.Groups.{bits_back}
+use Rattle.table.specs.Present.{present_in}
+use Rattle.acceptance.proofs.state_at.Goals as goal
+
+pub returns : goal.returns
+returns c = rw (c.numbered.ensures, c.present.ensures, bits_back (present_in c.args.t)) refl

@@ -1,0 +1,26 @@
+-- The walk call: what it gives, its steps in the paper's terms, and who took part in them.
+use mathlib.Core.Path.{◌≡◌, ◌∙◌, ap, ap₂}
+use mathlib.Core.List.{List, ◌++◌}
+use Prim.Native.Nat.{ℕ, ◌+◌, ◌*◌, ◌-◌}
+use native.Mathlib.Omega.{arith}
+use lib.ListN.{drop, length, length-drop, take}
+use Rattle.model.specs.declared.Walked.{Walked}
+use Rattle.model.specs.Calls.{walk_figures}
+use Rattle.buffers.proofs.Parts.{part_rest}
+use Rattle.walk.proofs.Outcomes.{walk_told}
+use Rattle.walk.proofs.walk.Goals as goal
+
+pub returns : goal.returns
+returns c =
+    let a = c.args in
+    let halted = c.walk_table-halted in
+    let h = halted.ensures in
+    let list = a.list.now in
+    let from = halted.result.from in
+    let part = take (length list - from) (drop from list) in
+    let behind : length list - length part ≡ from = omega (arith, h.inside, ap length (part_rest list from), length-drop from list) in
+    let place : from * 2 + a.list.ptr.1 ≡ a.list.ptr.1 + (length list - length part) * 2 = omega arith in
+    let f = c.put_figures.ensures ∙ ap₂ (λ (x : Walked) (counts : List ℕ). walk_figures x ++ counts) h.answer h.counts in (
+      record { figures = f; rest = part_rest list from ∙ h.rest; pile = h.pile; scratch = h.scratch },
+      (ap (λ (n : ℕ). (a.list.ptr.0, n)) place, walk_told a.table.now list a.pile.now a.scratch.now _ _ f h.pile),
+    )
