@@ -38,16 +38,16 @@ has_path-requires c =
 pub path_steps-steps-requires : goal.path_steps-steps-requires
 path_steps-steps-requires c =
     let few : c.args.t.pile ≤ 64 = (table_modest c.args.table.now c.args.t c.requires.0.1.holds).pile in
-    let pathed : (c : Bool) → c.has_path.result ≡ c → EachRound c.args.table.now c.args.t c.args.log.now c.args.count (λ (c : ℕ). PathIf c.args.table.now c.args.t c c.has_path.new.scratch c) = subst (PathIf c.args.table.now c.args.t c c.has_path.new.scratch) c (c.has_path.ensures c c) in
+    let pathed : (b : Bool) → c.has_path.result ≡ b → EachRound c.args.table.now c.args.t c.args.log.now c.args.count (λ (round : ℕ). PathIf c.args.table.now c.args.t round c.has_path.new.scratch b) = λ b e round lent. subst (PathIf c.args.table.now c.args.t round c.has_path.new.scratch) e (c.has_path.ensures round lent) in
     let lent = c.requires.0.1 in
     (omega (arith, c.has_path.auto.scratch, c.fill_accepting.ensures.0.size, c.requires.2, few), stack_records lent (pathed true c.if-has_path.true _ lent))
 
 pub returns-then-has_path : goal.returns-then-has_path
 returns-then-has_path c =
-    let pathed : (c : Bool) → c.has_path.result ≡ c → EachRound c.args.table.now c.args.t c.args.log.now c.args.count (λ (c : ℕ). PathIf c.args.table.now c.args.t c c.has_path.new.scratch c) = subst (PathIf c.args.table.now c.args.t c c.has_path.new.scratch) c (c.has_path.ensures c c) in
+    let pathed : (b : Bool) → c.has_path.result ≡ b → EachRound c.args.table.now c.args.t c.args.log.now c.args.count (λ (round : ℕ). PathIf c.args.table.now c.args.t round c.has_path.new.scratch b) = λ b e round lent. subst (PathIf c.args.table.now c.args.t round c.has_path.new.scratch) e (c.has_path.ensures round lent) in
     λ round lent. sought_path lent (pathed true c.if-has_path.true round lent) c.path_steps-steps.ensures
 
 pub returns : goal.returns
 returns c =
-    let pathed : (c : Bool) → c.has_path.result ≡ c → EachRound c.args.table.now c.args.t c.args.log.now c.args.count (λ (c : ℕ). PathIf c.args.table.now c.args.t c c.has_path.new.scratch c) = subst (PathIf c.args.table.now c.args.t c c.has_path.new.scratch) c (c.has_path.ensures c c) in
+    let pathed : (b : Bool) → c.has_path.result ≡ b → EachRound c.args.table.now c.args.t c.args.log.now c.args.count (λ (round : ℕ). PathIf c.args.table.now c.args.t round c.has_path.new.scratch b) = λ b e round lent. subst (PathIf c.args.table.now c.args.t round c.has_path.new.scratch) e (c.has_path.ensures round lent) in
     λ round lent. sought_none (pathed false c.if-has_path.false round lent)

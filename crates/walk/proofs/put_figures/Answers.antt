@@ -11,13 +11,13 @@ use Rattle.walk.proofs.put_figures.Goals as goal
 pub returns-in-Ended : goal.returns-in-Ended
 returns-in-Ended c =
     let a = c.args in
-    let g = c.answer-1.given in
-    let e : a.answer ≡ Ended g.0.0 g.0.1.0 g.0.1.1.0 = g.1 in
-    ap₂ (λ (n : ℕ) (counts : List ℕ). 0 ∷ 0 ∷ n ∷ g.0.1.0 ∷ g.0.0.s0 ∷ g.0.0.s1 ∷ g.0.0.s2 ∷ g.0.0.s3 ∷ counts) c.watched_figure.ensures (by_places 0 4 a.t3 c.requires) ∙ sym (ap (λ (x : Walked). walk_figures x ++ a.t3) e)
+    let g = c.in-Ended in
+    ap₂ (λ (n : ℕ) (counts : List ℕ). 0 ∷ 0 ∷ n ∷ g.length ∷ g.states.s0 ∷ g.states.s1 ∷ g.states.s2 ∷ g.states.s3 ∷ counts) c.watched_figure.ensures (by_places 0 4 a.counts c.requires)
+    ∙ sym (ap (λ (x : Walked). walk_figures x ++ a.counts) g.is)
 
 pub returns-in-Refused : goal.returns-in-Refused
 returns-in-Refused c =
     let a = c.args in
-    let g = c.in-Refused.given in
-    let e : a.answer ≡ Refused g.0.0 g.0.1.0 = g.1 in
-    ap (λ (counts : List ℕ). g.0.0 ∷ g.0.1.0 ∷ 0 ∷ 0 ∷ 0 ∷ 0 ∷ 0 ∷ 0 ∷ counts) (by_places 0 4 a.t3 c.requires) ∙ sym (ap (λ (x : Walked). walk_figures x ++ a.t3) e)
+    let g = c.in-Refused in
+    ap (λ (counts : List ℕ). g.number ∷ g.place ∷ 0 ∷ 0 ∷ 0 ∷ 0 ∷ 0 ∷ 0 ∷ counts) (by_places 0 4 a.counts c.requires)
+    ∙ sym (ap (λ (x : Walked). walk_figures x ++ a.counts) g.is)

@@ -30,10 +30,10 @@ returns-in-Refused c =
     let a = c.args in
     let m = c.loop-k in
     let step = c.take_step in
-    let number = c.number-1.given.0.0 in
-    let e : step.result ≡ Refused number = c.number-1.given.1 in
+    let number = c.in-Refused.number in
+    let e : step.result ≡ Refused number = c.in-Refused.is in
     let told = rw e at step.ensures in
-    going_refused a.table.now a.t a.list.now a.pile.now a.start m.pile step.new.1.1.1.0 m.c m.counts step.new.1.1.1.1.1.0 m.k c.wide_two.result number
+    going_refused a.table.now a.t a.list.now a.pile.now a.start m.pile step.new.pile m.c m.counts step.new.counts m.k c.wide_two.result number
     c.loop-k-test.true c.wide_two.ensures.0 m.invariant told.0 told.1
 
 -- the next step has a number of 64 bits
@@ -45,15 +45,14 @@ loop-k-smaller c = omega arith
 
 pub loop-k-preserved : goal.loop-k-preserved
 loop-k-preserved c =
-    let add-k = omega arith in
     let a = c.args in
     let m = c.loop-k in
     let step = c.take_step in
-    let f = c.f-1.given.0.0 in
-    let e : step.result ≡ Onward f = c.f-1.given.1 in
+    let f = c.in-Onward.f in
+    let e : step.result ≡ Onward f = c.in-Onward.is in
     let told = rw e at step.ensures in
-    going_turn a.table.now a.t a.list.now a.pile.now a.start m.pile step.new.1.1.1.0 m.c f m.counts step.new.1.1.1.1.1.0 m.k c.wide_two.result _
-    c.loop-k-test.true (omega (arith, add-k)) c.wide_two.ensures.0 m.invariant told.0 told.1
+    going_turn a.table.now a.t a.list.now a.pile.now a.start m.pile step.new.pile m.c f m.counts step.new.counts m.k c.wide_two.result _
+    c.loop-k-test.true (omega arith) c.wide_two.ensures.0 m.invariant told.0 told.1
 
 pub shape_of-pile : goal.shape_of-pile
 shape_of-pile c =

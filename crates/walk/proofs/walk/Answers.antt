@@ -19,8 +19,12 @@ returns c =
     let from = halted.result.from in
     let part = take (length list - from) (drop from list) in
     let behind : length list - length part ≡ from = omega (arith, h.inside, ap length (part_rest list from), length-drop from list) in
-    let place : from * 2 + a.list.ptr.1 ≡ a.list.ptr.1 + (length list - length part) * 2 = omega arith in
-    let f = c.put_figures.ensures ∙ ap₂ (λ (x : Walked) (counts : List ℕ). walk_figures x ++ counts) h.answer h.counts in (
-      record { figures = f; rest = part_rest list from ∙ h.rest; pile = h.pile; scratch = h.scratch },
-      (ap (λ (n : ℕ). (a.list.ptr.0, n)) place, walk_told a.table.now list a.pile.now a.scratch.now _ _ f h.pile),
-    )
+    let place : from * 2 + a.list.ref_ptr.1 ≡ a.list.ref_ptr.1 + (length list - length part) * 2 = omega arith in
+    let f = c.put_figures.ensures ∙ ap₂ (λ (x : Walked) (counts : List ℕ). walk_figures x ++ counts) h.answer h.counts in
+    let told = walk_told a.table.now list a.pile.now a.scratch.now _ _ f h.pile in
+    record {
+      demand_1 = record { figures = f; rest = part_rest list from ∙ h.rest; pile = h.pile; scratch = h.scratch };
+      part_by_place = ap (λ (n : ℕ). (a.list.ref_ptr.0, n)) place;
+      demand_2 = told.0;
+      request_2_5 = told.1;
+    }

@@ -7,12 +7,9 @@ use Rattle.walk.proofs.walk_table.Goals as goal
 pub returns-in-Refused : goal.returns-in-Refused
 returns-in-Refused c =
     let a = c.args in
-    let g = c.number-1.given in
-    let e : c.read.result ≡ Refused g.0.0 g.0.1.0 = g.1 in
-    rw c.halt_before.ensures (table_halts a.table.now a.list.now a.pile.now a.scratch.now g.0.0 g.0.1.0 (sym e ∙ c.read.ensures))
+    let g = c.in-Refused in
+    rw c.halt_before.ensures (table_halts a.table.now a.list.now a.pile.now a.scratch.now g.number g.place (sym g.is ∙ c.read.ensures))
 
 pub walk_accepted-requires : goal.walk_accepted-requires
 walk_accepted-requires c =
-    let g = c.t-1.given in
-    let e : c.read.result ≡ Accepted g.0.0 = g.1 in
-    record { reading = sym c.read.ensures ∙ e }
+    record { reading = sym c.read.ensures ∙ c.in-Accepted.is }
