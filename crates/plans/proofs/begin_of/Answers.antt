@@ -22,6 +22,6 @@ pub returns : goal.returns
 returns c =
     let a = c.args in
     let bound-fits : SFits w64 c.bound_of-bound.result = record { sfits = c.bound_of-bound.type_inv } in
-    read_back_lem (record { sfits = c.after.type-inv })
+    read_back_lem (record { sfits = c.after.type_inv })
     ∙ c.after.ensures
     ∙ begin_read (week_of a.hours a.counts) a.start a.ends (step_by a.bits a.length) c.bound_of-bound.result c.delay_of.result c.ranges.start bound-fits c.bound_of-bound.ensures c.delay_of.ensures.0

@@ -57,7 +57,7 @@ after-requires c =
     let near = laying_near c.loop-k.invariant (run_short _ _ c.requires.1) in
     let s = step_by c.rule_bits-bits.result c.wide_two-length.result in
     let fits = end_fits (week_of a.hours a.counts) (read_back a.start) c.loop-k.ends s near short (omega arith) in
-    (rw (read_back_lem (record { sfits = c.begin_of-begin.type-inv }), c.begin_of-begin.ensures) fits, omega (arith, short))
+    (rw (read_back_lem (record { sfits = c.begin_of-begin.type_inv }), c.begin_of-begin.ensures) fits, omega (arith, short))
 
 pub ended_at-next-requires : goal.ended_at-next-requires
 ended_at-next-requires c = tt
@@ -84,10 +84,10 @@ loop-k-preserved c =
     let short = length_short _ _ c.requires.0.lengths_fit_lem c.wide_two-n.result c.wide_two-length.result known c.wide_two-length.ensures.0 in
     let inside : loop.k < length loop.begins = omega (arith, loop.invariant.size, c.requires.3, c.loop-k-test.true) in
     let step = step_is a.table.now a.t c.requires.0.holds a.lengths.now c.wide_two-n.result known c.rule_bits-bits.result c.wide_two-length.result c.rule_bits-bits.ensures c.wide_two-length.ensures.0 in
-    let End-read = read_back_lem (record { sfits = c.after.type-inv }) ∙ c.after.ensures in
+    let End-read = read_back_lem (record { sfits = c.after.type_inv }) ∙ c.after.ensures in
     laying_turn loop.invariant c.loop-k-test.true inside
     (step_by c.rule_bits-bits.result c.wide_two-length.result) (step ∙ ap (step_of sys a.lengths.now) c.wide_two-n.ensures.0) short
-    (read_back c.begin_of-begin.result) c.ended_at-next.result (read_back_lem (record { sfits = c.begin_of-begin.type-inv }) ∙ c.begin_of-begin.ensures)
+    (read_back c.begin_of-begin.result) c.ended_at-next.result (read_back_lem (record { sfits = c.begin_of-begin.type_inv }) ∙ c.begin_of-begin.ensures)
     (c.ended_at-next.ensures ∙ ap (λ (t : ℤ). ended_at (processes_of c.rule_bits-bits.result) t loop.ends) End-read)
 
 pub shape_of-begins : goal.shape_of-begins

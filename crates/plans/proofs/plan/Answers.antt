@@ -14,19 +14,17 @@ use Rattle.plans.proofs.plan.Goals as goal
 pub returns-in-Refused : goal.returns-in-Refused
 returns-in-Refused c =
     let a = c.args in
-    let given = c.number-1.given in
-    let p = table_refused a.table.now a.run.now a.hours a.counts a.lengths.now a.start a.begins.now given.0.0 given.0.1.0 (refused_reading _ _ _ (sym c.read.ensures ∙ given.1)) in
-    (p, plans_mean a.table.now a.run.now a.hours a.counts a.lengths.now a.start a.begins.now _ _ p)
+    let given = c.in-Refused in
+    let p = table_refused a.table.now a.run.now a.hours a.counts a.lengths.now a.start a.begins.now given.number given.place (refused_reading _ _ _ (sym c.read.ensures ∙ given.is)) in
+    record { demand_1 = p; request_2_7 = plans_mean a.table.now a.run.now a.hours a.counts a.lengths.now a.start a.begins.now _ _ p }
 
 pub plan_accepted-requires : goal.plan_accepted-requires
 plan_accepted-requires c =
-    let given = c.t-1.given in
-    let accepted : c.read.result ≡ Accepted given.0.0 = given.1 in
-    let holds : Holds c.args.table.now given.0.0 = record { reading = sym c.read.ensures ∙ accepted } in
+    let holds : Holds c.args.table.now c.in-Accepted.t = record { reading = sym c.read.ensures ∙ c.in-Accepted.is } in
     (holds, (table_modest _ _ holds).processes)
 
 pub returns-in-Accepted : goal.returns-in-Accepted
 returns-in-Accepted c =
     let a = c.args in
     let p = subst (λ (z : ℤ). Plans (plan_call a.table.now a.run.now a.hours a.counts a.lengths.now z a.begins.now) c.plan_accepted.result c.plan_accepted.new.begins) (read_back_lem c.ranges.start) c.plan_accepted.ensures in
-    (p, plans_mean a.table.now a.run.now a.hours a.counts a.lengths.now a.start a.begins.now _ _ p)
+    record { demand_1 = p; request_2_7 = plans_mean a.table.now a.run.now a.hours a.counts a.lengths.now a.start a.begins.now _ _ p }

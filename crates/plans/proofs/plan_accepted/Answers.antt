@@ -20,8 +20,8 @@ first_never-requires c =
 pub returns-in-At : goal.returns-in-At
 returns-in-At c =
     let a = c.args in
-    never_open a.table.now a.run.now a.hours a.counts a.lengths.now a.start a.begins.now a.t c.requires.0 c.ranges.start (sym c.plan_fits.ensures ∙ c.if-plan_fits.true) c.k-1.given.0.0
-    (seen_at _ _ (sym c.k-1.given.1 ∙ c.first_never.ensures))
+    never_open a.table.now a.run.now a.hours a.counts a.lengths.now a.start a.begins.now a.t c.requires.0 c.ranges.start (sym c.plan_fits.ensures ∙ c.if-plan_fits.true) c.in-At.k
+    (seen_at _ _ (sym c.in-At.is ∙ c.first_never.ensures))
 
 pub lay-requires : goal.lay-requires
 lay-requires c =
@@ -33,4 +33,4 @@ pub returns-in-Nowhere : goal.returns-in-Nowhere
 returns-in-Nowhere c =
     let a = c.args in
     laid a.table.now a.run.now a.hours a.counts a.lengths.now a.start a.begins.now a.t c.requires.0 c.ranges.start (sym c.plan_fits.ensures ∙ c.if-plan_fits.true) c.lay.new.begins
-    (seen_nowhere _ (sym c.enum_told-1.given.1 ∙ c.first_never.ensures)) c.lay.ensures
+    (seen_nowhere _ (sym c.in-Nowhere.is ∙ c.first_never.ensures)) c.lay.ensures

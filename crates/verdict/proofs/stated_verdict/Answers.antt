@@ -6,10 +6,10 @@ use Rattle.verdict.proofs.stated_verdict.Goals as goal
 
 pub returns-in-NoPath : goal.returns-in-NoPath
 unfolding stated
-returns-in-NoPath c = let a = c.args in sym (ap (λ (p : StartPath). stated p a.transitions a.rounds) c.enum_told-1.given.1)
+returns-in-NoPath c = let a = c.args in sym (ap (λ (p : StartPath). stated p a.transitions a.rounds) c.in-NoPath.is)
 
 pub returns-in-Found : goal.returns-in-Found
 unfolding stated
 returns-in-Found c =
     let a = c.args in
-    sym (ap (λ (p : StartPath). stated p a.transitions a.rounds) c.path-1.given.1)
+    sym (ap (λ (p : StartPath). stated p a.transitions a.rounds) c.in-Found.is)

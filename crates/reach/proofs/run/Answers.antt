@@ -1,0 +1,8 @@
+-- The run call is the second of both calls.
+use Rattle.reach.proofs.Answering.{run_demands}
+use Rattle.reach.proofs.run.Goals as goal
+
+pub returns : goal.returns
+returns c =
+    let a = c.args in
+    run_demands a.table.now a.log.now a.scratch.now a.page.now c.answer_and_run-both.ensures.run.0
