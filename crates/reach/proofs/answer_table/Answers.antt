@@ -8,18 +8,18 @@ returns-then-scratch-n c = answers_short c.requires c.records_in-n.ensures c.if-
 
 pub figure-requires : goal.figure-requires
 figure-requires c =
-    rounds_few (rw c.count-1.given.1 at c.fill_log.ensures)
+    rounds_few (rw c.in-Limit.is at c.fill_log.ensures)
 
 pub answer_limit-requires : goal.answer_limit-requires
 answer_limit-requires c =
-    let left = rw c.count-1.given.1 at c.fill_log.ensures in
+    let left = rw c.in-Limit.is at c.fill_log.ensures in
     rw c.figure.ensures left.settled
 
 pub returns-in-Full : goal.returns-in-Full
 returns-in-Full c =
-    answers_full c.requires c.records_in-n.ensures c.if-scratch-n.false (rw c.enum_told-1.given.1 at c.fill_log.ensures)
+    answers_full c.requires c.records_in-n.ensures c.if-scratch-n.false (rw c.in-Full.is at c.fill_log.ensures)
 
 pub returns-in-Limit : goal.returns-in-Limit
 returns-in-Limit c =
     answers_limit c.requires c.records_in-n.ensures c.if-scratch-n.false
-    (rw c.count-1.given.1 at c.fill_log.ensures) c.answer_limit.ensures.0 c.answer_limit.ensures.1
+    (rw c.in-Limit.is at c.fill_log.ensures) c.answer_limit.ensures.0 c.answer_limit.ensures.1
