@@ -1,4 +1,3 @@
 pub mod Accounts
 pub mod Moving
 pub mod Opening
-pub mod Types

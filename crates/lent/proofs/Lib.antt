@@ -1,4 +1,0 @@
-pub mod Answers
-pub mod Changes
-pub mod Looks
-pub mod Types
