@@ -9,7 +9,6 @@ use native.Mathlib.Nat.{le_refl}
 use lib.Dec.{eqb, leb, ltb}
 use lib.ListN.{drop, length, length-append, take}
 use borrow.Author.Tests.{eq-eqb, eqb-true, leb-false, ltb-false, ne_eqb, not-false}
-use Rattle.model.specs.Groups.{at}
 use Rattle.model.specs.Lists.{Each}
 use Rattle.model.specs.Tables.{Item, Reading, accepted, bodies, body_length, ceiling, cooperates, count, ending, is_out_of_turn, is_reentry, is_stranger, is_twin, last_kind, loc_of, read, read_from, refusal, rule_of, unless_refused, value_fits}
 use Rattle.model.proofs.Lists.{each_append, each_map}

@@ -1,8 +1,8 @@
 -- Logs that choose their reasons differently are alike but for these: what a round may add depends on the log's keys alone, and a rising list of keys is
 -- known by its members.
 use mathlib.Core.Path.{◌∙◌, ◌≡◌, ap, ap₂, refl, subst, sym}
-use mathlib.Core.Bool.{Bool, ◌||◌, cond, false, true, true≢false}
-use mathlib.Core.Logic.{◌⊎◌, inl, inr, ⊎_elim}
+use mathlib.Core.Bool.{Bool, ◌||◌, cond, false, true≢false}
+use mathlib.Core.Logic.{⊎_elim}
 use mathlib.Core.List.Memᴰ
 use mathlib.Core.List.{List, Memᴰ, [], ◌++◌, ◌∷◌, map}
 use Prim.Native.Nat.{max, suc, zero, ℕ}
@@ -11,15 +11,13 @@ use lib.ListN.{length, length-map}
 use Rattle.model.specs.declared.Group.{Group}
 use Rattle.model.specs.Automata.{Transition, move}
 use Rattle.model.specs.Choices.{Choice, ChosenLog, ChosenRound, KeysRise, SameButReasons}
-use Rattle.model.specs.Groups.{Processes, at}
-use Rattle.model.specs.Lists.{Each}
-use Rattle.model.specs.Log.{Candidate, Path, Record, added_record, additions, candidate, candidates, collect, extend, in_log, insert, key_less, keys, log_at, paths, push, reads_at, rounds, same_key}
+use Rattle.model.specs.Groups.{Processes}
+use Rattle.model.specs.Log.{Candidate, Path, Record, added_record, additions, candidate, candidates, collect, extend, in_log, insert, keys, log_at, paths, push, reads_at, rounds, same_key}
 use Rattle.model.specs.Systems.{Configuration, Rule, System}
 use Rattle.model.specs.Unfolding.{accepting_path, first_accepting}
-use Rattle.model.proofs.Collecting.{candidate_keys, collect_adds, each_collect, in_log_of, keys_suc, log_at_suc}
+use Rattle.model.proofs.Collecting.{candidate_keys, collect_adds, each_collect, in_log_of, log_at_suc}
 use Rattle.model.proofs.Lists.{each_get, each_mem, map_append}
 use Rattle.model.proofs.Order.{Less, Sorted, additions_fresh, additions_sorted, each_candidate_keys, less_irrefl, less_trans}
-use Rattle.model.proofs.Tests.{by_test}
 
 -- ---- what depends on the keys alone
 reads_alike : (loc : ℕ → Processes) (a : ℕ) (g : Group) (r s : Record) → r.key ≡ s.key → reads_at loc a g r ≡ reads_at loc a g s

@@ -15,7 +15,6 @@ use Rattle.model.specs.declared.Ran.{Ran}
 use Rattle.model.specs.Calls.{answer_call, answer_given, capacity, filled, is_long, page_after, run_call, run_given, run_of, run_refusal, run_verdict, scratch_needed, start_path, verdict}
 use Rattle.model.specs.Copies.{with_copy}
 use Rattle.model.specs.Demands.{StepsCounted, Decided, Demand3, LogServes, LogShort, NoRun, ScratchServes, TooLong}
-use Rattle.model.specs.Groups.{at}
 use Rattle.model.specs.Log.{Path, Record, limit, rounds, saturated_at, steps_cap, longest_run}
 use Rattle.model.specs.Systems.{Joins, System, peak}
 use Rattle.model.specs.Tables.{Item, Reading, accepted, read, refused, saturated_of, system_of}

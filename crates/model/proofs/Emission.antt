@@ -12,7 +12,6 @@ use Rattle.model.specs.Log.{Record, record_at, steps_cap}
 use Rattle.model.specs.Unfolding.{Unfolds, done, emitted, emitted_by, replaced, skipped}
 use Rattle.model.proofs.Lists.{each_map}
 use Rattle.model.proofs.Tests.{by_zero}
-use Rattle.model.proofs.Words.{here}
 
 emitted_by_zero : (log : List Record) (k n : ℕ) → (record_at log n).round ≡ 0 → emitted_by log (suc k) n ≡ []
 unfolding emitted_by

@@ -9,7 +9,7 @@ use Prim.Native.Nat.{◌≤◌, suc, ℕ}
 use native.Mathlib.Omega.{arith}
 use Rattle.model.specs.declared.Group.{Group}
 use Rattle.model.specs.Automata.{Transition, move}
-use Rattle.model.specs.Groups.{Processes, at}
+use Rattle.model.specs.Groups.{Processes}
 use Rattle.model.specs.Lists.{Each}
 use Rattle.model.specs.Log.{Candidate, Path, Record, additions, candidate, candidates, collect, extend, in_log, insert, key_less, lex_less, paths, push, reads_at, same_key}
 use Rattle.model.specs.Systems.{Rule, System}

@@ -12,7 +12,6 @@ use lib.Dec.{eqb}
 use lib.ListN.{drop, drop_of_length-le, get_or, get_elem?, length, replicate}
 use lib.Seq.{drop-cons}
 use borrow.Author.Tests.{eqb-false, eqb-true, ne_eqb}
-use Rattle.model.specs.Groups.{at}
 use Rattle.model.specs.Lists.{Each, all_of, and_then, any_of, is_empty, filter, sum_over}
 use Rattle.model.proofs.Tests.{and_left, and_right, by_test}
 

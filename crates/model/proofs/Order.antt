@@ -8,7 +8,6 @@ use native.Mathlib.Omega.{arith}
 use lib.Dec.{eqb, ltb}
 use borrow.Author.Tests.{eq-eqb, eqb-false, eqb-true, le-ltb, lt-ltb, ltb-false, ltb-true}
 use Rattle.model.specs.Automata.{Transition}
-use Rattle.model.specs.Groups.{at}
 use Rattle.model.specs.Lists.{Each}
 use Rattle.model.specs.Log.{Candidate, Record, additions, candidates, collect, in_log, initial_candidate, insert, key_digits, key_less, keys, lex_less, log_at, same_key}
 use Rattle.model.specs.Systems.{System}

@@ -11,7 +11,7 @@ use native.Mathlib.Nat.{add_comm}
 use lib.ListN.{length}
 use Rattle.model.specs.declared.Group.{Group}
 use Rattle.model.specs.Automata.{Along, Transition, label}
-use Rattle.model.specs.Groups.{Processes, at}
+use Rattle.model.specs.Groups.{Processes}
 use Rattle.model.specs.Lists.{Each}
 use Rattle.model.specs.Log.{Candidate, Path, Record, added_record, additions, initial_candidate, initial_record, keys, log_at, paths, steps_cap}
 use Rattle.model.specs.Systems.{Accepting, Accepts, Configuration, InAutomaton, Joins, System, is_accepting}

@@ -11,7 +11,6 @@ use lib.Dec.{eqb, leb}
 use lib.ListN.{length, length-append}
 use borrow.Author.Tests.{eqb-false, eqb-true, le-leb, lt-leb}
 use Rattle.model.specs.Automata.{Transition}
-use Rattle.model.specs.Groups.{at}
 use Rattle.model.specs.Lists.{Each, is_empty, filter}
 use Rattle.model.specs.Log.{Candidate, Record, added_record, additions, collect, first_saturated, in_log, initial_candidate, initial_record, key_bound, keys, limit, log_at, record_at, rounds, saturated_at}
 use Rattle.model.specs.Saturation.{Added, Delta}
@@ -24,7 +23,6 @@ use Rattle.model.proofs.Reachability.{initial_held, keys_initial, limit_log}
 use Rattle.model.proofs.Soundness.{transitions_at}
 use Rattle.model.proofs.Tests.{by_test}
 use Rattle.model.proofs.Validity.{initial_each}
-use Rattle.model.proofs.Words.{here, there}
 
 added_map : (sys : System) (D E : Transition → Type 0) → ((t : Transition) → D t → E t) → (t : Transition) → Added sys D t → Added sys E t
 added_map sys D E f t a = record { number = a.number; rule = a.rule; is = a.is; path = a.path; goods = each_map D E f a.path a.goods; reads = a.reads; end = a.end; along = a.along; makes = a.makes }

@@ -13,7 +13,6 @@ use Rattle.model.specs.Lists.{Each}
 use Rattle.model.specs.Log.{Record, record_at}
 use Rattle.model.specs.Saturation.{added}
 use Rattle.model.specs.Systems.{Accepts, Configuration, Rule, System, enabled, fired, walk}
-use Rattle.model.specs.Tables.{cooperates}
 use Rattle.model.specs.Unfolding.{Unfolds, done, replaced, skipped}
 use Rattle.model.specs.Words.{Equivalent, project, remove_first}
 use Rattle.model.proofs.Words.{Located, Pick, Tops, equivalent_append, equivalent_pick, equivalent_tops, here, pick_equivalent, pick_tops, project_append, there, tops_pick}

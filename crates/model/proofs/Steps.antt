@@ -7,10 +7,9 @@ use Prim.Native.Nat.{ℕ}
 use native.Mathlib.Omega.{arith}
 use lib.ListN.{get_elem?}
 use Rattle.model.specs.declared.Group.{Group}
-use Rattle.model.specs.Groups.{Processes, at, merge, restrict, same_group}
+use Rattle.model.specs.Groups.{Processes, merge, restrict, same_group}
 use Rattle.model.specs.Lists.{and_then}
 use Rattle.model.specs.Systems.{Configuration, Equal, Rule, Step, Steps, System, enabled, fire, fired, onward, stay, walk}
-use Rattle.model.specs.Tables.{read}
 use Rattle.model.proofs.Words.{Located, Tops, equivalent_append, equivalent_pick, equivalent_tops, here, pick_equivalent, pick_tops, tops_of, tops_pick, tops_true}
 use Rattle.model.specs.Words.{project, remove_first, tops}
 use Rattle.model.proofs.Groups.{same_group_of, same_group_true}

@@ -9,7 +9,6 @@ use native.Mathlib.Nat.{not-suc-le-zero}
 use lib.ListN.{get_or-append, get_elem?, length}
 use Rattle.model.specs.declared.Group.{Group}
 use Rattle.model.specs.Automata.{Along, Transition, label}
-use Rattle.model.specs.Groups.{at}
 use Rattle.model.specs.Lists.{Each, sum_over}
 use Rattle.model.specs.Log.{Candidate, Record, added_record, additions, collect, initial_candidate, initial_record, log_at, no_record, record_at, steps_cap}
 use Rattle.model.specs.Saturation.{added}

@@ -6,7 +6,7 @@ use Prim.Native.Nat.{ℕ}
 use native.Mathlib.Omega.{arith}
 use lib.Dec.{eqb}
 use borrow.Author.Tests.{eq-eqb, eqb-false, eqb-true}
-use Rattle.model.specs.Groups.{Apart, Process, Processes, at, has}
+use Rattle.model.specs.Groups.{Apart, Process, Processes, has}
 use Rattle.model.specs.Words.{Equivalent, keep, project, remove_first, starts_with, tops}
 use Rattle.model.proofs.Tests.{by_test, every_at, every_of, implied, implies}
 

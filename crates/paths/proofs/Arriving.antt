@@ -1,7 +1,7 @@
 -- Bits of the scratch during a search, the ends seen and the states passed, and an arrival at an end: nothing where it adds nothing, else one end and one record more.
 use mathlib.Core.Path.{◌≡◌, refl, ap, sym, subst, ◌∙◌, ap₂}
 use mathlib.Core.Bool.{Bool, true, false, ◌||◌, cond, or-false, or-true}
-use mathlib.Core.Logic.{◌≢◌, ◌⊎◌, inl, inr, ⊎_elim}
+use mathlib.Core.Logic.{◌⊎◌, inl, inr, ⊎_elim}
 use mathlib.Core.List.{List, [], ◌∷◌, ◌++◌, map}
 use Prim.Native.Nat.{ℕ, ◌+◌, ◌*◌, ◌/◌, ◌<◌, ◌≤◌, zero, suc, min}
 use native.Mathlib.Omega.{arith}

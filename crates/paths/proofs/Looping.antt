@@ -14,14 +14,14 @@ use Rattle.searches.specs.Searches.{fresh_paths}
 use Rattle.model.proofs.Tests.{by_test}
 use Rattle.states.specs.StateNumbers.{state_count, state_number}
 use Rattle.states.specs.StateSets.{first_from, inserted}
-use Rattle.scratch.specs.Regions.{passed_bit, passed_end, rings_at}
+use Rattle.scratch.specs.Regions.{passed_bit, rings_at}
 use Rattle.records.specs.Entries.{HasRecord}
 use Rattle.packs.specs.Packs.{packed_merge, packed_number, packed_after, packed_restrict, unpacked}
 use Rattle.packs.proofs.Unpacked.{number_unpacked}
 use Rattle.rings.specs.Rings.{RingRoom, Ringed, record_reads}
 use Rattle.paths.specs.declared.Job.{Job}
 use Rattle.paths.specs.declared.Trail.{Trail}
-use Rattle.paths.specs.Jobs.{Begins, Lengthens, Passable, Searchable, Searched, Standing, arrivals, first_tried, glances, held_by, is_passed, job_loc, longer_trail, made, offers}
+use Rattle.paths.specs.Jobs.{Begins, Lengthens, Passable, Searchable, Searched, arrivals, first_tried, glances, held_by, is_passed, job_loc, longer_trail, made, offers}
 use Rattle.paths.proofs.Arriving.{searched_nothing, searched_passed, passed_seen}
 use Rattle.paths.proofs.Glances.{reads_same}
 use Rattle.paths.proofs.Turns.{Going, by_record, earlier, going_count, going_end, going_ready, going_stands, going_start, going_turn, joined, log_size, word_end}

@@ -1,6 +1,6 @@
 -- The loop of the search: the records that read a letter, one after the other.
 use mathlib.Core.Path.{◌∙◌, ◌≡◌, ap, ap₂, refl, subst, sym}
-use mathlib.Core.Bool.{Bool, ◌&&◌, ◌||◌, false, true, or_assoc, or-false, or-true}
+use mathlib.Core.Bool.{Bool, ◌&&◌, ◌||◌, false, true, or_assoc, or-false}
 use mathlib.Core.Logic.{⊎_elim}
 use mathlib.Core.List.{List, Memᴰ, [], ◌++◌, ◌∷◌, append_assoc, append-nil, map}
 use Prim.Native.Nat.{◌*◌, ◌+◌, ◌-◌, ◌<◌, ◌≤◌, min, suc, ℕ}
@@ -13,16 +13,15 @@ use borrow.Author.Tests.{eqb-true, ltb-false}
 use Rattle.model.specs.declared.Group.{Group}
 use Rattle.model.specs.Automata.{move}
 use Rattle.model.specs.Groups.{merge, restrict, same_group}
-use Rattle.model.specs.Lists.{Each, sum_over}
+use Rattle.model.specs.Lists.{sum_over}
 use Rattle.model.specs.Log.{Candidate, Path, Record, added_record, no_number, push, reads_at, record_at, steps_cap}
 use Rattle.model.specs.Records.{letter_at, record_length, steps_at}
 use Rattle.searches.specs.Searches.{extend_fresh, fresh_paths}
 use Rattle.searches.proofs.FreshPaths.{Stale, stale_paths}
-use Rattle.model.proofs.Lists.{each_append, each_map, map_append, sum_snoc}
+use Rattle.model.proofs.Lists.{each_append, map_append, sum_snoc}
 use Rattle.model.proofs.Tests.{and_left, by_test}
 use Rattle.states.specs.StateNumbers.{state_count}
 use Rattle.states.specs.StateSets.{first_from, set_length}
-use Rattle.states.proofs.StateNumbers.{state_number_below}
 use Rattle.states.proofs.StateSets.{first_at, first_cong}
 use Rattle.scratch.specs.Regions.{keys_at, passed_at, passed_end, rings_at, seen_at}
 use Rattle.packs.specs.Packs.{mask_of, packed_merge, packed_after, packed_before, packed_restrict, unpacked}
@@ -32,9 +31,9 @@ use Rattle.rings.proofs.Keeping.{freshened_log, freshened_scratch, ringed_log, r
 use Rattle.keys.proofs.Keeping.{indexed_log, indexed_scratch}
 use Rattle.paths.specs.declared.Job.{Job}
 use Rattle.paths.specs.declared.Trail.{Trail}
-use Rattle.paths.specs.Arrivals.{end_number, hit, stored, taken}
+use Rattle.paths.specs.Arrivals.{hit, stored, taken}
 use Rattle.paths.specs.Jobs.{Begins, Lookable, PassedRight, Searchable, Searched, Standing, first_tried, glances, held_by, job_loc, job_word, known, later_fresh, longer_trail, made, offers, seen_in}
-use Rattle.paths.proofs.Arrivals.{hit_append, hit_own, stored_append, stored_capped, stored_earlier, stored_length, taken_append, taken_known}
+use Rattle.paths.proofs.Arrivals.{hit_append, stored_append, stored_capped, stored_earlier, stored_length, taken_append, taken_known}
 use Rattle.paths.proofs.Extending.{extend_end, extend_first, extend_hit, extend_late}
 use Rattle.paths.proofs.Glances.{after_same, before_same, glances_at, glances_same, held_same, length_glances, letter_same, reads_same}
 

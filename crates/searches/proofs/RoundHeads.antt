@@ -10,7 +10,7 @@ use lib.Dec.{eqb}
 use borrow.Author.Tests.{eq-eqb, eqb-true, not-true}
 use Rattle.model.specs.declared.Group.{Group}
 use Rattle.model.specs.Automata.{Transition}
-use Rattle.model.specs.Groups.{Processes, at, same_group}
+use Rattle.model.specs.Groups.{Processes, same_group}
 use Rattle.model.specs.Lists.{Each, filter}
 use Rattle.model.specs.Log.{Candidate, Path, Record, additions, candidate, candidates, collect, in_log, key_less, lex_less, paths, same_key}
 use Rattle.model.specs.Saturation.{added}

@@ -9,7 +9,6 @@ use lib.Dec.{eqb}
 use lib.ListN.{get_elem?, length}
 use borrow.Author.Tests.{eq-eqb}
 use Rattle.model.specs.Automata.{Along, Transition, label}
-use Rattle.model.specs.Groups.{at}
 use Rattle.model.specs.Lists.{Each, any_of}
 use Rattle.model.specs.Log.{Candidate, Path, Record, added_record, additions, in_log, log_at, no_record, paths, record_at}
 use Rattle.model.specs.Saturation.{added}

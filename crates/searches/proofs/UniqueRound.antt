@@ -6,7 +6,6 @@ use mathlib.Core.List.{List, [], ◌∷◌}
 use Prim.Native.Nat.{ℕ}
 use native.Mathlib.Omega.{arith}
 use Rattle.model.specs.Automata.{Transition}
-use Rattle.model.specs.Groups.{at}
 use Rattle.model.specs.Lists.{Each}
 use Rattle.model.specs.Log.{Candidate, Record, collect, in_log, key_less, same_key}
 use Rattle.model.proofs.Collecting.{same_key_of, same_key_true}

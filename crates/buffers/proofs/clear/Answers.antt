@@ -1,6 +1,5 @@
 -- The bytes so far are 0, the rest is as it was (StateSets).
 use mathlib.Core.Path.{refl, ◌∙◌}
-use Prim.Native.Nat.{◌-◌}
 use lib.ListN.{length-set}
 use borrow.Author.Fill.{fill_more}
 use Rattle.buffers.proofs.Clearing.{fill_end}

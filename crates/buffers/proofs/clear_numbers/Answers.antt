@@ -1,6 +1,5 @@
 -- The numbers of a page are cleared in turn.
 use mathlib.Core.Path.{refl, ◌∙◌}
-use Prim.Native.Nat.{◌-◌}
 use lib.ListN.{length-set}
 use borrow.Author.Fill.{fill_more}
 use Rattle.buffers.proofs.Clearing.{fill_end}

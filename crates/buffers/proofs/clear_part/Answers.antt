@@ -1,5 +1,4 @@
 -- Zeros are written one after the other.
-use Prim.Native.Nat.{◌-◌}
 use native.Mathlib.Omega.{arith}
 use Rattle.buffers.proofs.Clearing.{cleared_all, cleared_more, cleared_none}
 use Rattle.buffers.proofs.clear_part.Goals as goal

@@ -1,6 +1,5 @@
 -- The bytes so far are copied, each from a place that is not yet written over (Buffers).
 use mathlib.Core.Path.{◌≡◌, ◌∙◌, ap}
-use Prim.Native.Nat.{◌-◌}
 use Rattle.buffers.specs.Buffers.{fronted}
 use Rattle.buffers.proofs.Writing.{fronting_start, fronting_turn}
 use native.Mathlib.Omega.{arith}

@@ -1,5 +1,4 @@
 -- The transitions so far enter no control state (Scans).
-use mathlib.Core.List.{[]}
 use Prim.Native.Nat.{◌-◌}
 use Rattle.model.specs.Copies.{leaves_control}
 use Rattle.table.specs.Reading.{system_in}

@@ -2,7 +2,7 @@
 use Rattle.rings.proofs.Links.{outside_none}
 use Rattle.keys.specs.Keys.{Indexed}
 use Rattle.keys.proofs.Pushing.{pushed_turn}
-use Prim.Native.Nat.{ℕ, ◌*◌, ◌-◌}
+use Prim.Native.Nat.{ℕ, ◌*◌}
 use mathlib.Core.Path.{◌≡◌, subst}
 use native.Mathlib.Omega.{arith}
 use Rattle.keys.proofs.append.Goals as goal

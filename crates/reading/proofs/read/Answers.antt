@@ -1,6 +1,5 @@
 -- What is read from the cursor on is what the whole reading gives, and the filter is that of the items before it (Marks); each item moves the cursor on.
 use mathlib.Core.Path.{refl}
-use Prim.Native.Nat.{◌-◌}
 use native.Mathlib.Omega.{arith}
 use Rattle.table.proofs.Steps.{going_end}
 use Rattle.reading.proofs.Marks.{filtering_start, filtering_turn}

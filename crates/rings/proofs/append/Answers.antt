@@ -1,7 +1,7 @@
 -- One record after the other is appended, and the rings of all below it are kept (Appending).
 use Rattle.rings.specs.Rings.{Ringed, Freshened, OutsideSame}
 use Rattle.rings.proofs.Appending.{appending_start, appending_turn}
-use Prim.Native.Nat.{ℕ, ◌*◌, ◌-◌}
+use Prim.Native.Nat.{ℕ, ◌*◌}
 use mathlib.Core.Path.{◌≡◌, subst}
 use native.Mathlib.Omega.{arith}
 use Rattle.rings.proofs.append.Goals as goal

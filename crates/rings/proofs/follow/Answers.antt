@@ -1,6 +1,5 @@
 -- No record passed over reads the letter; a link that does not rise is the ring's end (Walking).
 use Rattle.rings.proofs.Walking.{walks_start, walks_turn, walks_none, walks_end}
-use Prim.Native.Nat.{◌-◌}
 use mathlib.Core.Path.{sym, ◌∙◌}
 use native.Mathlib.Omega.{arith}
 use Rattle.rings.proofs.follow.Goals as goal

@@ -1,7 +1,7 @@
 -- The links so far are none, and no other byte has changed (Unlinked).
 use Rattle.rings.specs.Rings.{Unlinked}
 use Rattle.rings.proofs.Clearing.{unlinked_start, unlinked_turn}
-use Prim.Native.Nat.{ℕ, ◌-◌}
+use Prim.Native.Nat.{ℕ}
 use mathlib.Core.Path.{◌≡◌, subst}
 use native.Mathlib.Omega.{arith}
 use Rattle.rings.proofs.unlink.Goals as goal

@@ -1,6 +1,5 @@
 -- Round after round, until one adds nothing or the log has no room (Saturating).
 use mathlib.Core.Path.{◌∙◌}
-use Prim.Native.Nat.{◌-◌}
 use native.Mathlib.Omega.{arith}
 use Rattle.saturate.proofs.Saturating.{measure_falls, saturating_full, saturating_limit, saturating_start, saturating_turn}
 use Rattle.saturate.proofs.add_rounds.Goals as goal

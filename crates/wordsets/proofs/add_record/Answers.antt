@@ -1,7 +1,7 @@
 -- The rows of a record in turn.
 use Rattle.wordsets.proofs.WordSets.{record_start, record_turn}
 use Rattle.wordsets.specs.WordSets.{RecordAdded}
-use Prim.Native.Nat.{ℕ, ◌-◌}
+use Prim.Native.Nat.{ℕ}
 use mathlib.Core.Path.{◌≡◌, subst}
 use native.Mathlib.Omega.{arith}
 use Rattle.wordsets.proofs.add_record.Goals as goal

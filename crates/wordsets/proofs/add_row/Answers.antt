@@ -1,7 +1,7 @@
 -- The words of a row in turn.
 use Rattle.wordsets.proofs.WordSets.{adding_start, adding_turn}
 use Rattle.wordsets.specs.WordSets.{RowAdded}
-use Prim.Native.Nat.{ℕ, ◌-◌}
+use Prim.Native.Nat.{ℕ}
 use mathlib.Core.Path.{◌≡◌, subst}
 use native.Mathlib.Omega.{arith}
 use Rattle.wordsets.proofs.add_row.Goals as goal

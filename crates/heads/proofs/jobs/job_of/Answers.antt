@@ -1,7 +1,6 @@
 -- The job has the head, the number and the written letters of the rule.
 use mathlib.Core.Path.{refl, ap, ◌∙◌}
 use native.Mathlib.Omega.{arith}
-use borrow.Author.Rules.{rules}
 use Rattle.model.specs.Groups.{Processes}
 use Rattle.packs.specs.Packs.{mask_of}
 use Rattle.table.proofs.Layouts.{table_modest}

@@ -1,6 +1,5 @@
 -- One letter after the other is read (Words).
 use mathlib.Core.Path.{◌≡◌}
-use Prim.Native.Nat.{◌-◌}
 use native.Mathlib.Omega.{arith}
 use Rattle.heads.proofs.Words.{word_none}
 use Rattle.heads.proofs.jobs.word_of.Goals as goal

@@ -1,6 +1,5 @@
 -- The bytes so far are letters (Scans).
 use mathlib.Core.Path.{refl}
-use Prim.Native.Nat.{◌-◌}
 use native.Mathlib.Omega.{arith}
 use borrow.Author.Tests.{lt-ltb, le-ltb}
 use Rattle.table.proofs.Scans.{tested_more, tested_fails, tested_end}

@@ -1,6 +1,5 @@
 -- The bytes so far are 255 (Scans).
 use mathlib.Core.Path.{refl}
-use Prim.Native.Nat.{◌-◌}
 use native.Mathlib.Omega.{arith}
 use borrow.Author.Tests.{eq-eqb, ne_eqb}
 use Rattle.table.proofs.Scans.{tested_more, tested_fails, tested_end}

@@ -1,10 +1,8 @@
 -- The letters so far stay within the set (Scans).
 use mathlib.Core.Path.{refl, sym, ◌∙◌}
-use Prim.Native.Nat.{◌-◌}
 use native.Mathlib.Omega.{arith}
 use borrow.Author.Tests.{ltb-true}
 use Rattle.table.proofs.Scans.{tested_more, tested_fails, tested_end, all_at}
-use Rattle.reading.proofs.Values.{within}
 use Rattle.reading.proofs.checks.are_within.Goals as goal
 
 pub loop-j-init : goal.loop-j-init

@@ -1,7 +1,5 @@
 -- Two parts are compared byte by byte behind those that are known to be the same.
-use mathlib.Core.Bool.{true}
 use mathlib.Core.Path.{◌≡◌, sym}
-use Prim.Native.Nat.{◌-◌}
 use native.Mathlib.Omega.{arith}
 use lib.ListN.{drop, length-drop}
 use lib.Seq.{get_or-drop}

@@ -1,6 +1,5 @@
 -- The bytes of both sets are joined one after the other.
 use mathlib.Core.Path.{refl}
-use Prim.Native.Nat.{◌-◌}
 use native.Mathlib.Omega.{arith}
 use Rattle.rules.proofs.RegionLaws.{bytes_all, bytes_more, bytes_none, set_added, sum_kept}
 use Rattle.rules.proofs.positions.add.Goals as goal

@@ -1,9 +1,7 @@
 -- The records of round k are put into rings, the positions that write their letters made active, their keys indexed, and their heads added one after the
 -- other (RoundSteps); then the round is told (RoundEnds).
 use mathlib.Core.Path.{◌∙◌}
-use Prim.Native.Nat.{◌-◌}
 use native.Mathlib.Omega.{arith}
-use borrow.Author.Rules.{rules}
 use Rattle.table.proofs.Layouts.{table_modest}
 use Rattle.saturate.proofs.RoundEnds.{round_ends}
 use Rattle.saturate.proofs.RoundSteps.{below, fits, head_active, head_leading, heads_end, heads_start, heads_turn, rules_fewer}

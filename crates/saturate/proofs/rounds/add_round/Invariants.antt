@@ -1,7 +1,6 @@
 -- The records of round k are put into rings, the positions that write their letters made active, their keys indexed, and their heads added one after the
 -- other (RoundSteps); then the round is told (RoundEnds).
 use Prim.Native.Nat.{◌-◌}
-use borrow.Author.Rules.{rules}
 use Rattle.saturate.proofs.RoundSteps.{HeadsAdded}
 use Rattle.saturate.proofs.rounds.add_round.Given as goal
 

@@ -1,5 +1,4 @@
 -- Record after record, the letters of all are gathered.
-use Prim.Native.Nat.{◌-◌}
 use native.Mathlib.Omega.{arith}
 use Rattle.saturate.proofs.ScratchParts.{letters_more}
 use Rattle.saturate.proofs.rounds.fresh_letters.Goals as goal

@@ -1,5 +1,4 @@
 -- One byte after the other is counted; a count of at most 255 bytes stays a byte (StateSets).
-use Prim.Native.Nat.{◌-◌}
 use Rattle.states.proofs.StateSets.{counting_end, counting_start, counting_turn}
 use native.Mathlib.Omega.{arith}
 use Rattle.states.proofs.sets.count_equal.Goals as goal
