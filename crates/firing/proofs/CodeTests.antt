@@ -5,7 +5,7 @@ use mathlib.Core.List.{List, [], ◌∷◌}
 use Prim.Native.Nat.{ℕ}
 use lib.Dec.{eqb}
 use borrow.Author.Tests.{eq-eqb, eqb-true, not-true}
-use Rattle.model.specs.Groups.{Apart, Processes, apart_test, at, has}
+use Rattle.model.specs.Groups.{Apart, Processes, apart_test, has}
 use Rattle.model.proofs.Words.{Located, Pick, here, pick_tops, there, tops_of, tops_pick, tops_true}
 use Rattle.model.specs.Words.{remove_first, tops}
 use Rattle.model.proofs.Tests.{and_left, and_right, by_test, every_at, every_of, implied, implies, same_test}

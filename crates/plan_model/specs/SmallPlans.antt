@@ -1,7 +1,7 @@
 -- Request 2.7: small plans, as one table of calls and what they give, with one theorem. Of table T rule 0 is of both
 -- processes, rule 1 of process 0, rule 2 of process 1. The list of begins has four places and is used before: all its
 -- minutes are 7.
-use Rattle.std.specs.Prelude.{◌≡◌, refl, List, [], ◌∷◌, ◌++◌, map, ℕ, ℤ, pos, negsuc, length, replicate}
+use Rattle.std.specs.Prelude.{◌≡◌, refl, List, [], ◌∷◌, map, ℕ, ℤ, pos, negsuc, length, replicate}
 use Rattle.plan_model.specs.declared.Planned.{Planned}
 use Rattle.plan_model.specs.declared.Window.{Window}
 use Rattle.model.specs.Tables.{is_out_of_turn, group_fits, transition_fits, written_fit, value_fits, cooperates, is_narrow}

@@ -2,7 +2,7 @@
 use mathlib.Core.Path.{◌≡◌, ap, sym, subst, ◌∙◌, refl, ap₂}
 use mathlib.Core.Bool.{Bool, true, false, ◌&&◌, ◌||◌}
 use mathlib.Core.List.{List, [], ◌∷◌, map}
-use Prim.Native.Nat.{ℕ, suc, ◌+◌, ◌-◌, ◌<◌, ◌*◌}
+use Prim.Native.Nat.{ℕ, suc, ◌+◌, ◌<◌, ◌*◌}
 use native.Mathlib.Omega.{arith}
 use native.Mathlib.Decide.{dec_lt}
 use native.Mathlib.Numerals.{add-one}
@@ -12,7 +12,7 @@ use lib.Seq.{drop-cons}
 use borrow.Author.Tests.{eq-eqb, eqb-true, lt-ltb, le-ltb}
 use Rattle.model.specs.declared.Group.{Group}
 use Rattle.model.specs.Automata.{Transition, move}
-use Rattle.model.specs.Groups.{Processes, at, processes_of, same_group, Within, restrict, merge}
+use Rattle.model.specs.Groups.{Processes, processes_of, same_group, Within, restrict, merge}
 use Rattle.model.specs.Lists.{any_of}
 use Rattle.model.specs.Log.{Record, record_at, no_record, reads_at, keys, log_at}
 use Rattle.model.specs.Systems.{System, accepts}

@@ -7,10 +7,8 @@ use lib.ListN.{length, take, drop, drop_of_length-le, replicate, length-append, 
 use lib.Seq.{take_at, drop_at, take_all, length-take-le, paste, length-paste}
 use Rattle.model.specs.declared.Group.{Group}
 use Rattle.model.specs.Calls.{filled, zeros}
-use Rattle.model.specs.Systems.{Configuration}
 use Rattle.buffers.specs.Buffers.{fronted}
 use Rattle.buffers.proofs.Parts.{part_rest}
-use Rattle.firing.specs.Piles.{configuration}
 use Rattle.table.specs.declared.Table.{Table}
 use Rattle.table.specs.Reading.{system_in}
 use Rattle.steps.specs.Stepping.{StartPlaced}

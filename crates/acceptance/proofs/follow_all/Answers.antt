@@ -1,7 +1,6 @@
 -- The transitions so far have put in what they lead to, one after the other (Sets).
 use mathlib.Core.Path.{◌∙◌}
 use mathlib.Core.List.{[]}
-use Prim.Native.Nat.{◌-◌}
 use native.Mathlib.Omega.{arith}
 use Rattle.model.specs.Tables.{transition_of}
 use Rattle.table.proofs.Layouts.{transitions_count}

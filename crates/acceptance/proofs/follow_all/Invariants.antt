@@ -1,5 +1,4 @@
 -- The transitions so far have put in what they lead to, one after the other (Sets).
-use mathlib.Core.List.{[]}
 use Prim.Native.Nat.{◌-◌}
 use Rattle.table.specs.Reading.{system_in}
 use Rattle.table.specs.Present.{present_in}

@@ -1,6 +1,5 @@
 -- No state of the set below the next member is accepting (Sets).
 use mathlib.Core.Path.{◌∙◌, sym}
-use Prim.Native.Nat.{◌-◌}
 use native.Mathlib.Omega.{arith}
 use Rattle.states.proofs.StateSets.{next_at}
 use Rattle.table.proofs.Layouts.{table_modest}

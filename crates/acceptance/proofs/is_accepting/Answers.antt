@@ -1,7 +1,6 @@
 -- None of the accepting groups so far is the group (Sets).
 use mathlib.Core.Path.{refl, ◌∙◌, ap, sym}
 use mathlib.Core.List.{[]}
-use Prim.Native.Nat.{◌-◌}
 use native.Mathlib.Omega.{arith}
 use Rattle.model.specs.Groups.{same_group}
 use Rattle.model.specs.Tables.{group_of}

@@ -1,6 +1,5 @@
 -- The states below the next member have put in what the letter leads to from them (Sets).
 use mathlib.Core.Path.{refl, ◌∙◌}
-use Prim.Native.Nat.{◌-◌}
 use native.Mathlib.Omega.{arith}
 use Rattle.states.proofs.StateSets.{next_at}
 use Rattle.acceptance.proofs.Sets.{collected_start, collected_turn, collected_end}

@@ -1,5 +1,4 @@
 -- The set accepts the rest of the word just where the first set accepts the whole (Regions).
-use Prim.Native.Nat.{◌-◌}
 use native.Mathlib.Omega.{arith}
 use Rattle.acceptance.proofs.Regions.{ahead_start, ahead_turn, ahead_end}
 use Rattle.acceptance.proofs.read_word.Goals as goal

@@ -1,6 +1,5 @@
 -- The letters passed over are other ones and apart; one that is neither ends the search (Scans).
 use mathlib.Core.Path.{sym, ◌∙◌}
-use Prim.Native.Nat.{◌-◌}
 use native.Mathlib.Omega.{arith}
 use Rattle.firing.proofs.Scans.{finding_start, finding_here, finding_blocked, finding_turn, finding_end}
 use Rattle.firing.proofs.find.Goals as goal

@@ -1,6 +1,6 @@
 -- The written letters so far stand in the buffer, one after the other.
 use mathlib.Core.Path.{◌≡◌, ◌∙◌, ap}
-use Prim.Native.Nat.{◌-◌, ◌<◌}
+use Prim.Native.Nat.{◌<◌}
 use Rattle.buffers.proofs.Writing.{pasting_start, pasting_turn}
 use lib.Seq.{paste}
 use Rattle.table.specs.Reading.{rule_in}

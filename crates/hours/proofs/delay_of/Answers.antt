@@ -6,7 +6,6 @@ use Rattle.plan_model.specs.Hours.{minute_of_week, week_minutes, week_of}
 use Rattle.plan_model.proofs.Weeks.{minute_below}
 use Rattle.hours.specs.Searching.{step_by}
 use Rattle.hours.proofs.Skipping.{minutes_told}
-use borrow.Author.Rules.{rules}
 use Rattle.hours.proofs.delay_of.Goals as goal
 
 pub wait_from-requires : goal.wait_from-requires

@@ -3,7 +3,6 @@ use mathlib.Core.Path.{sym, ap, ◌∙◌}
 use Rattle.plan_model.specs.Hours.{week_of}
 use Rattle.hours.specs.Searching.{step_by}
 use Rattle.hours.proofs.Skipping.{never_told, says_never}
-use borrow.Author.Rules.{rules}
 use Rattle.hours.proofs.fits_never.Goals as goal
 
 pub returns-in-After : goal.returns-in-After

@@ -1,6 +1,5 @@
 -- The windows that were looked at keep the process open up to the latest closing (Windows).
 use native.Mathlib.Omega.{arith}
-use Prim.Native.Nat.{◌-◌}
 use Rattle.hours.proofs.Windows.{reaching_start, reaching_turn, reaching_end}
 use Rattle.hours.proofs.open_until.Goals as goal
 

@@ -1,7 +1,7 @@
 -- A step that begins within the minutes that are left lasts beyond the stay of each window that was looked at (Windows); a window less is left in each turn.
 use native.Mathlib.Omega.{arith}
 use mathlib.Core.Path.{ap, ◌∙◌}
-use Prim.Native.Nat.{ℕ, ◌-◌}
+use Prim.Native.Nat.{ℕ}
 use Rattle.plan_model.specs.Hours.{window_at}
 use Rattle.hours.specs.Searching.{until_fitting}
 use Rattle.hours.proofs.Windows.{fitting_end, fitting_start, fitting_stop, fitting_turn}

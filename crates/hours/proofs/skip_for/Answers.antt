@@ -1,6 +1,5 @@
 -- The processes looked at stay open for the whole length, until one does not (Skipping).
 use native.Mathlib.Omega.{arith}
-use Prim.Native.Nat.{◌-◌}
 use Rattle.plan_model.specs.Hours.{week_of}
 use Rattle.table.specs.Reading.{process_at}
 use Rattle.hours.specs.Searching.{step_by}

@@ -1,7 +1,7 @@
 -- The process stays open for the minutes counted, which begin with those of the window (Windows). Each turn counts more of them, as far as any step asks.
 use native.Mathlib.Omega.{arith}
 use mathlib.Core.Path.{ap, ◌∙◌}
-use Prim.Native.Nat.{ℕ, ◌-◌, min}
+use Prim.Native.Nat.{ℕ, min}
 use lib.ListN.{take}
 use Rattle.plan_model.specs.Hours.{week_minutes, window_at}
 use Rattle.hours.proofs.Windows.{staying_end, staying_none, staying_start, staying_stop, staying_turn}

@@ -1,12 +1,7 @@
 -- The stay of each window that was looked at is noted (Windows); a window less is left in each turn.
 use native.Mathlib.Omega.{arith}
 use mathlib.Core.Path.{refl}
-use Prim.Native.Nat.{ℕ, ◌-◌}
-use lib.ListN.{take}
-use Rattle.plan_model.specs.Hours.{window_at, window_places}
-use Rattle.plan_model.specs.declared.Window.{Window}
-use mathlib.Core.List.{List}
-use Rattle.hours.specs.Searching.{Stays}
+use Rattle.plan_model.specs.Hours.{window_places}
 use Rattle.hours.proofs.Windows.{filled_start, filled_turn}
 use Rattle.hours.proofs.stays_in.Invariants.{StayOf}
 use Rattle.hours.proofs.stays_in.Goals as goal

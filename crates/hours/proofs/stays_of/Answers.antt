@@ -1,11 +1,9 @@
 -- The stays of each process that was looked at are noted (Windows); a process less is left in each turn.
 use native.Mathlib.Omega.{arith}
 use mathlib.Core.Path.{refl, subst}
-use mathlib.Core.List.{List, []}
-use Prim.Native.Nat.{ℕ, ◌-◌, min}
+use mathlib.Core.List.{[]}
+use Prim.Native.Nat.{ℕ}
 use lib.ListN.{get_or}
-use Rattle.plan_model.specs.Hours.{window_places}
-use Rattle.plan_model.specs.declared.Window.{Window}
 use Rattle.hours.specs.Searching.{ProcessStays}
 use Rattle.hours.proofs.Windows.{filled_start, filled_turn}
 use Rattle.hours.proofs.stays_of.Invariants.{StaysOf}

@@ -1,6 +1,5 @@
 -- The minutes passed over do not fit; the first that is not passed over does (Skipping).
 use native.Mathlib.Omega.{arith}
-use Prim.Native.Nat.{◌-◌}
 use Rattle.plan_model.specs.Hours.{week_of}
 use Rattle.hours.specs.Searching.{step_by}
 use Rattle.hours.proofs.Skipping.{missed_all, missed_found, missed_start, missed_turn}

@@ -1,6 +1,6 @@
 -- The rules are noted one after the other (Noting).
 use mathlib.Core.Path.{◌≡◌, subst}
-use Prim.Native.Nat.{ℕ, ◌-◌}
+use Prim.Native.Nat.{ℕ}
 use native.Mathlib.Omega.{arith}
 use Rattle.table.proofs.Layouts.{table_modest}
 use Rattle.lengths.specs.Projections.{ChangesNoted}

@@ -1,5 +1,4 @@
 -- The letters that the rule writes join one by one (Counting).
-use Prim.Native.Nat.{◌-◌}
 use native.Mathlib.Omega.{arith}
 use Rattle.table.specs.Reading.{rule_in, system_in}
 use Rattle.table.proofs.Layouts.{rule_letter_in, written_few, written_letter_in}

@@ -1,5 +1,4 @@
 -- The letters of the start join one by one (Counting).
-use Prim.Native.Nat.{◌-◌}
 use native.Mathlib.Omega.{arith}
 use Rattle.table.specs.Reading.{system_in}
 use Rattle.table.proofs.Layouts.{pile_count, pile_letter_in, table_modest}

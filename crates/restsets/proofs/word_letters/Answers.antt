@@ -1,5 +1,4 @@
 -- The letters below i have their bits.
-use Prim.Native.Nat.{◌-◌}
 use native.Mathlib.Omega.{arith}
 use Rattle.restsets.proofs.Filling.{letters_more}
 use Rattle.restsets.proofs.word_letters.Goals as goal

@@ -1,6 +1,5 @@
 -- The letters of the start so far stand in the buffer, one after the other.
 use mathlib.Core.Path.{◌≡◌, ◌∙◌, ap}
-use Prim.Native.Nat.{◌-◌}
 use lib.Seq.{paste}
 use Rattle.table.specs.Reading.{system_in}
 use Rattle.table.proofs.Layouts.{pile_count}

@@ -1,5 +1,4 @@
 -- The places before the first that has none are counted (Pushing).
-use Prim.Native.Nat.{◌-◌}
 use native.Mathlib.Omega.{arith}
 use Rattle.unfold.proofs.Pushing.{measured_all, measured_none, measuring_start, measuring_turn}
 use Rattle.unfold.proofs.path_length.Goals as goal

@@ -1,6 +1,5 @@
 -- The rules written so far and what the stack still emits are the whole run; each turn uses up a place of the page or of the stack (Working).
 use mathlib.Core.Path.{refl}
-use Prim.Native.Nat.{◌-◌}
 use native.Mathlib.Omega.{arith}
 use Rattle.unfold.proofs.Working.{working_start, working_workable, working_turn, working_less, working_small, working_end}
 use Rattle.unfold.proofs.work_off.Goals as goal

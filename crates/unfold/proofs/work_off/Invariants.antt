@@ -2,7 +2,6 @@
 use Prim.Native.Nat.{◌+◌, ◌-◌, ◌*◌}
 use lib.ListN.{length}
 use Rattle.model.specs.Tables.{written_places}
-use borrow.Author.Rules.{rules}
 use Rattle.scratch.specs.StackNumbers.{stack_of}
 use Rattle.unfold.proofs.Working.{Working}
 use Rattle.unfold.proofs.work_off.Given as goal

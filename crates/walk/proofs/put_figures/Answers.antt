@@ -1,9 +1,8 @@
 -- The figures of either answer, with the counts behind them.
-use mathlib.Core.Path.{◌≡◌, ◌∙◌, ap, ap₂, sym}
+use mathlib.Core.Path.{◌∙◌, ap, ap₂, sym}
 use mathlib.Core.List.{List, ◌∷◌, ◌++◌}
 use Prim.Native.Nat.{ℕ}
 use Rattle.model.specs.declared.Walked.{Walked}
-use Rattle.model.specs.declared.Walked.TheVariants.{Ended, Refused}
 use Rattle.model.specs.Calls.{walk_figures}
 use Rattle.model.proofs.Lists.{by_places}
 use Rattle.walk.proofs.put_figures.Goals as goal

@@ -1,6 +1,5 @@
 -- The steps of a walk, rule after rule, and who took part in them.
 use mathlib.Core.Path.{◌≡◌, ◌∙◌, ap}
-use Prim.Native.Nat.{◌-◌}
 use lib.ListN.{length}
 use Rattle.steps.specs.declared.Taken.TheVariants.{Refused, Onward}
 use Rattle.walk.proofs.Going.{going_start, going_turn, going_refused, going_end}

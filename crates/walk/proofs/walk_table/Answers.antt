@@ -1,6 +1,5 @@
 -- A table that is refused ends the walk before it; an accepted one is walked over (Outcomes).
-use mathlib.Core.Path.{◌≡◌, ◌∙◌, sym}
-use Rattle.table.specs.declared.Parsed.TheVariants.{Accepted, Refused}
+use mathlib.Core.Path.{◌∙◌, sym}
 use Rattle.walk.proofs.Outcomes.{table_halts}
 use Rattle.walk.proofs.walk_table.Goals as goal
 

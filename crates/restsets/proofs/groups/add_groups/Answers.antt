@@ -1,5 +1,4 @@
 -- Leader by leader: the states whose first record is below the leader r are done, and the next leader comes later.
-use Prim.Native.Nat.{◌-◌}
 use native.Mathlib.Omega.{arith}
 use Rattle.restsets.proofs.Adding.{going_start, going_addable, going_later, going_turn, going_end}
 use Rattle.restsets.proofs.groups.add_groups.Goals as goal

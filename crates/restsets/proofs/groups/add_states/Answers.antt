@@ -1,6 +1,6 @@
 -- The records with the leader's states before in turn, from the leader on: those below r are taken, and the next one comes later.
 use mathlib.Core.Path.{◌≡◌, ap, sym, ◌∙◌}
-use Prim.Native.Nat.{ℕ, ◌-◌, ◌*◌, ◌+◌}
+use Prim.Native.Nat.{ℕ, ◌*◌, ◌+◌}
 use native.Mathlib.Omega.{arith}
 use Rattle.model.specs.Groups.{processes_of}
 use Rattle.model.specs.Records.{record_length, before_at, after_at}

@@ -1,6 +1,5 @@
 -- An accepting group is put into the set, mixture after mixture (LastSet).
 use mathlib.Core.Path.{◌∙◌, ap}
-use Prim.Native.Nat.{◌-◌}
 use native.Mathlib.Omega.{arith}
 use lib.ListN.{length}
 use Rattle.table.proofs.Layouts.{table_modest}

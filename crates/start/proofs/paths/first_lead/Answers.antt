@@ -1,6 +1,5 @@
 -- The records that read the letter in the state in turn, until one leads into the set; each comes later.
 use mathlib.Core.Path.{ap, ◌∙◌}
-use Prim.Native.Nat.{◌-◌}
 use native.Mathlib.Omega.{arith}
 use Rattle.packs.specs.Packs.{packed}
 use Rattle.rests.proofs.Leading.{seeking_start, seeking_turn, seeking_found, seeking_none, reads_later}

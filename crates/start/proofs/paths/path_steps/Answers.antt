@@ -1,6 +1,5 @@
 -- The steps of the records in turn, the lowest number of the stack first.
 use mathlib.Core.Path.{sym, subst}
-use Prim.Native.Nat.{◌-◌}
 use native.Mathlib.Omega.{arith}
 use Rattle.records.specs.Entries.{HasRecord}
 use Rattle.start.proofs.Steps.{each_down, steps_less, summed_start, summed_turn, summed_end}

@@ -1,5 +1,4 @@
 -- Each letter's record in turn gives the start's path.
-use Prim.Native.Nat.{◌-◌}
 use native.Mathlib.Omega.{arith}
 use Rattle.start.proofs.Tracing.{tracing_start, tracing_underway, tracing_turn, tracing_end}
 use Rattle.start.proofs.paths.write_path.Goals as goal
