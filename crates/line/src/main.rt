@@ -78,8 +78,8 @@ fn serve<R: Read, W: Write>(from: &mut R, to: &mut W) -> io::Result<()>
     let mut page = [0u16; 10000];
     let mut text = [0u8; TEXT];
     let n = fill(from, &mut input)?;
-    let end = respond(&input[0..n], &mut log, &mut scratch, &mut page, &mut text);
-    to.write_all(&text[0..end])
+    let end = respond(&input[..n], &mut log, &mut scratch, &mut page, &mut text);
+    to.write_all(&text[..end])
 }
 
 fn main(rt: HostRuntime) -> io::Result<()> {
