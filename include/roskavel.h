@@ -12,7 +12,7 @@
  * At a desk, which roskavel_desk_open opens on a table, rules are fired one by one, and
  * configurations are saved under names to return to.
  *
- * Link with libexports.a, which `rt staticlib exports` writes to target/staticlib/. It is for
+ * Link with libexports.a, which `rt lib` in crates/exports writes to its folder out/. It is for
  * x86-64, by the System V calling convention, has no variables of its own, allocates nothing and
  * imports memcpy and memset alone. So calls on different memory may be made at once by any threads.
  *

@@ -10,13 +10,13 @@ fn main() {
     let package = env::var_os("CARGO_MANIFEST_DIR").expect("cargo sets it");
     let tree = Path::new(&package).join("../..");
     let root = tree.canonicalize().unwrap_or(tree);
-    let folder = root.join("target/staticlib");
+    let folder = root.join("crates/exports/out");
     let archive = folder.join("libexports.a");
     println!("cargo::rerun-if-changed={}", archive.display());
     println!("cargo::rustc-link-search=native={}", folder.display());
     println!("cargo::rustc-link-lib=static=exports");
 
-    let remedy = format!("run `rt staticlib exports` in {}", root.display());
+    let remedy = format!("run `rt lib` in {}", root.join("crates/exports").display());
     let Ok(made) = time_of(&archive) else {
         println!("cargo::warning={} is missing: {remedy}", archive.display());
         // A file that is never there has cargo look again, whatever the time of the archive that
@@ -41,12 +41,14 @@ fn time_of(file: &Path) -> io::Result<SystemTime> {
     fs::metadata(file)?.modified()
 }
 
-/// Adds the sources in a folder and below it.
+/// Adds the sources in a folder and below it, without what the check made.
 fn find_sources(folder: &Path, sources: &mut Vec<PathBuf>) -> io::Result<()> {
     for entry in fs::read_dir(folder)? {
         let entry = entry?;
         if entry.file_type()?.is_dir() {
-            find_sources(&entry.path(), sources)?;
+            if entry.file_name() != "out" {
+                find_sources(&entry.path(), sources)?;
+            }
         } else if entry.path().extension().is_some_and(|kind| kind == "rt") {
             sources.push(entry.path());
         }

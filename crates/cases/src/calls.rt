@@ -4,13 +4,14 @@ ghost use Rattle.std.specs.Prelude.{◌≤◌, length};
 use crate::building::change_all;
 use crate::printing::{
     print_answered, print_buffer, print_bytes, print_end, print_log, print_named, print_number,
-    print_page, print_parsed, print_places, print_ran,
+    print_page, print_parsed, print_places, print_ran, print_text,
 };
 use crate::text::{RUN, WALK, get, least};
 use buffers::copy;
 use model::{Answered, Ran};
 use reach::{answer, run};
 use reading::read;
+use std::io::Print;
 use table::Parsed;
 use walk::{FIGURES, walk};
 
@@ -25,16 +26,16 @@ const PAGE: usize = 1000000;
 
 // ---- reading
 // With changed bytes: the numbers are a place and a value for each.
-pub(crate) fn show_read(table: &[u8], numbers: &[usize]) {
+pub(crate) fn show_read(out: &impl Print, table: &[u8], numbers: &[usize]) {
     if numbers.len() == 0 {
-        print_parsed(read(table));
+        print_parsed(out, read(table));
         return;
     }
     let n = least(table.len(), TABLE);
     let mut changed = [0u8; TABLE];
     copy(&table[0..n], &mut changed);
     change_all(&mut changed, numbers);
-    print_parsed(read(&changed[0..n]));
+    print_parsed(out, read(&changed[0..n]));
 }
 
 // The number and the place of a refusal in one, 0 for an accepted table.
@@ -50,35 +51,35 @@ fn refusal_of(p: Parsed) -> usize {
 }
 
 // The first n bytes, where they are read otherwise than one byte less.
-fn show_cut(table: &[u8], n: usize, before: usize) -> usize
+fn show_cut(out: &impl Print, table: &[u8], n: usize, before: usize) -> usize
     requires { n ≤ length table.now }
 {
     let p = read(&table[0..n]);
     let now = refusal_of(p);
     if now != before {
-        print_named(b"from", &[n as u64]);
-        print_parsed(p);
+        print_named(out, b"from", &[n as u64]);
+        print_parsed(out, p);
     }
     now
 }
 
 // Every beginning that is shorter than the whole: a line for the first that is read so.
-pub(crate) fn show_cuts(table: &[u8]) {
-    print_end();
+pub(crate) fn show_cuts(out: &impl Print, table: &[u8]) {
+    print_end(out);
     let mut before = 0;
     let mut n = 0;
     while n < table.len() {
-        before = show_cut(table, n, before);
+        before = show_cut(out, table, n, before);
         n += 1;
     }
 }
 
 // ---- answer and run
-fn print_buffers(log: &[u8], scratch: &[u8]) {
-    io::write_all(1, b" log");
-    print_buffer(log);
-    io::write_all(1, b" scratch");
-    print_buffer(scratch);
+fn print_buffers(out: &impl Print, log: &[u8], scratch: &[u8]) {
+    print_text(out, b" log");
+    print_buffer(out, log);
+    print_text(out, b" scratch");
+    print_buffer(out, scratch);
 }
 
 // The calls alone: what they promise plays no part in what is written.
@@ -91,19 +92,19 @@ fn ask_run(table: &[u8], log: &mut [u8], scratch: &mut [u8], page: &mut [u16]) -
 }
 
 // And the first records of the log.
-fn answer_in(table: &[u8], log: &mut [u8], scratch: &mut [u8], records: usize) {
-    print_answered(ask(table, log, scratch));
-    print_buffers(log, scratch);
-    print_end();
-    print_log(log, records);
+fn answer_in(out: &impl Print, table: &[u8], log: &mut [u8], scratch: &mut [u8], records: usize) {
+    print_answered(out, ask(table, log, scratch));
+    print_buffers(out, log, scratch);
+    print_end(out);
+    print_log(out, log, records);
 }
 
-fn run_in(table: &[u8], log: &mut [u8], scratch: &mut [u8], page: &mut [u16]) {
-    print_ran(ask_run(table, log, scratch, page));
-    print_buffers(log, scratch);
-    io::write_all(1, b" page");
-    print_page(page);
-    print_end();
+fn run_in(out: &impl Print, table: &[u8], log: &mut [u8], scratch: &mut [u8], page: &mut [u16]) {
+    print_ran(out, ask_run(table, log, scratch, page));
+    print_buffers(out, log, scratch);
+    print_text(out, b" page");
+    print_page(out, page);
+    print_end(out);
 }
 
 // ---- walk
@@ -111,19 +112,19 @@ fn rule_at(numbers: &[usize], i: usize) -> u16 {
     (get(numbers, i) % 65536) as u16
 }
 
-fn print_figures(figures: &[u64; FIGURES]) {
+fn print_figures(out: &impl Print, figures: &[u64; FIGURES]) {
     let mut i = 0;
     while i < FIGURES {
-        print_number(figures[i]);
+        print_number(out, figures[i]);
         i += 1;
     }
 }
 
 // The part handed back: how many of the rules, and which.
-fn print_rest(rest: &[u16]) {
-    print_named(b" rest", &[rest.len() as u64]);
-    io::write_all(1, b" rules");
-    print_places(rest);
+fn print_rest(out: &impl Print, rest: &[u16]) {
+    print_named(out, b" rest", &[rest.len() as u64]);
+    print_text(out, b" rules");
+    print_places(out, rest);
 }
 
 fn ask_walk<'a>(
@@ -136,21 +137,21 @@ fn ask_walk<'a>(
     walk(table, list, pile, scratch, figures)
 }
 
-fn walk_list(table: &[u8], list: &[u16], pile: &mut [u8], scratch: &mut [u8]) {
+fn walk_list(out: &impl Print, table: &[u8], list: &[u16], pile: &mut [u8], scratch: &mut [u8]) {
     let mut figures = [7u64; FIGURES];
     let rest = ask_walk(table, list, pile, scratch, &mut figures);
-    io::write_all(1, b" figures");
-    print_figures(&figures);
-    print_rest(rest);
-    io::write_all(1, b" pile");
-    print_bytes(pile);
-    io::write_all(1, b" scratch");
-    print_buffer(scratch);
-    print_end();
+    print_text(out, b" figures");
+    print_figures(out, &figures);
+    print_rest(out, rest);
+    print_text(out, b" pile");
+    print_bytes(out, pile);
+    print_text(out, b" scratch");
+    print_buffer(out, scratch);
+    print_end(out);
 }
 
 // The rules stand behind the first two numbers, at most four.
-fn walk_in(table: &[u8], numbers: &[usize], pile: &mut [u8], scratch: &mut [u8]) {
+fn walk_in(out: &impl Print, table: &[u8], numbers: &[usize], pile: &mut [u8], scratch: &mut [u8]) {
     let n = least(numbers.len(), 6);
     if n < 2 {
         return;
@@ -161,11 +162,12 @@ fn walk_in(table: &[u8], numbers: &[usize], pile: &mut [u8], scratch: &mut [u8])
         rule_at(numbers, 4),
         rule_at(numbers, 5),
     ];
-    walk_list(table, &rules[0..n - 2], pile, scratch);
+    walk_list(out, table, &rules[0..n - 2], pile, scratch);
 }
 
 // ---- lending
 fn call_in(
+    out: &impl Print,
     kind: u16,
     table: &[u8],
     numbers: &[usize],
@@ -174,18 +176,19 @@ fn call_in(
     page: &mut [u16],
 ) {
     if kind == RUN {
-        run_in(table, first, scratch, page);
+        run_in(out, table, first, scratch, page);
         return;
     }
     if kind == WALK {
-        walk_in(table, numbers, first, scratch);
+        walk_in(out, table, numbers, first, scratch);
         return;
     }
-    answer_in(table, first, scratch, get(numbers, 2));
+    answer_in(out, table, first, scratch, get(numbers, 2));
 }
 
 // In the first places of the buffers, as many as the numbers say.
 fn call_in_parts(
+    out: &impl Print,
     kind: u16,
     table: &[u8],
     numbers: &[usize],
@@ -197,6 +200,7 @@ fn call_in_parts(
     let s = least(get(numbers, 1), scratch.len());
     let p = least(get(numbers, 2), page.len());
     call_in(
+        out,
         kind,
         table,
         numbers,
@@ -207,9 +211,17 @@ fn call_in_parts(
 }
 
 // The numbers: how long the log or the pile is, the scratch, and the page.
-pub(crate) fn lend(kind: u16, table: &[u8], numbers: &[usize]) {
+pub(crate) fn lend(out: &impl Print, kind: u16, table: &[u8], numbers: &[usize]) {
     let mut first = [7u8; FIRST];
     let mut scratch = [7u8; SCRATCH];
     let mut page = [7u16; PAGE];
-    call_in_parts(kind, table, numbers, &mut first, &mut scratch, &mut page);
+    call_in_parts(
+        out,
+        kind,
+        table,
+        numbers,
+        &mut first,
+        &mut scratch,
+        &mut page,
+    );
 }

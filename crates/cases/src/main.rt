@@ -17,7 +17,12 @@ use crate::text::{
     ANSWER, CUTS, DESK, ITEM, KEEP, MORE, PUT, READ, RUN, TABLE, WALK, base_of, content, get,
     kind_of, least, next_line, read_numbers,
 };
-use libc::STDIN_FILENO;
+use input::fill;
+use std::io;
+use std::io::Print;
+
+// The bytes of the input that are read.
+const INPUT: usize = 65536;
 
 // The longest table, and the most numbers of a line.
 const ROOM: usize = 4096;
@@ -32,24 +37,31 @@ struct Stage {
 }
 
 // A call on the table.
-fn show(kind: u16, numbers: &[usize], table: &[u8]) {
+fn show(out: &impl Print, kind: u16, numbers: &[usize], table: &[u8]) {
     if kind == READ {
-        show_read(table, numbers);
+        show_read(out, table, numbers);
         return;
     }
     if kind == CUTS {
-        show_cuts(table);
+        show_cuts(out, table);
         return;
     }
     if (kind == ANSWER) | (kind == RUN) | (kind == WALK) {
-        lend(kind, table, numbers);
+        lend(out, kind, table, numbers);
         return;
     }
-    print_named(b" unknown", &[]);
+    print_named(out, b" unknown", &[]);
 }
 
 // A line that builds the table, or is a call on it: gives where the table ends then.
-fn perform(line: &[u8], kind: u16, numbers: &[usize], table: &mut [u8], end: usize) -> usize
+fn perform(
+    out: &impl Print,
+    line: &[u8],
+    kind: u16,
+    numbers: &[usize],
+    table: &mut [u8],
+    end: usize,
+) -> usize
     requires { end ≤ length table.old }
     ensures { result ≤ length table.new }
 {
@@ -66,16 +78,16 @@ fn perform(line: &[u8], kind: u16, numbers: &[usize], table: &mut [u8], end: usi
         change_all(table, numbers);
         return end;
     }
-    print_call(line);
+    print_call(out, line);
     if kind == TABLE {
-        print_end();
+        print_end(out);
         return 0;
     }
-    show(kind, numbers, &table[0..end]);
+    show(out, kind, numbers, &table[0..end]);
     end
 }
 
-fn perform_line(line: &[u8], kind: u16, table: &mut [u8], end: usize) -> usize
+fn perform_line(out: &impl Print, line: &[u8], kind: u16, table: &mut [u8], end: usize) -> usize
     requires { end ≤ length table.old }
     ensures { result ≤ length table.new }
 {
@@ -84,11 +96,11 @@ fn perform_line(line: &[u8], kind: u16, table: &mut [u8], end: usize) -> usize
     }
     let mut numbers = [0usize; NUMBERS];
     let count = read_numbers(line, base_of(kind), &mut numbers);
-    perform(line, kind, &numbers[0..count], table, end)
+    perform(out, line, kind, &numbers[0..count], table, end)
 }
 
 // The line at a place, and behind an opening the calls at the desk.
-fn step(text: &[u8], table: &mut [u8], s: Stage) -> Stage
+fn step(out: &impl Print, text: &[u8], table: &mut [u8], s: Stage) -> Stage
     requires { (s.at < length text.now) × (s.end ≤ length table.old) }
     ensures { (s.at < result.at) × (result.at ≤ length text.now) × (result.end ≤ length table.new) }
 {
@@ -98,27 +110,28 @@ fn step(text: &[u8], table: &mut [u8], s: Stage) -> Stage
     let line = content(&text[at..next]);
     let kind = kind_of(line);
     if kind == DESK {
-        print_call(line);
-        let after = open_desk(&table[0..end], text, next);
+        print_call(out, line);
+        let after = open_desk(out, &table[0..end], text, next);
         return Stage { at: after, end };
     }
-    let longer = perform_line(line, kind, table, end);
+    let longer = perform_line(out, line, kind, table, end);
     Stage {
         at: next,
         end: longer,
     }
 }
 
-fn perform_all(text: &[u8], table: &mut [u8]) {
+fn perform_all(out: &impl Print, text: &[u8], table: &mut [u8]) {
     let mut s = Stage { at: 0, end: 0 };
     while s.at < text.len() {
-        s = step(text, table, s);
+        s = step(out, text, table, s);
     }
 }
 
-fn main() {
-    let mut input = io::large_buffer();
+fn main(rt: HostRuntime) -> io::Result<()> {
+    let mut input = [0u8; INPUT];
     let mut table = [0u8; ROOM];
-    let n = io::read_full(STDIN_FILENO, &mut input);
-    perform_all(&input[0..n], &mut table);
+    let n = fill(&mut rt.stdin(), &mut input)?;
+    perform_all(&rt.stdout(), &input[0..n], &mut table);
+    Ok(())
 }

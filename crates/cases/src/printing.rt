@@ -5,6 +5,7 @@ use crate::building::one_if;
 use crate::text::least;
 use model::{Answered, Ran};
 use numbers::{as_u64, three_at, two_at};
+use std::io::Print;
 use table::Parsed;
 
 // The bytes of a record, the most records that are written, and how many of a buffer's first places are.
@@ -14,103 +15,113 @@ const MOST: usize = 64;
 
 const FIRST: usize = 4;
 
-// ---- numbers
-pub(crate) fn print_end() {
-    io::write_all(1, b"\n");
+// ---- bytes and numbers
+// Bytes as they are. The calls go on after a write that fails: then the text is not the one that is wanted.
+pub(crate) fn print_text(out: &impl Print, bytes: &[u8]) {
+    let _written = out.write_all(bytes);
+}
+
+fn print_digits(out: &impl Print, n: u64) {
+    let _written = out.print(n);
+}
+
+pub(crate) fn print_end(out: &impl Print) {
+    print_text(out, b"\n");
 }
 
 // The line of a call: what it gives follows.
-pub(crate) fn print_call(line: &[u8]) {
-    io::write_all(1, line);
-    io::write_all(1, b":");
+pub(crate) fn print_call(out: &impl Print, line: &[u8]) {
+    print_text(out, line);
+    print_text(out, b":");
 }
 
-pub(crate) fn print_number(n: u64) {
-    io::write_all(1, b" ");
-    io::print_decimal(1, n);
+pub(crate) fn print_number(out: &impl Print, n: u64) {
+    print_text(out, b" ");
+    print_digits(out, n);
 }
 
-fn print_numbers(numbers: &[u64]) {
+fn print_numbers(out: &impl Print, numbers: &[u64]) {
     let mut i = 0;
     while i < numbers.len() {
-        print_number(numbers[i]);
+        print_number(out, numbers[i]);
         i += 1;
     }
 }
 
 // A word and numbers.
-pub(crate) fn print_named(word: &[u8], numbers: &[u64]) {
-    io::write_all(1, word);
-    print_numbers(numbers);
+pub(crate) fn print_named(out: &impl Print, word: &[u8], numbers: &[u64]) {
+    print_text(out, word);
+    print_numbers(out, numbers);
 }
 
-fn print_byte(x: u8) {
-    print_number(x as u64);
+fn print_byte(out: &impl Print, x: u8) {
+    print_number(out, x as u64);
 }
 
-fn print_place(x: u16) {
-    print_number(x as u64);
+fn print_place(out: &impl Print, x: u16) {
+    print_number(out, x as u64);
 }
 
-pub(crate) fn print_bytes(bytes: &[u8]) {
+pub(crate) fn print_bytes(out: &impl Print, bytes: &[u8]) {
     let mut i = 0;
     while i < bytes.len() {
-        print_byte(bytes[i]);
+        print_byte(out, bytes[i]);
         i += 1;
     }
 }
 
-pub(crate) fn print_places(places: &[u16]) {
+pub(crate) fn print_places(out: &impl Print, places: &[u16]) {
     let mut i = 0;
     while i < places.len() {
-        print_place(places[i]);
+        print_place(out, places[i]);
         i += 1;
     }
 }
 
 // ---- answers
-pub(crate) fn print_refused(number: u8, place: usize) {
-    print_named(b" refused", &[number as u64]);
-    print_named(b" at", &[place as u64]);
+pub(crate) fn print_refused(out: &impl Print, number: u8, place: usize) {
+    print_named(out, b" refused", &[number as u64]);
+    print_named(out, b" at", &[place as u64]);
 }
 
-fn print_reachable(transitions: u32, rounds: u32, steps: u32) {
+fn print_reachable(out: &impl Print, transitions: u32, rounds: u32, steps: u32) {
     print_named(
+        out,
         b" reachable",
         &[transitions as u64, rounds as u64, steps as u64],
     );
 }
 
-fn print_unreachable(transitions: u32, rounds: u32) {
-    print_named(b" unreachable", &[transitions as u64, rounds as u64]);
+fn print_unreachable(out: &impl Print, transitions: u32, rounds: u32) {
+    print_named(out, b" unreachable", &[transitions as u64, rounds as u64]);
 }
 
-fn print_peak(peak: u32) {
-    print_named(b" peak", &[peak as u64]);
+fn print_peak(out: &impl Print, peak: u32) {
+    print_named(out, b" peak", &[peak as u64]);
 }
 
-pub(crate) fn print_answered(answered: Answered) {
+pub(crate) fn print_answered(out: &impl Print, answered: Answered) {
     match answered {
         Answered::Reachable {
             transitions,
             rounds,
             steps,
         } => {
-            print_reachable(transitions, rounds, steps);
+            print_reachable(out, transitions, rounds, steps);
         }
         Answered::Unreachable {
             transitions,
             rounds,
         } => {
-            print_unreachable(transitions, rounds);
+            print_unreachable(out, transitions, rounds);
         }
         Answered::Refused { number, place } => {
-            print_refused(number, place);
+            print_refused(out, number, place);
         }
     }
 }
 
-pub(crate) fn print_ran(ran: Ran) {
+pub(crate) fn print_ran(out: &impl Print, ran: Ran) {
     match ran {
         Ran::Reached {
             transitions,
@@ -118,20 +129,21 @@ pub(crate) fn print_ran(ran: Ran) {
             steps,
             peak,
         } => {
-            print_reachable(transitions, rounds, steps);
-            print_peak(peak);
+            print_reachable(out, transitions, rounds, steps);
+            print_peak(out, peak);
         }
         Ran::Refused { number, place } => {
-            print_refused(number, place);
+            print_refused(out, number, place);
         }
     }
 }
 
 // The counts of an accepted table: processes, letters, rules, transitions, accepting, pile.
-pub(crate) fn print_parsed(p: Parsed) {
+pub(crate) fn print_parsed(out: &impl Print, p: Parsed) {
     match p {
         Parsed::Accepted(t) => {
             print_named(
+                out,
                 b" accepted",
                 &[
                     t.processes as u64,
@@ -144,10 +156,10 @@ pub(crate) fn print_parsed(p: Parsed) {
             );
         }
         Parsed::Refused { number, place } => {
-            print_refused(number, place);
+            print_refused(out, number, place);
         }
     }
-    print_end();
+    print_end(out);
 }
 
 // ---- what is left in a buffer: its first places, and how many are 0 and how many 7
@@ -171,54 +183,54 @@ fn count_places(page: &[u16], x: u16) -> usize {
     n
 }
 
-fn print_counts(zeros: usize, sevens: usize) {
-    print_named(b" zeros", &[zeros as u64]);
-    print_named(b" sevens", &[sevens as u64]);
+fn print_counts(out: &impl Print, zeros: usize, sevens: usize) {
+    print_named(out, b" zeros", &[zeros as u64]);
+    print_named(out, b" sevens", &[sevens as u64]);
 }
 
-pub(crate) fn print_buffer(bytes: &[u8]) {
+pub(crate) fn print_buffer(out: &impl Print, bytes: &[u8]) {
     let n = least(FIRST, bytes.len());
-    print_bytes(&bytes[0..n]);
-    print_counts(count_bytes(bytes, 0), count_bytes(bytes, 7));
+    print_bytes(out, &bytes[0..n]);
+    print_counts(out, count_bytes(bytes, 0), count_bytes(bytes, 7));
 }
 
-pub(crate) fn print_page(page: &[u16]) {
+pub(crate) fn print_page(out: &impl Print, page: &[u16]) {
     let n = least(FIRST, page.len());
-    print_places(&page[0..n]);
-    print_counts(count_places(page, 0), count_places(page, 7));
+    print_places(out, &page[0..n]);
+    print_counts(out, count_places(page, 0), count_places(page, 7));
 }
 
 // ---- records
 // Numbers of two bytes.
-fn print_twos(bytes: &[u8]) {
+fn print_twos(out: &impl Print, bytes: &[u8]) {
     let mut i = 0;
     while i < bytes.len() / 2 {
-        print_place(two_at(bytes, 2 * i));
+        print_place(out, two_at(bytes, 2 * i));
         i += 1;
     }
 }
 
 // Letter and groups; round, rule and path; steps.
-fn print_record(bytes: &[u8])
+fn print_record(out: &impl Print, bytes: &[u8])
     requires { length bytes.now ≡ 28 }
 {
-    io::write_all(1, b"record");
-    print_bytes(&bytes[0..9]);
-    print_twos(&bytes[9..25]);
-    print_number(as_u64(three_at(bytes, 25)));
-    print_end();
+    print_text(out, b"record");
+    print_bytes(out, &bytes[0..9]);
+    print_twos(out, &bytes[9..25]);
+    print_number(out, as_u64(three_at(bytes, 25)));
+    print_end(out);
 }
 
-fn print_records(log: &[u8]) {
+fn print_records(out: &impl Print, log: &[u8]) {
     let mut i = 0;
     while i < log.len() / RECORD {
-        print_record(&log[RECORD * i..RECORD * i + RECORD]);
+        print_record(out, &log[RECORD * i..RECORD * i + RECORD]);
         i += 1;
     }
 }
 
 // The first so many records of a log, a line for each.
-pub(crate) fn print_log(log: &[u8], count: usize) {
+pub(crate) fn print_log(out: &impl Print, log: &[u8], count: usize) {
     let end = least(RECORD * least(count, MOST), log.len());
-    print_records(&log[0..end]);
+    print_records(out, &log[0..end]);
 }

@@ -2,53 +2,56 @@
 ghost use Rattle.std.specs.Prelude.{◌≤◌, length};
 ghost use Rattle.desk.specs.Promises.{Good};
 
-use crate::printing::{print_bytes, print_call, print_end, print_named, print_refused};
+use crate::printing::{print_bytes, print_call, print_end, print_named, print_refused, print_text};
 use crate::text::{
     COUNT, FIRE, LOOK, RETURN, SAVE, content, kind_of, least, next_line, read_numbers,
 };
 use desk::{Counts, Desk, Next, Sight, counted, fired, forgotten, looked, open, returned, saved};
 use desk_model::Told;
+use std::io::Print;
 
 // ---- what the calls tell
-fn print_told(told: Told) {
+fn print_told(out: &impl Print, told: Told) {
     match told {
         Told::Done => {
-            io::write_all(1, b" done");
+            print_text(out, b" done");
         }
         Told::Fired { processes } => {
-            print_named(b" fired", &[processes as u64]);
+            print_named(out, b" fired", &[processes as u64]);
         }
         Told::Refused { number, place } => {
-            print_refused(number, place);
+            print_refused(out, number, place);
         }
     }
-    print_end();
+    print_end(out);
 }
 
-fn print_pile(pile: &[u8], length: usize) {
-    print_named(b" pile", &[length as u64]);
-    io::write_all(1, b":");
+fn print_pile(out: &impl Print, pile: &[u8], length: usize) {
+    print_named(out, b" pile", &[length as u64]);
+    print_text(out, b":");
     let n = least(length, pile.len());
-    print_bytes(&pile[0..n]);
-    print_end();
+    print_bytes(out, &pile[0..n]);
+    print_end(out);
 }
 
-fn print_sight(s: Sight) {
+fn print_sight(out: &impl Print, s: Sight) {
     let g = s.states;
     let pile = s.pile;
     print_named(
+        out,
         b" states",
         &[g.s0 as u64, g.s1 as u64, g.s2 as u64, g.s3 as u64],
     );
-    print_pile(&pile, s.length);
+    print_pile(out, &pile, s.length);
 }
 
-fn print_counted(c: Counts) {
+fn print_counted(out: &impl Print, c: Counts) {
     print_named(
+        out,
         b" counts",
         &[c.steps[0], c.steps[1], c.steps[2], c.steps[3]],
     );
-    print_end();
+    print_end(out);
 }
 
 // ---- calls
@@ -71,21 +74,21 @@ fn act(d: Desk, kind: u16, n: usize) -> Next
 }
 
 // The desk behind a call.
-fn take_call(d: Desk, kind: u16, n: usize) -> Desk
+fn take_call(out: &impl Print, d: Desk, kind: u16, n: usize) -> Desk
     requires { Good d }
     ensures { Good result }
 {
     if kind == LOOK {
-        print_sight(looked(d));
+        print_sight(out, looked(d));
         return d;
     }
     if kind == COUNT {
-        print_counted(counted(d));
+        print_counted(out, counted(d));
         return d;
     }
     let next = act(d, kind, n);
     let told = next.told;
-    print_told(told);
+    print_told(out, told);
     next.desk
 }
 
@@ -97,7 +100,7 @@ fn number_of(line: &[u8]) -> usize {
 }
 
 // The calls at the desk, up to an empty line; gives where it ends.
-fn work(opened: Desk, text: &[u8], from: usize) -> usize
+fn work(out: &impl Print, opened: Desk, text: &[u8], from: usize) -> usize
     requires { Good opened × (from ≤ length text.now) }
     ensures { (from ≤ result) × (result ≤ length text.now) }
 {
@@ -110,23 +113,23 @@ fn work(opened: Desk, text: &[u8], from: usize) -> usize
         if line.len() == 0 {
             break;
         }
-        print_call(line);
-        d = take_call(d, kind_of(line), number_of(line));
+        print_call(out, line);
+        d = take_call(out, d, kind_of(line), number_of(line));
     }
     at
 }
 
 // A desk is worked at only where the opening told that there is one.
-pub(crate) fn open_desk(table: &[u8], text: &[u8], from: usize) -> usize
+pub(crate) fn open_desk(out: &impl Print, table: &[u8], text: &[u8], from: usize) -> usize
     requires { from ≤ length text.now }
     ensures { (from ≤ result) × (result ≤ length text.now) }
 {
     let next = open(table);
     let told = next.told;
-    print_told(told);
+    print_told(out, told);
     match told {
         Told::Done => {
-            return work(next.desk, text, from);
+            return work(out, next.desk, text, from);
         }
         Told::Fired { processes } => {
             return from;

@@ -1,16 +1,25 @@
 // Document 01, the program `line`: a table from standard input; the verdict, its figures and a run to standard output.
 #![tactic(auto)]
 
-ghost use Rattle.std.specs.Prelude.{◌≡◌, ◌≤◌, length, take};
+ghost use Rattle.std.specs.Prelude.{◌≡◌, ◌≤◌, length, take, IfSome, OnOk};
+ghost use Rattle.std.specs.Io.KnownBytes.{Appends};
 ghost use Rattle.listing.specs.LineText.{Lent, line_text};
 ghost use Rattle.listing.specs.Listing.{is_reachable};
 
-use libc::{STDIN_FILENO, STDOUT_FILENO};
+use input::fill;
 use listing::{put_answer, put_ran};
 use model::Answered;
 use reach::answer_and_run;
 use records::RECORD_LENGTH;
 use scratch::{NEEDED, NEEDED_PER_RECORD};
+use std::io;
+use std::io::{Read, Write};
+
+// The bytes of the input that are read: those behind them change nothing.
+const INPUT: usize = 65536;
+
+// The bytes that a text has room in.
+const TEXT: usize = 65536;
 
 // The records that the log can hold.
 const RECORDS: usize = 2000;
@@ -59,14 +68,20 @@ fn respond(
     end
 }
 
-// A log of so many records, the scratch for it, and a page of 10,000 places.
-fn main() {
-    let mut input = io::large_buffer();
+// Reads a table and writes its text, with a log of so many records, the scratch for it, and a page of 10,000 places.
+fn serve<R: Read, W: Write>(from: &mut R, to: &mut W) -> io::Result<()>
+    ensures { OnOk result (IfSome (R.remaining from.old) (λ input. Appends (W.contents to.old) (W.contents to.new) (line_text input))) }
+{
+    let mut input = [0u8; INPUT];
     let mut log = [0u8; RECORDS * RECORD_LENGTH];
     let mut scratch = [0u8; NEEDED + NEEDED_PER_RECORD * RECORDS];
     let mut page = [0u16; 10000];
-    let mut text = io::large_buffer();
-    let n = io::read_full(STDIN_FILENO, &mut input);
-    let end = respond(&input[0..n], &mut log, &mut scratch, &mut page, &mut text);
-    io::write_all(STDOUT_FILENO, &text[0..end]);
+    let mut text = [0u8; TEXT];
+    let n = fill(from, &mut input)?;
+    let end = respond(&input[..n], &mut log, &mut scratch, &mut page, &mut text);
+    to.write_all(&text[..end])
+}
+
+fn main(rt: HostRuntime) -> io::Result<()> {
+    serve(&mut rt.stdin(), &mut rt.stdout())
 }

@@ -1,6 +1,7 @@
 -- Document 01, "Small tables": what the program `line` writes for them, as one table of inputs and texts, with one
 -- theorem.
-use Rattle.std.specs.Prelude.{◌≡◌, refl, List, [], ◌∷◌, ◌++◌, map, ℕ}
+use Rattle.std.specs.Prelude.{◌≡◌, refl, List, [], ◌∷◌, ◌++◌, map, ℕ, suc}
+use mathlib.Core.Path.{ap}
 use Prim.Native.String.{String}
 use Rattle.model.specs.declared.Answered.{Answered}
 use Rattle.model.specs.declared.Ran.{Ran}
@@ -16,7 +17,7 @@ use Rattle.model.specs.Calls.{records_of, run_of, page_after, answer_given, answ
 use Rattle.model.specs.SmallTables.{head_T, rules01_T, rule2_T, accepting_T, start_T, table_T, re_entry, staying}
 use Rattle.model.specs.SmallTables.{doubling, roast, short_bodies_T}
 use Rattle.listing.specs.LineText.{line_text, text_with}
-use Rattle.listing.specs.Listing.{ascii, decimal, line, counted, refused_line, answer_lines, run_line, run_lines}
+use Rattle.listing.specs.Listing.{ascii, digits_of, decimal, line, counted, refused_line, answer_lines, run_line, run_lines}
 use Rattle.listing.specs.Listing.{listing}
 
 pub record Example : Type 0 where
@@ -68,8 +69,21 @@ unfolding greatest same_group restrict merge tops enabled fire leaves_control re
     run_lines run_line counted line decimal
 examples_hold = refl
 
--- doubling with 19 letters: a run longer than the page
+-- doubling with 19 letters: a run longer than the page. Its number of steps is computed with as much fuel as its digits
+-- take, and any more beside.
+six_digits : (fuel : ℕ) → digits_of (suc (suc (suc (suc (suc (suc fuel)))))) 524287 ≡ ascii "524287"
+six_digits fuel = refl
+
+long_number : decimal 524287 ≡ ascii "524287"
+unfolding decimal
+long_number = six_digits 524281
+
+long_lines : listing (Answered.Reachable 19 19 524287) (Ran.Refused 11 0) []
+    ≡ (counted (ascii "answer reachable\n") 19 19 ++ (ascii "steps " ++ ascii "524287" ++ ascii "\n")) ++ line (ascii "run refused ") 11
+unfolding listing answer_lines run_lines line
+long_lines = ap (λ (d : List ℕ). (counted (ascii "answer reachable\n") 19 19 ++ (ascii "steps " ++ d ++ ascii "\n")) ++ line (ascii "run refused ") 11) long_number
+
 pub long_run : listing (Answered.Reachable 19 19 524287) (Ran.Refused 11 0) []
     ≡ ascii "answer reachable\ntransitions 19\nrounds 19\nsteps 524287\nrun refused 11\n"
-unfolding listing answer_lines run_lines counted line decimal
-long_run = refl
+unfolding counted line decimal
+long_run = long_lines

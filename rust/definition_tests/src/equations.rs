@@ -5,39 +5,35 @@ use std::fmt::Display;
 /// What stands before the equations: the calls' outcomes as lists of numbers.
 const HEAD: &str = "\
 -- What the definitions give for small tables, beside what the second engine gives.
-use mathlib.Core.Path.{_≡_, refl}
-use mathlib.Core.List.{List, [], _∷_, map}
-use Prim.Native.Nat.{ℕ, suc, _+_}
-use lib.IntN.{ℤ, pos, negsuc}
-use lib.ListN.{take}
-use Rattle·plan_model.specs.declared.Window.{Window}
-use Rattle·model.specs.Groups.{greatest, sameGroup, processBits, restrict, merge}
-use Rattle·model.specs.Words.{tops}
-use Rattle·model.specs.Systems.{enabled, fire}
-use Rattle·model.specs.Copies.{leavesControl, reenters, copies, subsets, mixed, mixtures, copied}
-use Rattle·model.specs.Tables.{isOutOfTurn, groupFits, transitionFits, writtenFit, valueFits, cooperates, isNarrow, isReentry, isTwin, refusal, readFrom, read, systemOf}
-use Rattle·model.specs.Log.{readsAt, keyLess, sameKey, additions, logAt, firstSaturated, saturatedAt}
-use Rattle·model.specs.Unfolding.{acceptingPath, emittedBy}
-use Rattle·model.specs.Records.{recordBytes}
-use Rattle·model.specs.Participation.{withStep}
-use Rattle·model.specs.Calls.{recordsOf, runOf, scratchAfter, logAfter, pageAfter, answerGiven, answerCall, runCall, walkCall, answerFigures, runGiven, runFigures, walkCounts, walkGiven, walkFigures}
-use Rattle·desk_model.specs.Desks.{fires, saves, returns, forgets, findings, deskCall}
-use Rattle·plan_model.specs.Hours.{beginOf, beginsFrom, boundOf, delay, endedAt, firstAmong, firstNever, fits, hoursFit, lengthsFit, neverFits, planBegins, planCall, planFits, planGiven, plannedPlace, plannedRefusal, runFits, startFits}
-use Rattle·model.specs.SmallTables.{used}
-use Rattle·desk_model.specs.SmallDesks.{trace}
-use Rattle·plan_model.specs.SmallPlans.{from-to}
+use Rattle.std.specs.Prelude.{◌≡◌, refl, List, [], ◌∷◌, map, take, ℕ, suc, ◌+◌, ℤ, pos, negsuc}
+use Rattle.plan_model.specs.declared.Window.{Window}
+use Rattle.model.specs.Groups.{greatest, same_group, process_bits, restrict, merge}
+use Rattle.model.specs.Words.{tops}
+use Rattle.model.specs.Systems.{enabled, fire}
+use Rattle.model.specs.Copies.{leaves_control, reenters, copies, subsets, mixed, mixtures, copied}
+use Rattle.model.specs.Tables.{is_out_of_turn, group_fits, transition_fits, written_fit, value_fits, cooperates, is_narrow, is_reentry, is_twin, refusal, read_from, read, system_of}
+use Rattle.model.specs.Log.{reads_at, key_less, same_key, additions, log_at, first_saturated, saturated_at}
+use Rattle.model.specs.Unfolding.{accepting_path, emitted_by}
+use Rattle.model.specs.Records.{record_bytes}
+use Rattle.model.specs.Participation.{with_step}
+use Rattle.model.specs.Calls.{records_of, run_of, scratch_after, log_after, page_after, answer_given, answer_call, run_call, walk_call, answer_figures, run_given, run_figures, walk_counts, walk_given, walk_figures}
+use Rattle.desk_model.specs.Desks.{fires, saves, returns, forgets, findings, desk_call}
+use Rattle.plan_model.specs.Hours.{begin_of, begins_from, bound_of, delay, ended_at, first_among, first_never, fits, hours_fit, lengths_fit, never_fits, plan_begins, plan_call, plan_fits, plan_given, planned_place, planned_refusal, run_fits, start_fits}
+use Rattle.model.specs.SmallTables.{used}
+use Rattle.desk_model.specs.SmallDesks.{trace}
+use Rattle.plan_model.specs.SmallPlans.{from_to}
 
 abbrev answered : List ℕ → ℕ → ℕ → List (List ℕ)
 answered table log scratch =
-    let o = answerCall table (used log) (used scratch) in answerFigures (o .answer) ∷ o .log ∷ take 3 (o .scratch) ∷ []
+    let o = answer_call table (used log) (used scratch) in answer_figures o.answer ∷ o.log ∷ take 3 o.scratch ∷ []
 
 abbrev ran : List ℕ → ℕ → ℕ → ℕ → List (List ℕ)
 ran table log scratch page =
-    let o = runCall table (used log) (used scratch) (used page) in runFigures (o .answer) ∷ o .log ∷ take 3 (o .scratch) ∷ o .page ∷ []
+    let o = run_call table (used log) (used scratch) (used page) in run_figures o.answer ∷ o.log ∷ take 3 o.scratch ∷ o.page ∷ []
 
 abbrev walked : List ℕ → List ℕ → ℕ → ℕ → List (List ℕ)
 walked table list pile scratch =
-    let o = walkCall table list (used pile) (used scratch) in walkFigures (o .answer) ∷ o .counts ∷ o .rest ∷ o .pile ∷ take 3 (o .scratch) ∷ []
+    let o = walk_call table list (used pile) (used scratch) in walk_figures o.answer ∷ o.counts ∷ o.rest ∷ o.pile ∷ take 3 o.scratch ∷ []
 
 -- a minute as a natural number
 abbrev coded : ℤ → ℕ
@@ -46,12 +42,12 @@ coded (negsuc n) = suc (n + n)
 
 abbrev planned : List ℕ → List ℕ → List (List Window) → List ℕ → List ℕ → ℤ → ℕ → List (List ℕ)
 planned table run hours counts lengths start places =
-    let o = planCall table run hours counts lengths start (map pos (used places)) in
-    (plannedRefusal (o .answer) ∷ plannedPlace (o .answer) ∷ []) ∷ map coded (o .begins) ∷ []
+    let o = plan_call table run hours counts lengths start (map pos (used places)) in
+    (planned_refusal o.answer ∷ planned_place o.answer ∷ []) ∷ map coded o.begins ∷ []
 ";
 
 /// The definitions that an equation may unfold.
-const UNFOLDING: &str = "unfolding greatest sameGroup processBits restrict merge tops enabled fire leavesControl reenters copies subsets mixed mixtures copied isOutOfTurn groupFits transitionFits writtenFit valueFits cooperates isNarrow isReentry isTwin refusal readFrom read systemOf readsAt keyLess sameKey additions logAt firstSaturated saturatedAt acceptingPath emittedBy recordBytes recordsOf runOf scratchAfter logAfter pageAfter answerGiven answerCall runGiven runCall walkCounts walkGiven withStep walkCall findings deskCall fits firstAmong delay boundOf endedAt beginOf beginsFrom neverFits firstNever hoursFit lengthsFit startFits runFits planFits planGiven planBegins planCall";
+const UNFOLDING: &str = "unfolding greatest same_group process_bits restrict merge tops enabled fire leaves_control reenters copies subsets mixed mixtures copied is_out_of_turn group_fits transition_fits written_fit value_fits cooperates is_narrow is_reentry is_twin refusal read_from read system_of reads_at key_less same_key additions log_at first_saturated saturated_at accepting_path emitted_by record_bytes records_of run_of scratch_after log_after page_after answer_given answer_call run_given run_call walk_counts walk_given with_step walk_call findings desk_call fits first_among delay bound_of ended_at begin_of begins_from never_fits first_never hours_fit lengths_fit start_fits run_fits plan_fits plan_given plan_begins plan_call";
 
 /// A call's outcome by the definitions, and the lists that it shall be.
 pub struct Equation {
@@ -77,7 +73,7 @@ pub fn module(equations: &[Equation]) -> String {
         let lists: Vec<String> = right.iter().map(|numbers| list(numbers)).collect();
         let right = lists.join(" ∷ ");
         text.push_str(&format!(
-            "\ncase-{number} : {left} ≡ ({right} ∷ [])\n{UNFOLDING}\ncase-{number} = refl\n"
+            "\ncase_{number} : {left} ≡ ({right} ∷ [])\n{UNFOLDING}\ncase_{number} = refl\n"
         ));
     }
     text

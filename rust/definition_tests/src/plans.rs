@@ -306,7 +306,7 @@ impl Order {
 
     /// Run, hours, counts, lengths, start and places as the definitions take them.
     pub fn text(&self) -> String {
-        let text = |window: &Window| format!("from-to {} {}", window.opens, window.closes);
+        let text = |window: &Window| format!("from_to {} {}", window.opens, window.closes);
         let windows = |windows: &Vec<Window>| {
             let texts: Vec<String> = windows.iter().map(text).collect();
             list(&texts)

@@ -13,7 +13,7 @@
 //! changes nothing. No call panics.
 //!
 //! The crate links the archive of the proved crate `exports`, which is for x86-64:
-//! `rt staticlib exports` at the root of the tree writes it. Documentation builds without it.
+//! `rt lib` in crates/exports writes it. Documentation builds without it.
 //!
 //! # Example
 //!

@@ -1,0 +1,9 @@
+-- Each number is read inside the list; each turn leaves one number fewer.
+use Rattle.std.proofs.Common.{◌≤◌, ◌-◌, length}
+use Rattle.cases.proofs.printing.print_places.Given as goal
+
+abbrev pub invariant-loop-i : goal.invariant-loop-i
+invariant-loop-i g l = l.i ≤ length l.places
+
+abbrev pub decreases-loop-i : goal.decreases-loop-i
+decreases-loop-i g l = length l.places - l.i
