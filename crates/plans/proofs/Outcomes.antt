@@ -1,9 +1,9 @@
 -- What a plan gives and leaves, by what its parts found.
 use mathlib.Core.Path.{◌≡◌, refl, ap, sym, ◌∙◌}
 use mathlib.Core.Bool.{true, false, ◌&&◌}
-use mathlib.Core.List.{List, [], ◌∷◌, ◌++◌}
+use mathlib.Core.List.{List, ◌++◌}
 use mathlib.Core.Option.{Option, none, some}
-use Prim.Native.Nat.{ℕ, suc, ◌≤◌}
+use Prim.Native.Nat.{ℕ, ◌≤◌}
 use native.Mathlib.Omega.{arith}
 use lib.Dec.{leb}
 use lib.IntN.{ℤ}
@@ -13,9 +13,8 @@ use mir.Syntax.{w64}
 use mir.Val.{SFits}
 use Rattle.plan_model.specs.declared.Planned.{Planned}
 use Rattle.plan_model.specs.declared.Window.{Window}
-use Rattle.model.specs.Groups.{Process}
 use Rattle.plan_model.proofs.Plans.{begins_count}
-use Rattle.plan_model.specs.Hours.{PlanMeans, PlannedStep, at_start, begins_from, first_never, hours_fit, lengths_fit, plan_begins, plan_call, plan_fits, plan_given, planned_place, planned_refusal, run_fits, start_fits, step_of, steps_of, week_of}
+use Rattle.plan_model.specs.Hours.{PlanMeans, at_start, begins_from, first_never, hours_fit, lengths_fit, plan_begins, plan_call, plan_fits, plan_given, planned_place, planned_refusal, run_fits, start_fits, step_of, steps_of, week_of}
 use Rattle.model.specs.Tables.{count, read, refused, system_of}
 use Rattle.plan_model.proofs.Main.{plan_holds}
 use Rattle.model.proofs.Tests.{and_left, and_right}

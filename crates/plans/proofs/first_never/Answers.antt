@@ -1,6 +1,5 @@
 -- The first step that fits no minute is the first from the next step on, and the noted rules fit some (Checks).
 use mathlib.Core.Path.{refl, sym, ap, ◌∙◌}
-use Prim.Native.Nat.{◌-◌}
 use Rattle.plan_model.specs.Hours.{week_of}
 use Rattle.table.specs.Reading.{system_in}
 use Rattle.plans.specs.Planning.{seen}

@@ -1,8 +1,6 @@
 -- The hours of the processes so far fit.
 use mathlib.Core.Path.{◌∙◌, sym}
-use mathlib.Core.List.{[]}
-use Prim.Native.Nat.{◌-◌}
-use Rattle.plan_model.specs.Hours.{hours_fit, process_fits}
+use Rattle.plan_model.specs.Hours.{hours_fit}
 use Rattle.plans.proofs.Checks.{passing_start, passing_turn, passing_fails, passing_end}
 use native.Mathlib.Omega.{arith}
 use Rattle.plans.proofs.hours_fit.Goals as goal

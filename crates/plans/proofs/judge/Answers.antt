@@ -5,7 +5,6 @@ use Rattle.table.specs.Reading.{system_in}
 use Rattle.table.proofs.Layouts.{table_modest}
 use Rattle.plans.proofs.Checks.{judged_more}
 use native.Mathlib.Omega.{arith}
-use borrow.Author.Rules.{rules}
 use Rattle.plans.proofs.judge.Goals as goal
 
 pub bounds-fitting-n : goal.bounds-fitting-n

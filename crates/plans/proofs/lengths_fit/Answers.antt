@@ -1,8 +1,7 @@
 -- The lengths of the rules so far fit.
 use mathlib.Core.Path.{sym, ◌∙◌}
-use Prim.Native.Nat.{◌-◌}
 use borrow.Author.Tests.{lt-leb, le-leb}
-use Rattle.plan_model.specs.Hours.{length_fits, lengths_fit}
+use Rattle.plan_model.specs.Hours.{lengths_fit}
 use Rattle.plans.proofs.Checks.{passing_start, passing_turn, passing_fails, passing_end}
 use native.Mathlib.Omega.{arith}
 use Rattle.plans.proofs.lengths_fit.Goals as goal

@@ -1,9 +1,8 @@
 -- A refused table is the call's answer, and an accepted one is planned with.
-use mathlib.Core.Path.{◌≡◌, sym, subst, ◌∙◌}
+use mathlib.Core.Path.{sym, subst, ◌∙◌}
 use lib.IntN.{ℤ}
 use Rattle.plan_model.specs.Hours.{plan_call}
 use Rattle.minutes.proofs.Signed.{read_back_lem}
-use Rattle.table.specs.declared.Parsed.TheVariants.{Accepted}
 use Rattle.table.specs.Reading.{Holds}
 use Rattle.table.proofs.Layouts.{table_modest}
 use Rattle.table.proofs.Readings.{refused_reading}

@@ -3,7 +3,6 @@ use mathlib.Core.Path.{sym, ◌∙◌}
 use lib.ListN.{length}
 use Rattle.minutes.proofs.Signed.{read_back}
 use Rattle.plans.proofs.Outcomes.{bad_hours, fit_parts, laid, never_open, seen_at, seen_nowhere}
-use borrow.Author.Rules.{rules}
 use Rattle.plans.proofs.plan_accepted.Goals as goal
 
 pub returns-else-plan_fits : goal.returns-else-plan_fits

@@ -1,8 +1,7 @@
 -- The windows of the process so far fit.
 use mathlib.Core.Path.{sym, ◌∙◌}
-use Prim.Native.Nat.{◌-◌}
 use borrow.Author.Tests.{lt-leb, le-leb}
-use Rattle.plan_model.specs.Hours.{window_fits, window_places}
+use Rattle.plan_model.specs.Hours.{window_places}
 use Rattle.plans.proofs.Checks.{passing_start, passing_turn, passing_fails, passing_end}
 use native.Mathlib.Omega.{arith}
 use Rattle.plans.proofs.process_fits.Goals as goal

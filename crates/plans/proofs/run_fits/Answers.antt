@@ -1,5 +1,4 @@
 -- The rules of the run so far are the table's.
-use Prim.Native.Nat.{◌-◌}
 use lib.ListN.{get_or}
 use borrow.Author.Tests.{lt-leb, le-leb, lt-ltb, le-ltb}
 use Rattle.plan_model.specs.Hours.{run_fits}
