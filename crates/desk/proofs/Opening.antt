@@ -79,7 +79,7 @@ done_tells t (accepted items) e = refl
 done_tells t (refused n p) e = let z : ◌≡◌ {A = ℕ} 0 1 = cc in absurd (omega arith)
 
 pub opens_done : (bytes : List ℕ) (t : Table) (d : Desk) → Holds bytes t → Opened bytes d → Opens bytes Told.Done d
-opens_done bytes t d h o = record { answer = done_tells t (read bytes) h.reading; desk = λ e. o; no_desk_lem = λ z. absurd (z refl) }
+opens_done bytes t d h o = record { answer = done_tells t (read bytes) h.reading; desk = λ e. o; without_desk = λ z. absurd (z refl) }
 
 -- ---- refused
 -- the empty string is no table
@@ -95,5 +95,5 @@ pub opens_refused : (bytes : List ℕ) (number place : ℕ) (d : Desk) → Refus
 opens_refused bytes number place d e q = record {
   answer = refused_tells number place (read bytes) e;
   desk = λ f. let z : ◌≡◌ {A = ℕ} 0 1 = cc in absurd (omega arith);
-  no_desk_lem = λ z. (q, λ g. nothing_read (counts_of []) (subst Good q g).holds);
+  without_desk = λ z. (q, λ g. nothing_read (counts_of []) (subst Good q g).holds);
 }

@@ -106,7 +106,7 @@ no_desk = record {
 pub record Opens (bytes : List ℕ) (told : Told) (d : Desk) : Type 0 where
   pub answer : told ≡ open_told (read bytes)
   pub desk : told ≡ Told.Done → Opened bytes d
-  pub no_desk_lem : (told ≡ Told.Done → ⊥) → (d ≡ no_desk) × (Good d → ⊥)
+  pub without_desk : (told ≡ Told.Done → ⊥) → (d ≡ no_desk) × (Good d → ⊥)
 
 -- ---- a desk and the calls that led to it
 pub data Called : Desk → List Call → Desk → Type 0 where

@@ -23,5 +23,5 @@ opens_to bytes told d number place o e q =
       number = n;
       place = q ∙ ap told_place o.answer;
       desk = λ z. o.desk (o.answer ∙ done_of (read bytes) (read_numbered bytes) (sym n ∙ z));
-      no_desk_lem = λ z. o.no_desk_lem (λ f. z (e ∙ ap told_refusal f));
+      without_desk = λ z. o.without_desk (λ f. z (e ∙ ap told_refusal f));
     }

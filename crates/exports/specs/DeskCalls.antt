@@ -26,4 +26,4 @@ pub record DeskOpens (bytes : List ℕ) (o : Opening) : Type 0 where
   pub number : o.number ≡ told_refusal (open_told (read bytes))
   pub place : o.place ≡ told_place (open_told (read bytes))
   pub desk : o.number ≡ 0 → Opened bytes o.desk
-  pub no_desk_lem : (o.number ≡ 0 → ⊥) → (o.desk ≡ no_desk) × (Good o.desk → ⊥)
+  pub without_desk : (o.number ≡ 0 → ⊥) → (o.desk ≡ no_desk) × (Good o.desk → ⊥)

@@ -111,10 +111,10 @@ module _ {log₀ s₀ : List ℕ} {job : Job} {level state : ℕ} {found : Bool}
     pub below : r < base
     pub is_after : y ≡ packed_after log r
     pub is_next : next ≡ packed_merge mask y state
-    pub is_new_lem : new ≡ (found || leb job.lo r)
+    pub new_is : new ≡ (found || leb job.lo r)
 
   pub turning : {y next : ℕ} {new : Bool} → r < base → y ≡ packed_after log r → next ≡ packed_merge mask y state → new ≡ (found || leb job.lo r) → Turning y next new
-  turning l a n w = record { below = l; is_after = a; is_next = n; is_new_lem = w }
+  turning l a n w = record { below = l; is_after = a; is_next = n; new_is = w }
 
   -- what the search from there comes to
   abbrev pub Turned : ℕ → Bool → ℕ → List ℕ → List ℕ → Type 0
@@ -179,7 +179,7 @@ module _ {log₀ s₀ : List ℕ} {job : Job} {level state : ℕ} {found : Bool}
     module _ {total' : ℕ} {log' s' : List ℕ} (d : Turned next new total' log' s') where
       searched : Searched job (held_by job log) (by_record found o.begins o.more o.going below_base) total log s total' log' s'
       searched =
-          subst (λ (b : Bool). Explored job (suc level) (packed_merge (get_or job.masks level 0) (packed_after log r) state) b (longer_trail log trail level r) total log s total' log' s') t.is_new_lem
+          subst (λ (b : Bool). Explored job (suc level) (packed_merge (get_or job.masks level 0) (packed_after log r) state) b (longer_trail log trail level r) total log s total' log' s') t.new_is
           (subst (λ (y : ℕ). Explored job (suc level) y new (longer_trail log trail level r) total log s total' log' s') next_is
           (subst (λ (k : ℕ). Explored job k next new (longer_trail log trail level r) total log s total' log' s') (add-one level) d))
 

@@ -65,7 +65,7 @@ module _ (rules : ℕ) (lengths : List ℕ) (e : lengths_fit rules lengths ≡ t
 pub searched : {table : List ℕ} {t : Table} {hours : List (List Window)} {counts : List ℕ} {stays : List (List ℕ)} {lengths : List ℕ}
     → Ready table t hours counts stays lengths → (n m : ℕ) → n < t.rules → m ≡ get_or lengths n 0 → Searched hours counts stays m
 searched {t = t} {lengths = lengths} r n m l q =
-    record { stay = r.stay; some_minute = length_some t.rules lengths r.lengths_fit_lem n m l q; short = length_short t.rules lengths r.lengths_fit_lem n m l q }
+    record { stay = r.stay; some_minute = length_some t.rules lengths r.lengths_checked n m l q; short = length_short t.rules lengths r.lengths_checked n m l q }
 
 module _ (rules : ℕ) (run : List ℕ) (e : run_fits rules run ≡ true) where
   pub run_short : length run ≤ 1000000

@@ -37,7 +37,7 @@ seen_nowhere (some n) e = let z : ◌≡◌ {A = ℕ} 0 1 = cc in absurd (omega 
 
 -- ---- the parts of check 19 that the passes need
 pub record FitParts (rules : ℕ) (run lengths : List ℕ) (start : ℤ) (room : ℕ) : Type 0 where
-  pub lengths_fit_lem : lengths_fit rules lengths ≡ true
+  pub lengths_checked : lengths_fit rules lengths ≡ true
   pub start_fits : start_fits start ≡ true
   pub run_fits : run_fits rules run ≡ true
   pub enough : length run ≤ room
@@ -50,7 +50,7 @@ fit_parts processes rules run hours counts lengths start room e =
     let three = and_left (hours_fit processes hours counts && lengths_fit rules lengths && start_fits start) (run_fits rules run) four in
     let two = and_left (hours_fit processes hours counts && lengths_fit rules lengths) (start_fits start) three in
     record {
-      lengths_fit_lem = and_right (hours_fit processes hours counts) (lengths_fit rules lengths) two;
+      lengths_checked = and_right (hours_fit processes hours counts) (lengths_fit rules lengths) two;
       start_fits = and_right (hours_fit processes hours counts && lengths_fit rules lengths) (start_fits start) three;
       run_fits = and_right (hours_fit processes hours counts && lengths_fit rules lengths && start_fits start) (run_fits rules run) four;
       enough = leb-true (length run) room (and_right (hours_fit processes hours counts && lengths_fit rules lengths && start_fits start && run_fits rules run) (leb (length run) room) e);

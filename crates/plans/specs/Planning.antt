@@ -17,7 +17,7 @@ pub record Ready (table : List ℕ) (t : Table) (hours : List (List Window)) (co
     (lengths : List ℕ) : Type 0 where
   pub holds : Holds table t
   pub stay : WeekStays hours counts stays
-  pub lengths_fit_lem : lengths_fit t.rules lengths ≡ true
+  pub lengths_checked : lengths_fit t.rules lengths ≡ true
 
 -- a step of each noted rule fits some minute
 pub record Judged (week : Process → List Window) (sys : System) (lengths : List ℕ) (fitting : List Bool) : Type 0 where

@@ -37,7 +37,7 @@ offset_bounds-lengths-n c = omega arith
 
 pub bounds-lengths-n : goal.bounds-lengths-n
 bounds-lengths-n c =
-    omega (arith, rule_in_run _ _ c.requires.1 c.loop-k.k c.wide_two-n.result c.loop-k-test.true c.wide_two-n.ensures.0, lengths_enough _ _ c.requires.0.lengths_fit_lem)
+    omega (arith, rule_in_run _ _ c.requires.1 c.loop-k.k c.wide_two-n.result c.loop-k-test.true c.wide_two-n.ensures.0, lengths_enough _ _ c.requires.0.lengths_checked)
 
 pub wide_two-length-requires : goal.wide_two-length-requires
 wide_two-length-requires c = tt
@@ -53,7 +53,7 @@ pub after-requires : goal.after-requires
 after-requires c =
     let a = c.args in
     let known = rule_in_run _ _ c.requires.1 c.loop-k.k c.wide_two-n.result c.loop-k-test.true c.wide_two-n.ensures.0 in
-    let short = length_short _ _ c.requires.0.lengths_fit_lem c.wide_two-n.result c.wide_two-length.result known c.wide_two-length.ensures.0 in
+    let short = length_short _ _ c.requires.0.lengths_checked c.wide_two-n.result c.wide_two-length.result known c.wide_two-length.ensures.0 in
     let near = laying_near c.loop-k.invariant (run_short _ _ c.requires.1) in
     let s = step_by c.rule_bits-bits.result c.wide_two-length.result in
     let fits = end_fits (week_of a.hours a.counts) (read_back a.start) c.loop-k.ends s near short (omega arith) in
@@ -81,7 +81,7 @@ loop-k-preserved c =
     let a = c.args in
     let sys = system_in a.table.now in
     let known = rule_in_run _ _ c.requires.1 loop.k c.wide_two-n.result c.loop-k-test.true c.wide_two-n.ensures.0 in
-    let short = length_short _ _ c.requires.0.lengths_fit_lem c.wide_two-n.result c.wide_two-length.result known c.wide_two-length.ensures.0 in
+    let short = length_short _ _ c.requires.0.lengths_checked c.wide_two-n.result c.wide_two-length.result known c.wide_two-length.ensures.0 in
     let inside : loop.k < length loop.begins = omega (arith, loop.invariant.size, c.requires.3, c.loop-k-test.true) in
     let step = step_is a.table.now a.t c.requires.0.holds a.lengths.now c.wide_two-n.result known c.rule_bits-bits.result c.wide_two-length.result c.rule_bits-bits.ensures c.wide_two-length.ensures.0 in
     let End-read = read_back_lem (record { sfits = c.after.type_inv }) ∙ c.after.ensures in

@@ -6,11 +6,11 @@ use native.Mathlib.Omega.{arith}
 use Rattle.plans.proofs.never_at.Goals as goal
 
 pub offset_bounds-lengths-n : goal.offset_bounds-lengths-n
-offset_bounds-lengths-n c = omega (arith, c.requires.1, lengths_enough _ _ c.requires.0.lengths_fit_lem)
+offset_bounds-lengths-n c = omega (arith, c.requires.1, lengths_enough _ _ c.requires.0.lengths_checked)
 
 pub bounds-lengths-n : goal.bounds-lengths-n
 bounds-lengths-n c =
-    omega (arith, c.requires.1, lengths_enough _ _ c.requires.0.lengths_fit_lem)
+    omega (arith, c.requires.1, lengths_enough _ _ c.requires.0.lengths_checked)
 
 pub fits_never-requires : goal.fits_never-requires
 fits_never-requires c =

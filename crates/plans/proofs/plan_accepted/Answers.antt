@@ -14,7 +14,7 @@ pub first_never-requires : goal.first_never-requires
 first_never-requires c =
     let a = c.args in
     let parts = fit_parts a.t.processes a.t.rules a.run.now a.hours a.counts a.lengths.now (read_back a.start) (length a.begins.now) (sym c.plan_fits.ensures ∙ c.if-plan_fits.true) in
-    (record { holds = c.requires.0; stay = c.stays_of-stays.ensures; lengths_fit_lem = parts.lengths_fit_lem }, parts.run_fits)
+    (record { holds = c.requires.0; stay = c.stays_of-stays.ensures; lengths_checked = parts.lengths_checked }, parts.run_fits)
 
 pub returns-in-At : goal.returns-in-At
 returns-in-At c =
@@ -26,7 +26,7 @@ pub lay-requires : goal.lay-requires
 lay-requires c =
     let a = c.args in
     let parts = fit_parts a.t.processes a.t.rules a.run.now a.hours a.counts a.lengths.now (read_back a.start) (length a.begins.now) (sym c.plan_fits.ensures ∙ c.if-plan_fits.true) in
-    (record { holds = c.requires.0; stay = c.stays_of-stays.ensures; lengths_fit_lem = parts.lengths_fit_lem }, parts.run_fits, parts.start_fits, parts.enough)
+    (record { holds = c.requires.0; stay = c.stays_of-stays.ensures; lengths_checked = parts.lengths_checked }, parts.run_fits, parts.start_fits, parts.enough)
 
 pub returns-in-Nowhere : goal.returns-in-Nowhere
 returns-in-Nowhere c =
