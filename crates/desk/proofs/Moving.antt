@@ -25,7 +25,7 @@ use Rattle.model.specs.declared.Placed.{Placed}
 use Rattle.firing.specs.Piles.{configuration}
 use Rattle.steps.specs.declared.Taken.{Taken}
 use Rattle.steps.specs.declared.Taken.TheVariants.{Refused, Onward}
-use Rattle.steps.specs.Stepping.{StepTaken, StepTo}
+use Rattle.steps.specs.Stepping.{StepTaken, StepTo, counts_by}
 use Rattle.desk.specs.declared.Desk.{Desk}
 use Rattle.desk.specs.declared.Named.{Named}
 use Rattle.desk.specs.declared.Next.{Next}
@@ -117,6 +117,11 @@ module _ (d : Desk) (g : Good d) where
     rule_stop taken s =
         ap (λ (k : ℕ). first_stop (checks (step_findings k))) (step_stop taken s)
         ∙ fire_number (system_on d) (shown d) n (λ (k : ℕ). first_stop (checks (step_findings k)) ≡ k) refl refl refl refl
+
+    -- a step that is refused leaves the desk
+    pub stays : (taken : Taken) (counts : List ℕ) → StepTo (table_of d) d.table n d.placed d.pile pile' taken → counts ≡ counts_by taken count_ceiling d.counts → (step_refusal taken ≡ 0 → ⊥) → moved d d.placed counts pile' ≡ d
+    stays (Refused number) counts s e z = ap₂ (moved d d.placed) e s.leaves
+    stays (Onward f) counts s e z = absurd (z refl)
 
     pub moves_fired : (f : Fired) (counts : List ℕ) → StepTaken (table_of d) d.table n d.placed f d.pile pile' → counts ≡ with_step count_ceiling (processes_of f.processes) d.counts
         → Moves (fires n) d (Told.Fired f.processes) (moved d f.placed counts pile')

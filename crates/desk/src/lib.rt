@@ -158,7 +158,7 @@ fn refusal_of(taken: Taken) -> u8
     }
 }
 
-pub fn fired(d: Desk, rule: u16) -> Next
+pub fn fired(mut d: Desk, rule: u16) -> Next
     requires { Good d }
     ensures { Moves (fires rule) d result.told result.desk }
 {
@@ -166,9 +166,7 @@ pub fn fired(d: Desk, rule: u16) -> Next
     let t = d.table;
     let n = rule as usize;
     let placed = d.placed;
-    let mut counts = d.counts;
-    let mut pile = d.pile;
-    let taken = step_on(&d.bytes, size, t, n, &mut pile, placed, &mut counts);
+    let taken = step_on(&d.bytes, size, t, n, &mut d.pile, placed, &mut d.counts);
     let number = rule_stop(refusal_of(taken));
     if number != 0 {
         return refused(d, number);
@@ -178,14 +176,10 @@ pub fn fired(d: Desk, rule: u16) -> Next
             return refused(d, k);
         }
         Taken::Onward(f) => {
-            let after = f.placed;
             let processes = f.processes;
-            let mut next = d;
-            next.placed = after;
-            next.counts = counts;
-            next.pile = pile;
+            d.placed = f.placed;
             let told = Told::Fired { processes };
-            return Next { desk: next, told };
+            return Next { desk: d, told };
         }
     }
 }
@@ -260,36 +254,50 @@ pub fn forgotten(d: Desk, name: u8) -> Next
 }
 
 // ---- opening
-// A desk on an accepted table.
-fn set_up(table: &[u8], t: Table) -> Desk
+// The same pile, its first and its last byte written by themselves. LLVM takes a struct apart only where a single value is written, and a part that is one copy
+// it copies straight into what a call gives: so it does with the bytes before the pile and with the pile, and no second desk stands on the stack.
+fn apart(pile: [u8; PILE]) -> [u8; PILE]
+    ensures { result ≡ pile }
+{
+    let mut same = pile;
+    same[0] = pile[0];
+    same[PILE - 1] = pile[PILE - 1];
+    same
+}
+
+// A desk on an accepted table. The buffers are the caller's, whatever they hold, so that they are still there when it copies the desk into what it gives: of
+// buffers in here LLVM would first make copies of its own.
+pub fn set_up(
+    table: &[u8],
+    t: Table,
+    bytes: &mut [u8; Table::LONGEST],
+    pile: &mut [u8; PILE],
+) -> Desk
     requires { Holds table.now t }
     ensures { Opened table.now result }
 {
-    let mut bytes = [0; Table::LONGEST];
-    copy(table, &mut bytes);
-    let mut pile = [0; PILE];
-    let placed = place_start(table, t, &mut pile);
+    *bytes = [0; Table::LONGEST];
+    copy(table, bytes);
+    *pile = [0; PILE];
+    let placed = place_start(table, t, pile);
     let free = Named {
         held: false,
         placed,
         pile: [0; PILE],
     };
-    let names = [free; NAMES];
-    let size = table.len();
-    let counts = [0; Table::PROCESSES];
     Desk {
-        size,
+        size: table.len(),
         table: t,
         placed,
-        counts,
-        bytes,
-        pile,
-        names,
+        counts: [0; Table::PROCESSES],
+        bytes: *bytes,
+        pile: apart(*pile),
+        names: [free; NAMES],
     }
 }
 
 // What a refused opening gives in the place of a desk.
-fn no_desk() -> Desk
+pub fn no_desk() -> Desk
     ensures { result ≡ no_desk }
 {
     let placed = Placed {
@@ -330,7 +338,9 @@ pub fn open(table: &[u8]) -> Next
             };
         }
         Parsed::Accepted(t) => {
-            let desk = set_up(table, t);
+            let mut bytes = [0; Table::LONGEST];
+            let mut pile = [0; PILE];
+            let desk = set_up(table, t, &mut bytes, &mut pile);
             return Next {
                 desk,
                 told: Told::Done,

@@ -1,12 +1,16 @@
 // The desk for C and Rust: its owner holds it and lends it by a pointer. Each call that changes it answers with the number of the refusal, 0 if there is none; a
 // fire tells besides who took part.
 ghost use Rattle.std.specs.Prelude.{◌≡◌};
-ghost use Rattle.desk_model.specs.Desks.{saves, returns, forgets, told_refusal, told_place, told_processes};
+ghost use Rattle.desk_model.specs.Desks.{saves, returns, forgets, told_refusal, told_processes};
 ghost use Rattle.desk.specs.Promises.{Good, counts_of, shown, sight_of};
 ghost use Rattle.exports.specs.DeskCalls.{DeskAnswers, DeskFires, DeskOpens, fire_told};
 
-use desk::{Counts, Desk, Sight, counted, fired, forgotten, looked, open, returned, saved};
-use desk_model::Told;
+use desk::{
+    Counts, Desk, Sight, counted, fired, forgotten, looked, no_desk, returned, saved, set_up,
+};
+use desk_model::{PILE, Told};
+use reading::read;
+use table::{Parsed, Table};
 
 // What opening gives: a desk, or the number and the place of the refusal; then the desk is none.
 #[repr(C)]
@@ -41,22 +45,6 @@ fn number_of(told: Told) -> u8
     }
 }
 
-fn place_of(told: Told) -> usize
-    ensures { result ≡ told_place told }
-{
-    match told {
-        Told::Done => {
-            return 0;
-        }
-        Told::Fired { processes } => {
-            return 0;
-        }
-        Told::Refused { number, place } => {
-            return place;
-        }
-    }
-}
-
 fn processes_of(told: Told) -> u8
     ensures { result ≡ told_processes told }
 {
@@ -86,13 +74,25 @@ fn fire_of(told: Told) -> Fire
 pub extern "C" fn roskavel_desk_open(table: &[u8]) -> Opening
     ensures { DeskOpens table.now result }
 {
-    let next = open(table);
-    let desk = next.desk;
-    let told = next.told;
-    Opening {
-        desk,
-        number: number_of(told),
-        place: place_of(told),
+    match read(table) {
+        Parsed::Refused { number, place } => {
+            let desk = no_desk();
+            return Opening {
+                desk,
+                number,
+                place,
+            };
+        }
+        Parsed::Accepted(t) => {
+            let mut bytes = [0; Table::LONGEST];
+            let mut pile = [0; PILE];
+            let desk = set_up(table, t, &mut bytes, &mut pile);
+            return Opening {
+                desk,
+                number: 0,
+                place: 0,
+            };
+        }
     }
 }
 
