@@ -1,7 +1,7 @@
 // The desk for C and Rust: its owner holds it and lends it by a pointer. Each call that changes it answers with the number of the refusal, 0 if there is none; a
 // fire tells besides who took part.
 ghost use Rattle.std.specs.Prelude.{◌≡◌};
-ghost use Rattle.desk_model.specs.Desks.{saves, returns, forgets, told_refusal, told_processes};
+ghost use Rattle.desk_model.specs.Desks.{saves, returns, forgets, told_refusal, told_place, told_processes};
 ghost use Rattle.desk.specs.Promises.{Good, counts_of, shown, sight_of};
 ghost use Rattle.exports.specs.DeskCalls.{DeskAnswers, DeskFires, DeskOpens, fire_told};
 
@@ -45,6 +45,22 @@ fn number_of(told: Told) -> u8
     }
 }
 
+fn place_of(told: Told) -> usize
+    ensures { result ≡ told_place told }
+{
+    match told {
+        Told::Done => {
+            return 0;
+        }
+        Told::Fired { processes } => {
+            return 0;
+        }
+        Told::Refused { number, place } => {
+            return place;
+        }
+    }
+}
+
 fn processes_of(told: Told) -> u8
     ensures { result ≡ told_processes told }
 {
@@ -77,20 +93,22 @@ pub extern "C" fn roskavel_desk_open(table: &[u8]) -> Opening
     match read(table) {
         Parsed::Refused { number, place } => {
             let desk = no_desk();
+            let told = Told::Refused { number, place };
             return Opening {
                 desk,
-                number,
-                place,
+                number: number_of(told),
+                place: place_of(told),
             };
         }
         Parsed::Accepted(t) => {
             let mut bytes = [0; Table::LONGEST];
             let mut pile = [0; PILE];
             let desk = set_up(table, t, &mut bytes, &mut pile);
+            let told = Told::Done;
             return Opening {
                 desk,
-                number: 0,
-                place: 0,
+                number: number_of(told),
+                place: place_of(told),
             };
         }
     }
