@@ -254,19 +254,8 @@ pub fn forgotten(d: Desk, name: u8) -> Next
 }
 
 // ---- opening
-// The same pile, its first and its last byte written by themselves. LLVM takes a struct apart only where a single value is written, and a part that is one copy
-// it copies straight into what a call gives: so it does with the bytes before the pile and with the pile, and no second desk stands on the stack.
-fn apart(pile: [u8; PILE]) -> [u8; PILE]
-    ensures { result ≡ pile }
-{
-    let mut same = pile;
-    same[0] = pile[0];
-    same[PILE - 1] = pile[PILE - 1];
-    same
-}
-
-// A desk on an accepted table. The buffers are the caller's, whatever they hold, so that they are still there when it copies the desk into what it gives: of
-// buffers in here LLVM would first make copies of its own.
+// A desk on an accepted table. The buffers are the caller's, whatever they hold: those of this function would end with it, before the caller copies the desk into
+// what it gives, and LLVM would keep copies of them on the stack until then.
 pub fn set_up(
     table: &[u8],
     t: Table,
@@ -291,7 +280,7 @@ pub fn set_up(
         placed,
         counts: [0; Table::PROCESSES],
         bytes: *bytes,
-        pile: apart(*pile),
+        pile: *pile,
         names: [free; NAMES],
     }
 }

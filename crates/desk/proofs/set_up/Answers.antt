@@ -16,6 +16,5 @@ pub returns : goal.returns
 returns c =
     let a = c.args in
     let placed = c.place_start-placed in
-    rw c.apart.ensures
-    (opened_desk a.table.now a.t placed.result c.copy.new.to placed.new.pile c.requires c.copy.ensures
-    placed.ensures.start placed.ensures.inside placed.auto.pile)
+    opened_desk a.table.now a.t placed.result c.copy.new.to placed.new.pile c.requires c.copy.ensures
+    placed.ensures.start placed.ensures.inside placed.auto.pile
