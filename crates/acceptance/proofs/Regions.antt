@@ -1,5 +1,5 @@
 -- The two sets in the scratch: a part that is lent and comes back changes itself alone.
-use mathlib.Core.Path.{◌≡◌, refl, ap, ap₂, sym, ◌∙◌}
+use mathlib.Core.Path.{◌≡◌, ap, ap₂, sym, ◌∙◌}
 use mathlib.Core.Bool.{Bool, ◌||◌}
 use mathlib.Core.List.{List, [], ◌∷◌, ◌++◌}
 use Prim.Native.Nat.{ℕ, ◌+◌, ◌<◌, ◌≤◌}
@@ -60,9 +60,6 @@ module _ (sys : System) (L : Processes) where
   pub record Ahead (word s s' : List ℕ) (i : ℕ) : Type 0 where
     pub size : length s' ≡ length s
     pub same : some_accepts sys L (here s') (drop i word) ≡ some_accepts sys L (here s) word
-
-  pub ahead_start : (word s : List ℕ) → Ahead word s s 0
-  ahead_start word s = record { size = refl; same = refl }
 
   pub ahead_turn : (word s s' s'' : List ℕ) (i : ℕ) → i < length word → length s'' ≡ length s' → Ahead word s s' i
       → ((w : List ℕ) → some_accepts sys L (here s'') w ≡ some_accepts sys L (here s') (get_or word i 0 ∷ w)) → Ahead word s s'' (i + 1)

@@ -139,9 +139,6 @@ module _ (sys : System) (L : Processes) where
     pub size : length members' ≡ length members
     pub words : Extends sys L members members' (λ (w : List ℕ). any_of (leads sys a g w) (take k sys.transitions))
 
-  pub following_start : (a : ℕ) (g : Group) (members : List ℕ) → Following a g members members 0
-  following_start a g members = record { size = refl; words = record { words = λ w. sym (or-false (some_accepts sys L members w)) } }
-
   pub following_turn : (a : ℕ) (g : Group) (members members' members'' : List ℕ) (k : ℕ) (d : Transition) → k < length sys.transitions → length members'' ≡ length members' → Following a g members members' k
       → Extends sys L members' members'' (λ (w : List ℕ). leads sys a g w (get_or sys.transitions k d)) → Following a g members members'' (k + 1)
   following_turn a g members members' members'' k d h size f x = record {

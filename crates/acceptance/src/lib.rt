@@ -15,140 +15,126 @@ ghost use Rattle.acceptance.specs.Sets.{accepts_from, some_accepts, leads, Exten
 
 use buffers::{clear, move_front};
 use model::Group;
-use numbers::wide;
 use scratch::{HERE, SET_BYTES, THERE, THERE_END};
 use states::numbering::STATES;
 use states::{groups, numbering, sets};
-use table::{
-    Table, accepting_group, letter_bits, present, transition_after, transition_before,
-    transition_letter,
-};
+use table::{Accepted, present};
 
 // Transition k reads the letter in g.
-fn is_read(table: &[u8], t: Table, letter: u8, g: Group, k: usize) -> bool
-    requires { Holds table.now t × (k < t.transitions) }
-    ensures { result ≡ (eqb (transition_in table.now k).letter letter && same_group (restrict ((system_in table.now).loc letter) g) (transition_in table.now k).before) }
+fn is_read(table: &Accepted, letter: u8, g: Group, k: usize) -> bool
+    requires { k < table.now.counts.transitions }
+    ensures { result ≡ (eqb (transition_in table.now.bytes.now k).letter letter && same_group (restrict ((system_in table.now.bytes.now).loc letter) g) (transition_in table.now.bytes.now k).before) }
 {
-    let a = transition_letter(table, t, k);
-    if a != letter {
-        return false;
-    }
-    let bits = letter_bits(table, t, wide(a));
-    groups::reads(bits, g, transition_before(table, t, k))
+    table.transition_letter(k) == letter
+        && groups::reads(
+            table.letter_bits(usize::from(letter)),
+            g,
+            table.transition_before(k),
+        )
 }
 
 // The number of the state that transition k leads to from g.
-fn target(table: &[u8], t: Table, g: Group, k: usize) -> usize
-    requires { Holds table.now t × (k < t.transitions) }
-    ensures { (result ≡ state_number (move (system_in table.now).loc (transition_in table.now k) g)) × (result < state_count) }
+fn target(table: &Accepted, g: Group, k: usize) -> usize
+    requires { k < table.now.counts.transitions }
+    ensures { (result ≡ state_number (move (system_in table.now.bytes.now).loc (transition_in table.now.bytes.now k) g)) × (result < state_count) }
 {
-    let a = transition_letter(table, t, k);
-    let bits = letter_bits(table, t, wide(a));
-    let after = transition_after(table, t, k);
-    numbering::number(groups::merged(bits, after, g))
+    let bits = table.letter_bits(usize::from(table.transition_letter(k)));
+    numbering::number(groups::merged(bits, table.transition_after(k), g))
 }
 
 // Puts in the state that transition k leads to, if it reads the letter in g.
-fn follow(table: &[u8], t: Table, letter: u8, g: Group, k: usize, next: &mut [u8])
-    requires { Holds table.now t × (k < t.transitions) × Over (present_in t) g × (length next.old ≡ set_length) }
-    ensures { Extends (system_in table.now) (present_in t) next.old next.new (λ w. leads (system_in table.now) letter g w (transition_in table.now k)) }
+fn follow(table: &Accepted, letter: u8, g: Group, k: usize, next: &mut [u8])
+    requires { (k < table.now.counts.transitions) × Over (present_in table.now.counts) g × (length next.old ≡ set_length) }
+    ensures { Extends (system_in table.now.bytes.now) (present_in table.now.counts) next.old next.new (λ w. leads (system_in table.now.bytes.now) letter g w (transition_in table.now.bytes.now k)) }
 {
-    if is_read(table, t, letter, g, k) {
-        sets::insert(next, target(table, t, g, k));
+    if is_read(table, letter, g, k) {
+        sets::insert(next, target(table, g, k));
     }
 }
 
 // Puts in the states that the letter leads to from g.
-fn follow_all(table: &[u8], t: Table, letter: u8, g: Group, next: &mut [u8])
-    requires { Holds table.now t × Over (present_in t) g × (length next.old ≡ set_length) }
-    ensures { Extends (system_in table.now) (present_in t) next.old next.new (λ w. accepts_from (system_in table.now) (letter ∷ w) g) }
+fn follow_all(table: &Accepted, letter: u8, g: Group, next: &mut [u8])
+    requires { Over (present_in table.now.counts) g × (length next.old ≡ set_length) }
+    ensures { Extends (system_in table.now.bytes.now) (present_in table.now.counts) next.old next.new (λ w. accepts_from (system_in table.now.bytes.now) (letter ∷ w) g) }
 {
-    let mut k = 0;
-    while k < t.transitions {
-        follow(table, t, letter, g, k, next);
-        k += 1;
+    for k in 0..table.counts.transitions {
+        follow(table, letter, g, k, next);
     }
 }
 
 // State n of the table's processes.
-fn state_at(t: Table, n: usize) -> Group
-    requires { (t.processes ≤ 4) × (n < state_count) }
-    ensures { result ≡ group_numbered (present_in t) n }
+fn state_at(table: &Accepted, n: usize) -> Group
+    requires { n < state_count }
+    ensures { result ≡ group_numbered (present_in table.now.counts) n }
 {
-    numbering::numbered(present(t), n)
+    numbering::numbered(present(table.counts), n)
 }
 
 // Puts in the states that the letter leads to from state n, and gives the next state of the set.
-fn read_member(table: &[u8], t: Table, letter: u8, n: usize, scratch: &mut [u8]) -> usize
-    requires { Holds table.now t × (n < state_count) × (1024 ≤ length scratch.old) }
-    ensures { (here scratch.new ≡ here scratch.old) × (result ≡ next_member (here scratch.old) (n + 1)) × Extends (system_in table.now) (present_in t) (there scratch.old) (there scratch.new) (λ w. accepts_from (system_in table.now) (letter ∷ w) (group_numbered (present_in t) n)) }
+fn read_member(table: &Accepted, letter: u8, n: usize, scratch: &mut [u8]) -> usize
+    requires { (n < state_count) × (1024 ≤ length scratch.old) }
+    ensures { (here scratch.new ≡ here scratch.old) × (result ≡ next_member (here scratch.old) (n + 1)) × Extends (system_in table.now.bytes.now) (present_in table.now.counts) (there scratch.old) (there scratch.new) (λ w. accepts_from (system_in table.now.bytes.now) (letter ∷ w) (group_numbered (present_in table.now.counts) n)) }
 {
     follow_all(
         table,
-        t,
         letter,
-        state_at(t, n),
+        state_at(table, n),
         &mut scratch[THERE..THERE_END],
     );
     sets::next_member(&scratch[HERE..THERE], n + 1)
 }
 
-// Puts in the states that the letter leads to from the states of the set.
-fn read_members(table: &[u8], t: Table, letter: u8, scratch: &mut [u8])
-    requires { Holds table.now t × (1024 ≤ length scratch.old) }
-    ensures { Extends (system_in table.now) (present_in t) (there scratch.old) (there scratch.new) (λ w. some_accepts (system_in table.now) (present_in t) (here scratch.old) (letter ∷ w)) }
+// Puts in the states that the letter leads to from the states of the set, which are gone through by `next_member`, as no range has them.
+fn read_members(table: &Accepted, letter: u8, scratch: &mut [u8])
+    requires { 1024 ≤ length scratch.old }
+    ensures { Extends (system_in table.now.bytes.now) (present_in table.now.counts) (there scratch.old) (there scratch.new) (λ w. some_accepts (system_in table.now.bytes.now) (present_in table.now.counts) (here scratch.old) (letter ∷ w)) }
 {
     let mut n = sets::next_member(&scratch[HERE..THERE], 0);
     while n < STATES {
-        n = read_member(table, t, letter, n, scratch);
+        n = read_member(table, letter, n, scratch);
     }
 }
 
 // Reads one letter: the set of the states after it takes the place of the set before it.
-fn read_letter(table: &[u8], t: Table, letter: u8, scratch: &mut [u8])
-    requires { Holds table.now t × (1024 ≤ length scratch.old) }
-    ensures { (w : List ℕ) → some_accepts (system_in table.now) (present_in t) (here scratch.new) w ≡ some_accepts (system_in table.now) (present_in t) (here scratch.old) (letter ∷ w) }
+fn read_letter(table: &Accepted, letter: u8, scratch: &mut [u8])
+    requires { 1024 ≤ length scratch.old }
+    ensures { (w : List ℕ) → some_accepts (system_in table.now.bytes.now) (present_in table.now.counts) (here scratch.new) w ≡ some_accepts (system_in table.now.bytes.now) (present_in table.now.counts) (here scratch.old) (letter ∷ w) }
 {
     clear(&mut scratch[THERE..THERE_END]);
-    read_members(table, t, letter, scratch);
+    read_members(table, letter, scratch);
     move_front(scratch, THERE, SET_BYTES);
 }
 
 // Reads the whole word.
-fn read_word(table: &[u8], t: Table, word: &[u8], scratch: &mut [u8])
-    requires { Holds table.now t × (1024 ≤ length scratch.old) }
-    ensures { some_accepts (system_in table.now) (present_in t) (here scratch.new) [] ≡ some_accepts (system_in table.now) (present_in t) (here scratch.old) word.now }
+fn read_word(table: &Accepted, word: &[u8], scratch: &mut [u8])
+    requires { 1024 ≤ length scratch.old }
+    ensures { some_accepts (system_in table.now.bytes.now) (present_in table.now.counts) (here scratch.new) [] ≡ some_accepts (system_in table.now.bytes.now) (present_in table.now.counts) (here scratch.old) word.now }
 {
-    let mut i = 0;
-    while i < word.len() {
-        read_letter(table, t, word[i], scratch);
-        i += 1;
+    for &letter in word {
+        read_letter(table, letter, scratch);
     }
 }
 
 // The group is one of the table's accepting groups.
-fn is_accepting(table: &[u8], t: Table, g: Group) -> bool
-    requires { Holds table.now t }
-    ensures { result ≡ is_accepting g (system_in table.now).accepting }
+fn is_accepting(table: &Accepted, g: Group) -> bool
+    ensures { result ≡ is_accepting g (system_in table.now.bytes.now).accepting }
 {
-    let mut k = 0;
-    while k < t.accepting {
-        if groups::same(g, accepting_group(table, t, k)) {
+    for k in 0..table.counts.accepting {
+        if g == table.accepting_group(k) {
             return true;
         }
-        k += 1;
     }
     false
 }
 
 // Some state of the set is accepting.
-fn has_accepting(table: &[u8], t: Table, members: &[u8]) -> bool
-    requires { Holds table.now t × (set_length ≤ length members.now) }
-    ensures { result ≡ some_accepts (system_in table.now) (present_in t) members.now [] }
+fn has_accepting(table: &Accepted, members: &[u8]) -> bool
+    requires { set_length ≤ length members.now }
+    ensures { result ≡ some_accepts (system_in table.now.bytes.now) (present_in table.now.counts) members.now [] }
 {
     let mut n = sets::next_member(members, 0);
     while n < STATES {
-        if is_accepting(table, t, state_at(t, n)) {
+        if is_accepting(table, state_at(table, n)) {
             return true;
         }
         n = sets::next_member(members, n + 1);
@@ -166,13 +152,13 @@ fn put_start(g: Group, members: &mut [u8])
 }
 
 // The table's automaton accepts the word from these states. The scratch is left zero.
-pub fn is_accepted(table: &[u8], t: Table, word: &[u8], states: Group, scratch: &mut [u8]) -> bool
-    requires { Holds table.now t × Over (present_in t) states × (1024 ≤ length scratch.old) }
-    ensures { (result ≡ accepts_from (system_in table.now) word.now states) × (scratch.new ≡ zeros scratch.old) }
+pub fn is_accepted(table: &Accepted, word: &[u8], states: Group, scratch: &mut [u8]) -> bool
+    requires { Over (present_in table.now.counts) states × (1024 ≤ length scratch.old) }
+    ensures { (result ≡ accepts_from (system_in table.now.bytes.now) word.now states) × (scratch.new ≡ zeros scratch.old) }
 {
     put_start(states, &mut scratch[HERE..THERE]);
-    read_word(table, t, word, scratch);
-    let accepted = has_accepting(table, t, &scratch[HERE..THERE]);
+    read_word(table, word, scratch);
+    let accepted = has_accepting(table, &scratch[HERE..THERE]);
     clear(scratch);
     accepted
 }

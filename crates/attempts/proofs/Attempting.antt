@@ -13,8 +13,8 @@ use Rattle.rests.specs.Rests.{processes_of_table, zeroed_group}
 use Rattle.attempts.specs.declared.Span.{Span}
 use Rattle.attempts.specs.declared.Stand.{Stand}
 use Rattle.attempts.specs.declared.Tried.{Tried}
-use Rattle.attempts.specs.declared.Turn.{Turn}
-use Rattle.attempts.specs.declared.Turn.TheVariants.{Again, Done}
+use Rattle.std.specs.declared.ops.ControlFlow.{ControlFlow}
+use Rattle.std.specs.declared.ops.ControlFlow.TheVariants.{Continue, Break}
 use Rattle.attempts.specs.Attempts.{Attempted, Ready}
 use Rattle.attempts.specs.Turns.{EachWay, OnWay, TurnsTo, entered, weight}
 use Rattle.attempts.proofs.Ways.{way_start}
@@ -29,19 +29,19 @@ module _ {table : List ℕ} {t : Table} {log : List ℕ} {c : Scope} {span : Spa
   attempting_start tries y e = record { same = outside_none 128 stack_at s; way = λ g w is. way_start w m tries is y e }
 
   -- one turn
-  module _ {s' s'' : List ℕ} {x : Stand} {r : Turn} (v : Attempting table t log c span m s s' x) (turned : EachWay table t log c span x s' s'' r) {g : Group}
+  module _ {s' s'' : List ℕ} {x : Stand} {r : ControlFlow Tried Stand} (v : Attempting table t log c span m s s' x) (turned : EachWay table t log c span x s' s'' r) {g : Group}
       (w : Ready table t log c span g s) (is : m ≡ packed (zeroed_group (processes_of_table t) g)) where
     now_same : OutsideSame 128 stack_at s s''
     now_same = outside_join v.same (turned g (v.way g w is)).same
 
-    to : (g : Group) → Ready table t log c span g s → m ≡ packed (zeroed_group (processes_of_table t) g) → (q : Turn) → r ≡ q → TurnsTo table t log c span g x s'' q
+    to : (g : Group) → Ready table t log c span g s → m ≡ packed (zeroed_group (processes_of_table t) g) → (q : ControlFlow Tried Stand) → r ≡ q → TurnsTo table t log c span g x s'' q
     to g w is q e = subst (TurnsTo table t log c span g x s'') e (turned g (v.way g w is)).to
 
-    pub attempting_turn : {y : Stand} → r ≡ Again y → Attempting table t log c span m s s'' y
-    attempting_turn {y} e = record { same = now_same; way = λ g w is. (to g w is (Again y) e).0 }
+    pub attempting_turn : {y : Stand} → r ≡ Continue y → Attempting table t log c span m s s'' y
+    attempting_turn {y} e = record { same = now_same; way = λ g w is. (to g w is (Continue y) e).0 }
 
-    pub attempting_falls : {y : Stand} → r ≡ Again y → weight y < weight x
-    attempting_falls {y} e = (to g w is (Again y) e).1
+    pub attempting_falls : {y : Stand} → r ≡ Continue y → weight y < weight x
+    attempting_falls {y} e = (to g w is (Continue y) e).1
 
-    pub attempting_end : {a : Tried} → r ≡ Done a → Attempted table t log c span g s s'' a
-    attempting_end {a} e = record { same = now_same; shown = to g w is (Done a) e }
+    pub attempting_end : {a : Tried} → r ≡ Break a → Attempted table t log c span g s s'' a
+    attempting_end {a} e = record { same = now_same; shown = to g w is (Break a) e }

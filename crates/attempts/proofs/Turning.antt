@@ -27,8 +27,9 @@ use Rattle.rests.specs.Rests.{accepts_from, path_from, prepend, processes_of_tab
 use Rattle.rests.proofs.GreedyPath.{accepts_is, is_some, prepend_more}
 use Rattle.attempts.specs.declared.Span.{Span}
 use Rattle.attempts.specs.declared.Stand.{Stand}
+use Rattle.attempts.specs.declared.Tried.{Tried}
 use Rattle.attempts.specs.declared.Tried.TheVariants.{Found, Nothing}
-use Rattle.attempts.specs.declared.Turn.TheVariants.{Again, Done}
+use Rattle.std.specs.declared.ops.ControlFlow.TheVariants.{Continue, Break}
 use Rattle.attempts.specs.Attempts.{Leading, state_along, state_by, trail}
 use Rattle.attempts.specs.Turns.{stand_at, entered, returned, last_number, reads_in, Taken, paths_from, paths_left, here_state, AtPlace, AmongLeft, OnWay, weight, Turned, followed}
 use Rattle.attempts.proofs.PathsLeft.{along_more, first_found, first_hit, first_left, first_miss, left_more, taken_less, taken_more}
@@ -134,7 +135,7 @@ module _ {table : List ℕ} {t : Table} {log : List ℕ} {c : Scope} {span : Spa
       }
 
       pub turn_miss : {b : Bool} (y : Stand) → 0 < x.left → x.place + 1 ≡ span.high → b ≡ member (set_at s span.goal) (packed_number m) → b ≡ false → y ≡ followed log c x (x.left - 1)
-          → Turned table t log c span g x s s (Again y)
+          → Turned table t log c span g x s s (Continue y)
       unfolding followed
       turn_miss y more last is n e = record {
         same = outside_none 128 stack_at s;
@@ -172,7 +173,7 @@ module _ {table : List ℕ} {t : Table} {log : List ℕ} {c : Scope} {span : Spa
               ∙ ap (λ (ps : List Path). first_accepting acc (paths_left table log round low g (ns ++ (x.next ∷ [])) ps)) (paths_whole lent (x.place + 1) (omega (arith, more, at.ready.inside)) there)
               ∙ ap₂ (λ (l : List ℕ) (h : Group). first_accepting acc (paths_left table log round low g l (paths_from table round (x.place + 1) h 0))) (sym trail_now) (sym along_now)
 
-          pub turn_on : (y : Stand) → 0 < x.left → y ≡ entered table log c (x.place + 1) m (x.left - 1) → Turned table t log c span g x s s' (Again y)
+          pub turn_on : (y : Stand) → 0 < x.left → y ≡ entered table log c (x.place + 1) m (x.left - 1) → Turned table t log c span g x s s' (Continue y)
           unfolding entered
           turn_on y tries e = record {
             same = stack_only;
@@ -205,7 +206,7 @@ module _ {table : List ℕ} {t : Table} {log : List ℕ} {c : Scope} {span : Spa
                   ∙ ap₂ (λ (l : List ℕ) (h : Group). Option.map (prepend l) (path_from table round span.high h)) (sym trail_high) (sym along-high);
             }
 
-        pub turn_found : {b : Bool} → x.place + 1 ≡ span.high → b ≡ member (set_at s span.goal) (packed_number m) → b ≡ true → Turned table t log c span g x s s' (Done Found)
+        pub turn_found : {b : Bool} → x.place + 1 ≡ span.high → b ≡ member (set_at s span.goal) (packed_number m) → b ≡ true → Turned table t log c span g x s s' (Break Found)
         turn_found last e y = record { same = stack_only; to = leading last e y }
 
   -- ---- no record is left
@@ -220,7 +221,7 @@ module _ {table : List ℕ} {t : Table} {log : List ℕ} {c : Scope} {span : Spa
     nothing e round lent = left_none round lent
         ∙ ap (λ (l : List ℕ). first_accepting acc (paths_left table log round low g l [])) (trail_none t low x.place s e)
 
-    pub turn_nothing : x.place ≡ span.low → Turned table t log c span g x s s (Done Nothing)
+    pub turn_nothing : x.place ≡ span.low → Turned table t log c span g x s s (Break Nothing)
     turn_nothing e = record { same = outside_none 128 stack_at s; to = nothing e }
 
     -- else the last record on the stack has been tried
@@ -283,5 +284,5 @@ module _ {table : List ℕ} {t : Table} {log : List ℕ} {c : Scope} {span : Spa
       unfolding returned followed
       back_falls y z e is = subst (λ (z : Stand). weight z < weight x) (sym (is ∙ ap (λ (y : Stand). followed log c y x.left) e)) (omega arith)
 
-      pub turn_back : (y z : Stand) → y ≡ returned table t log s x → z ≡ followed log c y x.left → Turned table t log c span g x s s (Again z)
+      pub turn_back : (y z : Stand) → y ≡ returned table t log s x → z ≡ followed log c y x.left → Turned table t log c span g x s s (Continue z)
       turn_back y z e is = record { same = outside_none 128 stack_at s; to = (past_way (past_back y e) x.left z is, back_falls y z e is) }

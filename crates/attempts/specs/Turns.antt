@@ -18,8 +18,9 @@ use Rattle.rests.specs.declared.Scope.{Scope}
 use Rattle.rests.specs.Rests.{processes_of_table, zeroed_group, path_from}
 use Rattle.attempts.specs.declared.Span.{Span}
 use Rattle.attempts.specs.declared.Stand.{Stand}
-use Rattle.attempts.specs.declared.Turn.{Turn}
-use Rattle.attempts.specs.declared.Turn.TheVariants.{Again, Done}
+use Rattle.attempts.specs.declared.Tried.{Tried}
+use Rattle.std.specs.declared.ops.ControlFlow.{ControlFlow}
+use Rattle.std.specs.declared.ops.ControlFlow.TheVariants.{Continue, Break}
 use Rattle.attempts.specs.Attempts.{Ready, trail, state_by, state_along, Shown}
 
 -- ---- one place
@@ -141,12 +142,12 @@ pub record OnWay (table : List ℕ) (t : Table) (log : List ℕ) (c : Scope) (sp
 abbrev pub weight : Stand → ℕ
 weight x = 65 * x.left + x.place
 
-abbrev pub TurnsTo : List ℕ → Table → List ℕ → Scope → Span → Group → Stand → List ℕ → Turn → Type 0
-TurnsTo table t log c span g x s (Again y) = OnWay table t log c span g s y × (weight y < weight x)
-TurnsTo table t log c span g x s (Done a) = Shown table t log c span g s a
+abbrev pub TurnsTo : List ℕ → Table → List ℕ → Scope → Span → Group → Stand → List ℕ → ControlFlow Tried Stand → Type 0
+TurnsTo table t log c span g x s (Continue y) = OnWay table t log c span g s y × (weight y < weight x)
+TurnsTo table t log c span g x s (Break a) = Shown table t log c span g s a
 
 pub record Turned (table : List ℕ) (t : Table) (log : List ℕ) (c : Scope) (span : Span) (g : Group) (x : Stand)
-    (s s' : List ℕ) (r : Turn) : Type 0 where
+    (s s' : List ℕ) (r : ControlFlow Tried Stand) : Type 0 where
   pub same : OutsideSame 128 stack_at s s'
   pub to : TurnsTo table t log c span g x s' r
 
@@ -154,6 +155,6 @@ pub record Turned (table : List ℕ) (t : Table) (log : List ℕ) (c : Scope) (s
 abbrev pub SomeWay : List ℕ → Table → List ℕ → Scope → Span → List ℕ → Stand → Type 0
 SomeWay table t log c span s x = (g : Group) × OnWay table t log c span g s x
 
-abbrev pub EachWay : List ℕ → Table → List ℕ → Scope → Span → Stand → List ℕ → List ℕ → Turn → Type 0
+abbrev pub EachWay : List ℕ → Table → List ℕ → Scope → Span → Stand → List ℕ → List ℕ → ControlFlow Tried Stand → Type 0
 EachWay table t log c span x s s' r =
     (g : Group) → OnWay table t log c span g s x → Turned table t log c span g x s s' r

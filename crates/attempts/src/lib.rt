@@ -14,11 +14,12 @@ ghost use Rattle.attempts.specs.Turns.{reads_here, entered, followed, Returning,
 use model::Group;
 use packs::{after_at, before_at, mask_of, merged, number, pack, restricted};
 use rests::{Scope, letter_at, zeroed};
-use rings::{first_match, next_match};
+use rings::Rings;
 use scratch::stack::{number_at, put_number};
 use scratch::{RINGS, SET_BYTES};
 use states::sets::contains;
-use table::Table;
+use std::ops::ControlFlow;
+use table::Accepted;
 
 // The letters from `low` on and below `high`, and where the set stands that they shall lead into.
 #[derive(Clone, Copy)]
@@ -48,16 +49,9 @@ pub struct Stand {
     pub left: usize,
 }
 
-#[derive(Clone, Copy)]
-pub enum Turn {
-    Again(Stand),
-    Done(Tried),
-}
-
 // Before letter `place` in a state: the first record that reads the letter there.
 fn enter(
-    table: &[u8],
-    t: Table,
+    table: &Accepted,
     log: &[u8],
     scratch: &[u8],
     c: Scope,
@@ -65,13 +59,13 @@ fn enter(
     state: u32,
     left: usize,
 ) -> Stand
-    requires { Holds table.now t × (place < t.pile) × Linked log.now c.count c.n scratch.now }
-    ensures { result ≡ entered table.now log.now c place state left }
+    requires { (place < table.now.counts.pile) × Linked log.now c.count c.n scratch.now }
+    ensures { result ≡ entered table.now.bytes.now log.now c place state left }
 {
-    let a = letter_at(table, t, place);
+    let a = letter_at(table, place);
     let mask = mask_of(a.bits);
     let before = restricted(mask, state);
-    let next = first_match(log, scratch, RINGS, c.n, c.count, a.number, before);
+    let next = Rings::new(log, scratch, RINGS, c.n, c.count).first_match(a.number, before);
     Stand {
         place,
         letter: a.number,
@@ -88,7 +82,7 @@ fn follow(log: &[u8], scratch: &[u8], c: Scope, x: Stand, left: usize) -> Stand
     ensures { result ≡ followed log.now c x left }
 {
     let before = restricted(x.mask, x.state);
-    let next = next_match(log, scratch, RINGS, c.n, c.count, x.next, x.letter, before);
+    let next = Rings::new(log, scratch, RINGS, c.n, c.count).next_match(x.next, x.letter, before);
     Stand {
         place: x.place,
         letter: x.letter,
@@ -100,14 +94,14 @@ fn follow(log: &[u8], scratch: &[u8], c: Scope, x: Stand, left: usize) -> Stand
 }
 
 // Back before the last record on the stack: where the attempt stood when it was tried.
-fn return_back(table: &[u8], t: Table, log: &[u8], scratch: &[u8], x: Stand) -> Stand
-    requires { Returning table.now t log.now scratch.now x }
-    ensures { result ≡ returned table.now t log.now scratch.now x }
+fn return_back(table: &Accepted, log: &[u8], scratch: &[u8], x: Stand) -> Stand
+    requires { Returning table.now.bytes.now table.now.counts log.now scratch.now x }
+    ensures { result ≡ returned table.now.bytes.now table.now.counts log.now scratch.now x }
 {
     let place = x.place - 1;
-    let a = letter_at(table, t, place);
+    let a = letter_at(table, place);
     let mask = mask_of(a.bits);
-    let next = number_at(scratch, t.pile - x.place);
+    let next = number_at(scratch, table.counts.pile - x.place);
     let before = before_at(log, next);
     Stand {
         place,
@@ -129,60 +123,57 @@ fn is_in(scratch: &[u8], goal: usize, state: u32) -> bool
 
 // Tries the next record: on behind it, or at the span's last letter whether it leads into the set.
 fn try_record(
-    table: &[u8],
-    t: Table,
+    table: &Accepted,
     log: &[u8],
     scratch: &mut [u8],
     c: Scope,
     span: Span,
     x: Stand,
-) -> Turn
-    requires { (x.next < c.limit) × (0 < x.left) × SomeWay table.now t log.now c span scratch.old x }
-    ensures { EachWay table.now t log.now c span x scratch.old scratch.new result }
+) -> ControlFlow<Tried, Stand>
+    requires { (x.next < c.limit) × (0 < x.left) × SomeWay table.now.bytes.now table.now.counts log.now c span scratch.old x }
+    ensures { EachWay table.now.bytes.now table.now.counts log.now c span x scratch.old scratch.new result }
 {
     let state = merged(x.mask, after_at(log, x.next), x.state);
     if x.place + 1 < span.high {
-        put_number(scratch, t.pile - 1 - x.place, x.next as u16);
-        return Turn::Again(enter(table, t, log, scratch, c, x.place + 1, state, x.left - 1));
+        put_number(scratch, table.counts.pile - 1 - x.place, x.next as u16);
+        return ControlFlow::Continue(enter(table, log, scratch, c, x.place + 1, state, x.left - 1));
     }
     if is_in(scratch, span.goal, state) {
-        put_number(scratch, t.pile - 1 - x.place, x.next as u16);
-        return Turn::Done(Tried::Found);
+        put_number(scratch, table.counts.pile - 1 - x.place, x.next as u16);
+        return ControlFlow::Break(Tried::Found);
     }
-    Turn::Again(follow(log, scratch, c, x, x.left - 1))
+    ControlFlow::Continue(follow(log, scratch, c, x, x.left - 1))
 }
 
 // One try, or one step back where no record is left.
 fn take_turn(
-    table: &[u8],
-    t: Table,
+    table: &Accepted,
     log: &[u8],
     scratch: &mut [u8],
     c: Scope,
     span: Span,
     x: Stand,
-) -> Turn
-    requires { SomeWay table.now t log.now c span scratch.old x }
-    ensures { EachWay table.now t log.now c span x scratch.old scratch.new result }
+) -> ControlFlow<Tried, Stand>
+    requires { SomeWay table.now.bytes.now table.now.counts log.now c span scratch.old x }
+    ensures { EachWay table.now.bytes.now table.now.counts log.now c span x scratch.old scratch.new result }
 {
     if x.next < c.limit {
         if x.left == 0 {
-            return Turn::Done(Tried::GivenUp);
+            return ControlFlow::Break(Tried::GivenUp);
         }
-        return try_record(table, t, log, scratch, c, span, x);
+        return try_record(table, log, scratch, c, span, x);
     }
     if x.place == span.low {
-        return Turn::Done(Tried::Nothing);
+        return ControlFlow::Break(Tried::Nothing);
     }
-    let y = return_back(table, t, log, scratch, x);
-    Turn::Again(follow(log, scratch, c, y, x.left))
+    let y = return_back(table, log, scratch, x);
+    ControlFlow::Continue(follow(log, scratch, c, y, x.left))
 }
 
 // Looks for the first accepting path of the rest from letter `low` on, from the state g, by the records below the limit. It tries so many records at most; what
 // it leaves on the stack, unless it finds the path, and whether it gives up is not decided.
 pub fn attempt(
-    table: &[u8],
-    t: Table,
+    table: &Accepted,
     log: &[u8],
     scratch: &mut [u8],
     c: Scope,
@@ -190,19 +181,15 @@ pub fn attempt(
     g: Group,
     tries: usize,
 ) -> Tried
-    requires { Ready table.now t log.now c span g scratch.old }
-    ensures { Attempted table.now t log.now c span g scratch.old scratch.new result }
+    requires { Ready table.now.bytes.now table.now.counts log.now c span g scratch.old }
+    ensures { Attempted table.now.bytes.now table.now.counts log.now c span g scratch.old scratch.new result }
 {
-    let state = pack(zeroed(t, g));
-    let mut x = enter(table, t, log, scratch, c, span.low, state, tries);
+    let state = pack(zeroed(table.counts, g));
+    let mut x = enter(table, log, scratch, c, span.low, state, tries);
     loop {
-        match take_turn(table, t, log, scratch, c, span, x) {
-            Turn::Again(y) => {
-                x = y;
-            }
-            Turn::Done(a) => {
-                return a;
-            }
+        match take_turn(table, log, scratch, c, span, x) {
+            ControlFlow::Continue(y) => x = y,
+            ControlFlow::Break(a) => return a,
         }
     }
 }

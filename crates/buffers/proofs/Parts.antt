@@ -3,19 +3,12 @@ use mathlib.Core.Path.{◌≡◌, refl, ap, ap₂, sym, ◌∙◌}
 use mathlib.Core.List.{List, [], ◌++◌, append-nil, append_assoc}
 use Prim.Native.Nat.{ℕ, ◌+◌, ◌-◌, ◌≤◌}
 use native.Mathlib.Omega.{arith}
-use lib.ListN.{length, take, drop, length-append, length-drop, drop_of_length-le, replicate}
-use lib.Seq.{sets, sets-eq, take_at, drop_at, drop-drop, take_all}
+use lib.ListN.{length, take, drop, length-append, length-drop, drop_of_length-le}
+use lib.Seq.{sets-eq, take_at, drop_at, drop-drop, take_all}
 use Rattle.model.specs.Records.{little_endian}
 use Rattle.numbers.specs.NumberBytes.{with_number}
 use Rattle.numbers.proofs.NumberBytes.{length_little}
 use native.Mathlib.Nat.{add-sub_cancel_left}
-use Rattle.model.specs.Calls.{zeros}
-
--- stores at 0, 1, .. to the end of a list are the list of what is stored
-pub all_set : (vs l : List ℕ) → length l ≡ length vs → sets l 0 vs ≡ vs
-all_set vs l e =
-    let h : 0 + length vs ≤ length l = omega arith in
-    sets-eq vs l 0 h ∙ ap (λ (d : List ℕ). vs ++ d) (drop_of_length-le l {i = 0 + length vs} (omega arith)) ∙ append-nil vs
 
 -- q has the a bytes pre, and then what l has from there on
 pub record Front (pre l : List ℕ) (a : ℕ) (q : List ℕ) : Type 0 where
@@ -65,8 +58,3 @@ part_front l a n = rw (add-sub_cancel_left a n)
 
 pub part_behind : (l : List ℕ) (a n : ℕ) → take (length l - (a + n)) (drop (a + n) l) ≡ drop n (drop a l)
 part_behind l a n = take_all (length l - (a + n)) (drop (a + n) l) (simp (length-drop) (omega arith)) ∙ sym (drop-drop n a l)
-
-pub zeros_behind : (l ys : List ℕ) (a : ℕ) → ys ≡ zeros (take (length l - a) (drop a l))
-    → take a l ++ (ys ++ drop (length l - a) (drop a l)) ≡ take a l ++ replicate (length l - a) 0
-zeros_behind l ys a e = part_back l ys a
-    ∙ ap (λ (zs : List ℕ). take a l ++ zs) (e ∙ ap (λ (n : ℕ). replicate {A = ℕ} n 0) (ap length (part_rest l a) ∙ length-drop a l))

@@ -1,8 +1,7 @@
 // The bytes of a table, put together and changed.
 ghost use Rattle.std.specs.Prelude.{◌≤◌, length};
 
-use crate::text::{get, least};
-use numbers::wide;
+use crate::text::get;
 
 const MOST: usize = 65535;
 
@@ -23,10 +22,8 @@ pub(crate) fn append(out: &mut [u8], end: usize, item: &[usize]) -> usize
     ensures { result ≤ length out.new }
 {
     let mut at = end;
-    let mut j = 0;
-    while j < item.len() {
+    for j in 0..item.len() {
         at = put(out, at, item[j]);
-        j += 1;
     }
     at
 }
@@ -34,12 +31,10 @@ pub(crate) fn append(out: &mut [u8], end: usize, item: &[usize]) -> usize
 // ---- more items
 // Whether a place of an item is named behind the first three numbers of `more`.
 fn is_named(numbers: &[usize], place: usize) -> bool {
-    let mut i = 3;
-    while i < numbers.len() {
+    for i in 3..numbers.len() {
         if numbers[i] == place {
             return true;
         }
-        i += 1;
     }
     false
 }
@@ -62,7 +57,7 @@ fn repeat_byte(out: &mut [u8], at: usize, back: usize, more: usize) -> usize
         return 0;
     }
     if at < out.len() {
-        let x = wide(out[at - back]);
+        let x = usize::from(out[at - back]);
         return put(out, at, x + more);
     }
     out.len()
@@ -81,17 +76,15 @@ fn repeat_bytes(
     ensures { result ≤ length out.new }
 {
     let mut at = end;
-    let mut i = 0;
-    while i < count {
+    for i in 0..count {
         at = repeat_byte(out, at, back, one_if(is_named(numbers, i % size)));
-        i += 1;
     }
     at
 }
 
 // Of numbers up to that.
 fn product(a: usize, b: usize) -> usize {
-    least(a, MOST) * least(b, MOST)
+    a.min(MOST) * b.min(MOST)
 }
 
 // So many times the last so many items of so many bytes, each time with one more at the named places of each item.
@@ -117,9 +110,7 @@ pub(crate) fn append_more(out: &mut [u8], end: usize, numbers: &[usize]) -> usiz
 // ---- changes
 // The list has a place and a value for each change.
 pub(crate) fn change_all(out: &mut [u8], list: &[usize]) {
-    let mut j = 0;
-    while j < list.len() / 2 {
+    for j in 0..list.len() / 2 {
         put(out, list[2 * j], list[2 * j + 1]);
-        j += 1;
     }
 }

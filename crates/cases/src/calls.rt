@@ -6,13 +6,13 @@ use crate::printing::{
     print_answered, print_buffer, print_bytes, print_end, print_log, print_named, print_number,
     print_page, print_parsed, print_places, print_ran, print_text,
 };
-use crate::text::{RUN, WALK, get, least};
+use crate::text::{RUN, WALK, get};
 use buffers::copy;
-use model::{Answered, Ran};
+use model::{Refusal, Run, Verdict};
 use reach::{answer, run};
 use reading::read;
 use std::io::Print;
-use table::Parsed;
+use table::Table;
 use walk::{FIGURES, walk};
 
 // The longest table that is changed, and the longest buffers that are lent: a log or a pile, the scratch and the page.
@@ -31,7 +31,7 @@ pub(crate) fn show_read(out: &impl Print, table: &[u8], numbers: &[usize]) {
         print_parsed(out, read(table));
         return;
     }
-    let n = least(table.len(), TABLE);
+    let n = table.len().min(TABLE);
     let mut changed = [0u8; TABLE];
     copy(&table[0..n], &mut changed);
     change_all(&mut changed, numbers);
@@ -39,14 +39,10 @@ pub(crate) fn show_read(out: &impl Print, table: &[u8], numbers: &[usize]) {
 }
 
 // The number and the place of a refusal in one, 0 for an accepted table.
-fn refusal_of(p: Parsed) -> usize {
-    match p {
-        Parsed::Accepted(_t) => {
-            return 0;
-        }
-        Parsed::Refused { number, place } => {
-            return 256 * least(place, 65535) + number as usize;
-        }
+fn refusal_of(parsed: Result<Table, Refusal>) -> usize {
+    match parsed {
+        Ok(_table) => 0,
+        Err(refusal) => 256 * refusal.place.min(65535) + usize::from(refusal.number),
     }
 }
 
@@ -67,10 +63,8 @@ fn show_cut(out: &impl Print, table: &[u8], n: usize, before: usize) -> usize
 pub(crate) fn show_cuts(out: &impl Print, table: &[u8]) {
     print_end(out);
     let mut before = 0;
-    let mut n = 0;
-    while n < table.len() {
+    for n in 0..table.len() {
         before = show_cut(out, table, n, before);
-        n += 1;
     }
 }
 
@@ -83,11 +77,16 @@ fn print_buffers(out: &impl Print, log: &[u8], scratch: &[u8]) {
 }
 
 // The calls alone: what they promise plays no part in what is written.
-fn ask(table: &[u8], log: &mut [u8], scratch: &mut [u8]) -> Answered {
+fn ask(table: &[u8], log: &mut [u8], scratch: &mut [u8]) -> Result<Verdict, Refusal> {
     answer(table, log, scratch)
 }
 
-fn ask_run(table: &[u8], log: &mut [u8], scratch: &mut [u8], page: &mut [u16]) -> Ran {
+fn ask_run(
+    table: &[u8],
+    log: &mut [u8],
+    scratch: &mut [u8],
+    page: &mut [u16],
+) -> Result<Run, Refusal> {
     run(table, log, scratch, page)
 }
 
@@ -113,10 +112,8 @@ fn rule_at(numbers: &[usize], i: usize) -> u16 {
 }
 
 fn print_figures(out: &impl Print, figures: &[u64; FIGURES]) {
-    let mut i = 0;
-    while i < FIGURES {
+    for i in 0..FIGURES {
         print_number(out, figures[i]);
-        i += 1;
     }
 }
 
@@ -152,7 +149,7 @@ fn walk_list(out: &impl Print, table: &[u8], list: &[u16], pile: &mut [u8], scra
 
 // The rules stand behind the first two numbers, at most four.
 fn walk_in(out: &impl Print, table: &[u8], numbers: &[usize], pile: &mut [u8], scratch: &mut [u8]) {
-    let n = least(numbers.len(), 6);
+    let n = numbers.len().min(6);
     if n < 2 {
         return;
     }
@@ -196,9 +193,9 @@ fn call_in_parts(
     scratch: &mut [u8],
     page: &mut [u16],
 ) {
-    let f = least(get(numbers, 0), first.len());
-    let s = least(get(numbers, 1), scratch.len());
-    let p = least(get(numbers, 2), page.len());
+    let f = get(numbers, 0).min(first.len());
+    let s = get(numbers, 1).min(scratch.len());
+    let p = get(numbers, 2).min(page.len());
     call_in(
         out,
         kind,

@@ -15,7 +15,7 @@ use crate::printing::{print_call, print_end, print_named};
 use crate::sitting::open_desk;
 use crate::text::{
     ANSWER, CUTS, DESK, ITEM, KEEP, MORE, PUT, READ, RUN, TABLE, WALK, base_of, content, get,
-    kind_of, least, next_line, read_numbers,
+    kind_of, next_line, read_numbers,
 };
 use input::fill;
 use std::io;
@@ -72,7 +72,7 @@ fn perform(
         return append_more(table, end, numbers);
     }
     if kind == KEEP {
-        return least(get(numbers, 0), end);
+        return get(numbers, 0).min(end);
     }
     if kind == PUT {
         change_all(table, numbers);

@@ -2,11 +2,10 @@
 ghost use Rattle.std.specs.Prelude.{◌≡◌, ◌≤◌, length};
 
 use crate::building::one_if;
-use crate::text::least;
-use model::{Answered, Ran};
-use numbers::{as_u64, three_at, two_at};
+use model::{Refusal, Run, Verdict};
+use numbers::{three_at, two_at};
 use std::io::Print;
-use table::Parsed;
+use table::Table;
 
 // The bytes of a record, the most records that are written, and how many of a buffer's first places are.
 const RECORD: usize = 28;
@@ -41,10 +40,8 @@ pub(crate) fn print_number(out: &impl Print, n: u64) {
 }
 
 fn print_numbers(out: &impl Print, numbers: &[u64]) {
-    let mut i = 0;
-    while i < numbers.len() {
+    for i in 0..numbers.len() {
         print_number(out, numbers[i]);
-        i += 1;
     }
 }
 
@@ -63,18 +60,14 @@ fn print_place(out: &impl Print, x: u16) {
 }
 
 pub(crate) fn print_bytes(out: &impl Print, bytes: &[u8]) {
-    let mut i = 0;
-    while i < bytes.len() {
+    for i in 0..bytes.len() {
         print_byte(out, bytes[i]);
-        i += 1;
     }
 }
 
 pub(crate) fn print_places(out: &impl Print, places: &[u16]) {
-    let mut i = 0;
-    while i < places.len() {
+    for i in 0..places.len() {
         print_place(out, places[i]);
-        i += 1;
     }
 }
 
@@ -100,48 +93,47 @@ fn print_peak(out: &impl Print, peak: u32) {
     print_named(out, b" peak", &[peak as u64]);
 }
 
-pub(crate) fn print_answered(out: &impl Print, answered: Answered) {
+pub(crate) fn print_answered(out: &impl Print, answered: Result<Verdict, Refusal>) {
     match answered {
-        Answered::Reachable {
-            transitions,
-            rounds,
-            steps,
-        } => {
+        Ok(
+            Verdict::Reachable {
+                transitions,
+                rounds,
+                steps,
+            },
+        ) => {
             print_reachable(out, transitions, rounds, steps);
         }
-        Answered::Unreachable {
-            transitions,
-            rounds,
-        } => {
+        Ok(
+            Verdict::Unreachable {
+                transitions,
+                rounds,
+            },
+        ) => {
             print_unreachable(out, transitions, rounds);
         }
-        Answered::Refused { number, place } => {
-            print_refused(out, number, place);
+        Err(refusal) => {
+            print_refused(out, refusal.number, refusal.place);
         }
     }
 }
 
-pub(crate) fn print_ran(out: &impl Print, ran: Ran) {
+pub(crate) fn print_ran(out: &impl Print, ran: Result<Run, Refusal>) {
     match ran {
-        Ran::Reached {
-            transitions,
-            rounds,
-            steps,
-            peak,
-        } => {
-            print_reachable(out, transitions, rounds, steps);
-            print_peak(out, peak);
+        Ok(run) => {
+            print_reachable(out, run.transitions, run.rounds, run.steps);
+            print_peak(out, run.peak);
         }
-        Ran::Refused { number, place } => {
-            print_refused(out, number, place);
+        Err(refusal) => {
+            print_refused(out, refusal.number, refusal.place);
         }
     }
 }
 
 // The counts of an accepted table: processes, letters, rules, transitions, accepting, pile.
-pub(crate) fn print_parsed(out: &impl Print, p: Parsed) {
-    match p {
-        Parsed::Accepted(t) => {
+pub(crate) fn print_parsed(out: &impl Print, parsed: Result<Table, Refusal>) {
+    match parsed {
+        Ok(t) => {
             print_named(
                 out,
                 b" accepted",
@@ -155,8 +147,8 @@ pub(crate) fn print_parsed(out: &impl Print, p: Parsed) {
                 ],
             );
         }
-        Parsed::Refused { number, place } => {
-            print_refused(out, number, place);
+        Err(refusal) => {
+            print_refused(out, refusal.number, refusal.place);
         }
     }
     print_end(out);
@@ -165,20 +157,16 @@ pub(crate) fn print_parsed(out: &impl Print, p: Parsed) {
 // ---- what is left in a buffer: its first places, and how many are 0 and how many 7
 fn count_bytes(bytes: &[u8], x: u8) -> usize {
     let mut n = 0;
-    let mut i = 0;
-    while i < bytes.len() {
+    for i in 0..bytes.len() {
         n += one_if(bytes[i] == x);
-        i += 1;
     }
     n
 }
 
 fn count_places(page: &[u16], x: u16) -> usize {
     let mut n = 0;
-    let mut i = 0;
-    while i < page.len() {
+    for i in 0..page.len() {
         n += one_if(page[i] == x);
-        i += 1;
     }
     n
 }
@@ -189,13 +177,13 @@ fn print_counts(out: &impl Print, zeros: usize, sevens: usize) {
 }
 
 pub(crate) fn print_buffer(out: &impl Print, bytes: &[u8]) {
-    let n = least(FIRST, bytes.len());
+    let n = FIRST.min(bytes.len());
     print_bytes(out, &bytes[0..n]);
     print_counts(out, count_bytes(bytes, 0), count_bytes(bytes, 7));
 }
 
 pub(crate) fn print_page(out: &impl Print, page: &[u16]) {
-    let n = least(FIRST, page.len());
+    let n = FIRST.min(page.len());
     print_places(out, &page[0..n]);
     print_counts(out, count_places(page, 0), count_places(page, 7));
 }
@@ -203,10 +191,8 @@ pub(crate) fn print_page(out: &impl Print, page: &[u16]) {
 // ---- records
 // Numbers of two bytes.
 fn print_twos(out: &impl Print, bytes: &[u8]) {
-    let mut i = 0;
-    while i < bytes.len() / 2 {
+    for i in 0..bytes.len() / 2 {
         print_place(out, two_at(bytes, 2 * i));
-        i += 1;
     }
 }
 
@@ -217,20 +203,18 @@ fn print_record(out: &impl Print, bytes: &[u8])
     print_text(out, b"record");
     print_bytes(out, &bytes[0..9]);
     print_twos(out, &bytes[9..25]);
-    print_number(out, as_u64(three_at(bytes, 25)));
+    print_number(out, u64::from(three_at(bytes, 25)));
     print_end(out);
 }
 
 fn print_records(out: &impl Print, log: &[u8]) {
-    let mut i = 0;
-    while i < log.len() / RECORD {
+    for i in 0..log.len() / RECORD {
         print_record(out, &log[RECORD * i..RECORD * i + RECORD]);
-        i += 1;
     }
 }
 
 // The first so many records of a log, a line for each.
 pub(crate) fn print_log(out: &impl Print, log: &[u8], count: usize) {
-    let end = least(RECORD * least(count, MOST), log.len());
+    let end = (RECORD * count.min(MOST)).min(log.len());
     print_records(out, &log[0..end]);
 }

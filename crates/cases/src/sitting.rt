@@ -3,25 +3,25 @@ ghost use Rattle.std.specs.Prelude.{◌≤◌, length};
 ghost use Rattle.desk.specs.Promises.{Good};
 
 use crate::printing::{print_bytes, print_call, print_end, print_named, print_refused, print_text};
-use crate::text::{
-    COUNT, FIRE, LOOK, RETURN, SAVE, content, kind_of, least, next_line, read_numbers,
-};
-use desk::{Counts, Desk, Next, Sight, counted, fired, forgotten, looked, open, returned, saved};
-use desk_model::Told;
+use crate::text::{COUNT, FIRE, LOOK, RETURN, SAVE, content, kind_of, next_line, read_numbers};
+use desk::{Counts, Desk, Sight};
+use model::Refusal;
 use std::io::Print;
 
 // ---- what the calls tell
-fn print_told(out: &impl Print, told: Told) {
-    match told {
-        Told::Done => {
-            print_text(out, b" done");
-        }
-        Told::Fired { processes } => {
-            print_named(out, b" fired", &[processes as u64]);
-        }
-        Told::Refused { number, place } => {
-            print_refused(out, number, place);
-        }
+// That a call is done, or why it is refused.
+fn print_done<T: Copy>(out: &impl Print, done: Result<T, Refusal>) {
+    match done {
+        Ok(_) => print_text(out, b" done"),
+        Err(refusal) => print_refused(out, refusal.number, refusal.place),
+    }
+    print_end(out);
+}
+
+fn print_fired(out: &impl Print, fired: Result<u8, Refusal>) {
+    match fired {
+        Ok(processes) => print_named(out, b" fired", &[u64::from(processes)]),
+        Err(refusal) => print_refused(out, refusal.number, refusal.place),
     }
     print_end(out);
 }
@@ -29,7 +29,7 @@ fn print_told(out: &impl Print, told: Told) {
 fn print_pile(out: &impl Print, pile: &[u8], length: usize) {
     print_named(out, b" pile", &[length as u64]);
     print_text(out, b":");
-    let n = least(length, pile.len());
+    let n = length.min(pile.len());
     print_bytes(out, &pile[0..n]);
     print_end(out);
 }
@@ -55,41 +55,20 @@ fn print_counted(out: &impl Print, c: Counts) {
 }
 
 // ---- calls
-// A call that may change the desk.
-fn act(d: Desk, kind: u16, n: usize) -> Next
-    requires { Good d }
-    ensures { Good result.desk }
+// One call, and what it gives.
+fn take_call(out: &impl Print, d: &mut Desk, kind: u16, n: usize)
+    requires { Good d.old }
+    ensures { Good d.new }
 {
-    if kind == FIRE {
-        return fired(d, (n % 65536) as u16);
-    }
     let name = (n % 256) as u8;
-    if kind == SAVE {
-        return saved(d, name);
+    match kind {
+        LOOK => print_sight(out, d.look()),
+        COUNT => print_counted(out, d.counts()),
+        FIRE => print_fired(out, d.fire((n % 65536) as u16)),
+        SAVE => print_done(out, d.save(name)),
+        RETURN => print_done(out, d.return_to(name)),
+        _ => print_done(out, d.forget(name)),
     }
-    if kind == RETURN {
-        return returned(d, name);
-    }
-    forgotten(d, name)
-}
-
-// The desk behind a call.
-fn take_call(out: &impl Print, d: Desk, kind: u16, n: usize) -> Desk
-    requires { Good d }
-    ensures { Good result }
-{
-    if kind == LOOK {
-        print_sight(out, looked(d));
-        return d;
-    }
-    if kind == COUNT {
-        print_counted(out, counted(d));
-        return d;
-    }
-    let next = act(d, kind, n);
-    let told = next.told;
-    print_told(out, told);
-    next.desk
 }
 
 // The first number of a line.
@@ -114,28 +93,20 @@ fn work(out: &impl Print, opened: Desk, text: &[u8], from: usize) -> usize
             break;
         }
         print_call(out, line);
-        d = take_call(out, d, kind_of(line), number_of(line));
+        take_call(out, &mut d, kind_of(line), number_of(line));
     }
     at
 }
 
-// A desk is worked at only where the opening told that there is one.
+// A desk is worked at only where there is one.
 pub(crate) fn open_desk(out: &impl Print, table: &[u8], text: &[u8], from: usize) -> usize
     requires { from ≤ length text.now }
     ensures { (from ≤ result) × (result ≤ length text.now) }
 {
-    let next = open(table);
-    let told = next.told;
-    print_told(out, told);
-    match told {
-        Told::Done => {
-            return work(out, next.desk, text, from);
-        }
-        Told::Fired { processes } => {
-            return from;
-        }
-        Told::Refused { number, place } => {
-            return from;
-        }
+    let opened = Desk::open(table);
+    print_done(out, opened);
+    match opened {
+        Ok(desk) => work(out, desk, text, from),
+        Err(_) => from,
     }
 }

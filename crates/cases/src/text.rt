@@ -1,7 +1,7 @@
 // Lines of text, their first words and their numbers.
 ghost use Rattle.std.specs.Prelude.{◌<◌, ◌≤◌, length};
 
-use numbers::{two_at, wide};
+use numbers::two_at;
 
 const LINE_FEED: u8 = 10;
 
@@ -10,29 +10,15 @@ const HASH: u8 = 35;
 // A number that has reached it takes no further digit.
 const LARGE: usize = 100000000;
 
-pub(crate) fn least(a: usize, b: usize) -> usize
-    ensures { (result ≤ a) × (result ≤ b) }
-{
-    if a < b {
-        return a;
-    }
-    b
-}
-
 // ---- lines
 // A line without its line feed and what stands behind a #.
 pub(crate) fn content(line: &[u8]) -> &[u8] {
-    let mut i = 0;
-    while i < line.len() {
-        if line[i] == LINE_FEED {
-            break;
+    for i in 0..line.len() {
+        if line[i] == LINE_FEED || line[i] == HASH {
+            return &line[..i];
         }
-        if line[i] == HASH {
-            break;
-        }
-        i += 1;
     }
-    &line[0..i]
+    line
 }
 
 // Where the line behind the one at a place begins.
@@ -40,14 +26,12 @@ pub(crate) fn next_line(text: &[u8], at: usize) -> usize
     requires { at < length text.now }
     ensures { (at < result) × (result ≤ length text.now) }
 {
-    let mut i = at;
-    while i < text.len() {
+    for i in at..text.len() {
         if text[i] == LINE_FEED {
             return i + 1;
         }
-        i += 1;
     }
-    i
+    text.len()
 }
 
 // ---- words
@@ -114,7 +98,7 @@ struct Digits {
 fn digit_of(x: u8) -> usize
     ensures { result ≤ 16 }
 {
-    let n = wide(x);
+    let n = usize::from(x);
     if n < 48 {
         return 16;
     }
@@ -188,10 +172,8 @@ pub(crate) fn read_numbers(line: &[u8], base: usize, numbers: &mut [usize]) -> u
         open: false,
         count: 0,
     };
-    let mut i = 0;
-    while i < line.len() {
+    for i in 0..line.len() {
         d = take_byte(numbers, d, line[i], base);
-        i += 1;
     }
     let last = store(numbers, d);
     last.count

@@ -2,6 +2,8 @@
 // group's states.
 #![tactic(auto)]
 
+mod automaton;
+
 ghost use Rattle.std.specs.Prelude.{◌≡◌, true, cond, ◌+◌, ◌<◌, ◌≤◌, ltb, length};
 ghost use Rattle.model.specs.Copies.{copies, leaves_control, reenters, subsets};
 ghost use Rattle.model.specs.Groups.{Process, at, has, processes_of, restrict};
@@ -9,14 +11,13 @@ ghost use Rattle.table.specs.Reading.{Holds, process_at, system_in, transition_i
 ghost use Rattle.copies.specs.CopyingOf.{CopyingOf};
 ghost use Rattle.copies.specs.Mixing.{MixedOf, mixture_of};
 
+pub use automaton::Automaton;
 use model::Group;
-use numbers::wide;
 use states::groups::merged;
-use table::{
-    Table, leaves_control, letter_bits, local_states, transition_after, transition_letter,
-};
+use table::{Accepted, leaves_control};
 
-// Whether the automaton is copied, and the number of states of each process, 0 where the table lacks it.
+// Whether the automaton is copied, and the number of states of each process, 0 where the table lacks it. No Option: the states are read where nothing is
+// copied, too.
 #[derive(Clone, Copy)]
 pub struct Copying {
     pub made: bool,
@@ -24,54 +25,46 @@ pub struct Copying {
 }
 
 // Transition k enters no control state.
-fn leaves(table: &[u8], t: Table, k: usize) -> bool
-    requires { Holds table.now t × (k < t.transitions) }
-    ensures { result ≡ leaves_control (system_in table.now).loc (system_in table.now).controls (transition_in table.now k) }
+fn leaves(table: &Accepted, k: usize) -> bool
+    requires { k < table.now.counts.transitions }
+    ensures { result ≡ leaves_control (system_in table.now.bytes.now).loc (system_in table.now.bytes.now).controls (transition_in table.now.bytes.now k) }
 {
-    let a = transition_letter(table, t, k);
-    let bits = letter_bits(table, t, wide(a));
-    leaves_control(table, t, bits, transition_after(table, t, k))
+    let a = table.transition_letter(k);
+    let bits = table.letter_bits(usize::from(a));
+    leaves_control(table.bytes, table.counts, bits, table.transition_after(k))
 }
 
 // Some transition enters a control state.
-fn is_reentered(table: &[u8], t: Table) -> bool
-    requires { Holds table.now t }
-    ensures { result ≡ reenters (system_in table.now) }
+fn is_reentered(table: &Accepted) -> bool
+    ensures { result ≡ reenters (system_in table.now.bytes.now) }
 {
-    let mut k = 0;
-    while k < t.transitions {
-        if leaves(table, t, k) {} else {
-            return true;
-        }
-        k += 1;
-    }
-    false
+    (0..table.counts.transitions).any(|k| !leaves(table, k))
 }
 
 // How many states process i has, 0 where the table lacks it.
-fn states_of(table: &[u8], t: Table, i: usize) -> u8
-    requires { Holds table.now t × (i < 4) }
-    ensures { result ≡ cond (ltb i t.processes) ((system_in table.now).states (process_at i)) 0 }
+fn states_of(table: &Accepted, i: usize) -> u8
+    requires { i < 4 }
+    ensures { result ≡ cond (ltb i table.now.counts.processes) ((system_in table.now.bytes.now).states (process_at i)) 0 }
 {
-    if t.processes <= i {
-        return 0;
+    if i < table.counts.processes {
+        table.local_states(i) as u8
+    } else {
+        0
     }
-    local_states(table, t, i) as u8
 }
 
 // The copy of a table's automaton.
-pub fn copying_of(table: &[u8], t: Table) -> Copying
-    requires { Holds table.now t }
-    ensures { CopyingOf table.now t result }
+pub fn copying_of(table: &Accepted) -> Copying
+    ensures { CopyingOf table.now.bytes.now table.now.counts result }
 {
     let states = Group {
-        s0: states_of(table, t, 0),
-        s1: states_of(table, t, 1),
-        s2: states_of(table, t, 2),
-        s3: states_of(table, t, 3),
+        s0: states_of(table, 0),
+        s1: states_of(table, 1),
+        s2: states_of(table, 2),
+        s3: states_of(table, 3),
     };
     Copying {
-        made: is_reentered(table, t),
+        made: is_reentered(table),
         states,
     }
 }
@@ -89,7 +82,7 @@ fn subset_count(bits: u8) -> u8
     ensures { (result ≡ length (subsets (processes_of bits))) × (result ≤ 16) }
 {
     let counts: [u8; 16] = [1, 2, 2, 4, 2, 4, 4, 8, 2, 4, 4, 8, 4, 8, 8, 16];
-    counts[wide(bits)]
+    counts[usize::from(bits)]
 }
 
 // The number of mixtures of a group over the processes in bits.
@@ -98,9 +91,10 @@ pub fn mixture_count(c: Copying, bits: u8) -> usize
     ensures { (result ≡ cond c.made (length (subsets (processes_of bits))) 1) × (result ≤ 16) }
 {
     if c.made {
-        return wide(subset_count(bits));
+        usize::from(subset_count(bits))
+    } else {
+        1
     }
-    1
 }
 
 // The copy of the state x where the process is present, else 255.
@@ -124,7 +118,7 @@ fn copied(states: Group, bits: u8, g: Group) -> Group
     }
 }
 
-// A group, and the copies of its states at the processes in bits.
+// A group, and the copies of its states at the processes in bits; where nothing is copied, the group again, so that a mixture needs no test.
 #[derive(Clone, Copy)]
 pub struct Mixed {
     pub bits: u8,
@@ -137,17 +131,11 @@ pub fn mixed_of(c: Copying, bits: u8, g: Group) -> Mixed
     requires { c.made ≡ true → (i : Process) → has (processes_of bits) i ≡ true → at c.states i + at g i < 256 }
     ensures { MixedOf c bits g result }
 {
-    if c.made {
-        return Mixed {
-            bits,
-            plain: g,
-            copied: copied(c.states, bits, g),
-        };
-    }
+    let copied = if c.made { copied(c.states, bits, g) } else { g };
     Mixed {
         bits,
         plain: g,
-        copied: g,
+        copied,
     }
 }
 

@@ -1,36 +1,34 @@
--- What the calls of a desk come to: refused, fired, saved, returned, forgotten; and what a look shows.
+-- What the calls of a desk come to: refused, fired, saved, returned, forgotten.
 use mathlib.Core.Path.{◌≡◌, refl, ap, ap₂, sym, subst, ◌∙◌}
-use mathlib.Core.Bool.{Bool, true, false, false≢true, not}
+use mathlib.Core.Bool.{Bool, true, false, false≢true}
 use mathlib.Core.Option.{Option, none, some}
-use mathlib.Core.List.{List, [], ◌∷◌, ◌++◌, map}
-use Prim.Native.Nat.{ℕ, zero, suc, ◌-◌, ◌<◌}
+use mathlib.Core.List.{List, [], ◌∷◌, map}
+use Prim.Native.Nat.{ℕ, zero, suc, ◌<◌}
 use native.Mathlib.Omega.{arith}
-use lib.ListN.{length, get_or, set, drop, replicate, length-set, length-drop, length-replicate, get_or-map}
-use lib.Dec.{leb}
-use borrow.Author.Tests.{leb-false, lt-leb}
-use Rattle.desk_model.specs.declared.Told.{Told}
-use Rattle.model.specs.Calls.{filled, halt_at, halt_end, walk_from}
-use Rattle.desk_model.specs.Desks.{Call, fires, saves, returns, forgets, Contents, DeskOutcome, after, checks, count_ceiling, counts_after, desk_call, desk_pile, findings, fired_to, first_stop, moved_to, name_count, named, outcome, stop_of, tells, told_refusal, uncounted}
+use lib.ListN.{length, get_or, set, length-set, get_or-map}
+use lib.Dec.{eqb}
+use borrow.Author.Tests.{eqb-false}
+use Rattle.std.specs.Prelude.{Ok, Err}
+use Rattle.model.specs.Calls.{halt_at, halt_end, refuse, walk_from}
+use Rattle.desk_model.specs.Desks.{Call, fires, saves, returns, forgets, Contents, DeskOutcome, Told, after, checks, count_ceiling, counts_after, desk_call, desk_pile, findings, fired_to, first_stop, moved_to, name_count, named, outcome, stop_of, stop_or_pass, tells, told_refusal, uncounted}
 use Rattle.desk_model.specs.Desks as Desks
 use Rattle.model.specs.Lists.{Each, is_missing, value_or}
 use Rattle.model.specs.Groups.{Processes, processes_of}
 use Rattle.model.specs.Participation.{rule_processes, with_step}
 use Rattle.model.specs.Systems.{Configuration, System}
+use Rattle.model.specs.declared.Refusal.{Refusal}
 use Rattle.model.proofs.Groups.{bits_back}
-use Rattle.desk_model.proofs.DeskChecks.{fire_number, fire_passes, fire_stops, not_beyond, not_empty}
+use Rattle.desk_model.proofs.DeskChecks.{fire_passes, fire_stops, not_beyond, not_empty}
 use Rattle.model.proofs.Lists.{each_place}
 use Rattle.model.proofs.Tests.{by_test}
 use Rattle.firing.specs.declared.Fired.{Fired}
 use Rattle.model.specs.declared.Placed.{Placed}
 use Rattle.firing.specs.Piles.{configuration}
-use Rattle.steps.specs.declared.Taken.{Taken}
-use Rattle.steps.specs.declared.Taken.TheVariants.{Refused, Onward}
-use Rattle.steps.specs.Stepping.{StepTaken, StepTo, counts_by}
+use Rattle.steps.specs.Stepping.{StepRefused, StepTaken}
 use Rattle.desk.specs.declared.Desk.{Desk}
 use Rattle.desk.specs.declared.Named.{Named}
-use Rattle.desk.specs.declared.Next.{Next}
-use Rattle.desk.specs.Checking.{name_findings, name_place, step_findings, step_refusal}
-use Rattle.desk.specs.Promises.{Good, GoodName, Moves, nowhere, outcome_of, saved_in, shown, sight_of, system_on, table_of}
+use Rattle.desk.specs.Checking.{name_findings}
+use Rattle.desk.specs.Promises.{Good, GoodName, Moves, nowhere, outcome_of, saved_in, shown, system_on, table_of}
 
 -- ---- lists
 map_set : {A B : Type 0} (f : A → B) (l : List A) (i : ℕ) (v : A) → map f (set l i v) ≡ set (map f l) i (f v)
@@ -54,9 +52,20 @@ renamed d names = record { size = d.size; table = d.table; placed = d.placed; co
 abbrev pub past : Named
 past = record { held = false; placed = nowhere; pile = [] }
 
-outcome_refused : (number : ℕ) (s : Contents) (o : DeskOutcome) → (number ≡ 0 → ⊥) → outcome number s o ≡ record { told = Told.Refused number 0; contents = s }
-outcome_refused zero s o z = absurd (z refl)
-outcome_refused (suc n) s o z = refl
+-- ---- a stop, as code gives it
+numbered : (n : ℕ) → eqb n 0 ≡ false → stop_or_pass n ≡ refuse n 0
+numbered zero e = absurd (eqb-false 0 0 e refl)
+numbered (suc n) e = refl
+
+passes : (n : ℕ) (x : Unit) → stop_or_pass n ≡ Ok x → n ≡ 0
+passes zero x e = refl
+passes (suc n) x e = let z : ◌≡◌ {A = ℕ} 0 1 = cc in absurd (omega arith)
+
+outcome_stopped : (n : ℕ) (r : Refusal) (s : Contents) (o : DeskOutcome) → stop_or_pass n ≡ Err r → outcome n s o ≡ record { told = Told.Refused r.number r.place; contents = s }
+outcome_stopped zero r s o e = let z : ◌≡◌ {A = ℕ} 0 1 = cc in absurd (omega arith)
+outcome_stopped (suc n) r s o e =
+    let same : record { number = suc n; place = 0 } ≡ r = cc e in
+    ap (λ (x : Refusal). record { told = Told.Refused x.number x.place; contents = s }) same
 
 four_counts : (L : Processes) (counts : List ℕ) → length (with_step count_ceiling L counts) ≡ 4
 unfolding with_step
@@ -75,14 +84,13 @@ module _ (d : Desk) (g : Good d) where
   abbrev passed : Call → DeskOutcome
   passed c = record { told = tells (system_on d) c; contents = after (system_on d) (shown d) c }
 
-  pub moves_refused : (c : Call) (number : ℕ) → number ≡ stop_of (system_on d) (shown d) c → (number ≡ 0 → ⊥) → (r : Next) → (r.told ≡ Told.Refused number 0) × (r.desk ≡ d) → Moves c d r.told r.desk
+  pub moves_stopped : (c : Call) (r : Refusal) → stop_or_pass (stop_of (system_on d) (shown d) c) ≡ Err r → Moves c d (Told.Refused r.number r.place) d
   unfolding desk_call
-  moves_refused c number e z r (t, q) =
-      let o : outcome_of c d ≡ record { told = Told.Refused number 0; contents = shown d } =
-      ap (λ (k : ℕ). outcome k (shown d) (passed c)) (sym e) ∙ outcome_refused number (shown d) (passed c) z in
+  moves_stopped c r e =
+      let o : outcome_of c d ≡ record { told = Told.Refused r.number r.place; contents = shown d } = outcome_stopped (stop_of (system_on d) (shown d) c) r (shown d) (passed c) e in
       record {
-        answer = t ∙ sym (ap (λ (x : DeskOutcome). x.told) o);
-        leaves = record { contents = ap shown q ∙ sym (ap (λ (x : DeskOutcome). x.contents) o); table = ap table_of q; copy = ap (λ (x : Desk). x.bytes) q; unchanged = λ x. q; good = subst Good (sym q) g };
+        answer = sym (ap (λ (x : DeskOutcome). x.told) o);
+        leaves = record { contents = sym (ap (λ (x : DeskOutcome). x.contents) o); table = refl; copy = refl; unchanged = λ x. refl; good = g };
       }
 
   moves_done : (c : Call) (d' : Desk) → stop_of (system_on d) (shown d) c ≡ 0 → shown d' ≡ after (system_on d) (shown d) c → table_of d' ≡ table_of d → d'.bytes ≡ d.bytes → Good d' → Moves c d (tells (system_on d) c) d'
@@ -101,31 +109,17 @@ module _ (d : Desk) (g : Good d) where
       }
 
   -- ---- firing
-  module _ (n : ℕ) (pile' : List ℕ) where
-    -- a step is refused by the number of the check that stops the fire, 0 where it is taken
-    pub step_stop : (taken : Taken) → StepTo (table_of d) d.table n d.placed d.pile pile' taken → step_refusal taken ≡ stop_of (system_on d) (shown d) (fires n)
-    step_stop (Refused number) s =
-        sym (fire_stops (system_on d) (shown d) n number
-        (subst (λ (k : ℕ). walk_from (system_on d) k 0 (n ∷ []) (shown d).here ≡ halt_at number 0 (n ∷ []) (shown d).here) g.size (s.halt 0 [])))
-    step_stop (Onward f) t = sym (passes f t).0
-      where
-        passes : (f : Fired) → StepTaken (table_of d) d.table n d.placed f d.pile pile' → (stop_of (system_on d) (shown d) (fires n) ≡ 0) × (fired_to (system_on d) (shown d) n ≡ some (configuration pile' f.placed))
-        passes f t = fire_passes (system_on d) (shown d) n (configuration pile' f.placed) (subst (λ (k : ℕ). walk_from (system_on d) k 0 (n ∷ []) (shown d).here ≡ halt_end (system_on d) (configuration pile' f.placed)) g.size (t.onward 0 []))
+  module _ (n : ℕ) (pile' counts : List ℕ) where
+    pub moves_unfired : (number : ℕ) → StepRefused (system_on d) n d.placed d.pile pile' number → counts ≡ d.counts → Moves (fires n) d (Told.Refused number 0) (moved d d.placed counts pile')
+    moves_unfired number s q =
+        let stop : stop_of (system_on d) (shown d) (fires n) ≡ number = fire_stops (system_on d) (shown d) n number
+        (subst (λ (k : ℕ). walk_from (system_on d) k 0 (n ∷ []) (shown d).here ≡ halt_at number 0 (n ∷ []) (shown d).here) g.size (s.halt 0 [])) in
+        subst (Moves (fires n) d (Told.Refused number 0)) (sym (ap₂ (moved d d.placed) q s.leaves))
+        (moves_stopped (fires n) (record { number = number; place = 0 }) (ap stop_or_pass stop ∙ numbered number s.numbered))
 
-    -- so its findings stop the fire as the definition does
-    pub rule_stop : (taken : Taken) → StepTo (table_of d) d.table n d.placed d.pile pile' taken → first_stop (checks (step_findings (step_refusal taken))) ≡ stop_of (system_on d) (shown d) (fires n)
-    rule_stop taken s =
-        ap (λ (k : ℕ). first_stop (checks (step_findings k))) (step_stop taken s)
-        ∙ fire_number (system_on d) (shown d) n (λ (k : ℕ). first_stop (checks (step_findings k)) ≡ k) refl refl refl refl
-
-    -- a step that is refused leaves the desk
-    pub stays : (taken : Taken) (counts : List ℕ) → StepTo (table_of d) d.table n d.placed d.pile pile' taken → counts ≡ counts_by taken count_ceiling d.counts → (step_refusal taken ≡ 0 → ⊥) → moved d d.placed counts pile' ≡ d
-    stays (Refused number) counts s e z = ap₂ (moved d d.placed) e s.leaves
-    stays (Onward f) counts s e z = absurd (z refl)
-
-    pub moves_fired : (f : Fired) (counts : List ℕ) → StepTaken (table_of d) d.table n d.placed f d.pile pile' → counts ≡ with_step count_ceiling (processes_of f.processes) d.counts
+    pub moves_fired : (f : Fired) → StepTaken (table_of d) d.table n d.placed f d.pile pile' → counts ≡ with_step count_ceiling (processes_of f.processes) d.counts
         → Moves (fires n) d (Told.Fired f.processes) (moved d f.placed counts pile')
-    moves_fired f counts t q =
+    moves_fired f t q =
         let parts : processes_of f.processes ≡ rule_processes (system_on d) n = ap processes_of t.tells ∙ bits_back (rule_processes (system_on d) n) in
         let counts-are : counts ≡ counts_after (system_on d) (shown d) n = q ∙ ap (λ (L : Processes). with_step count_ceiling L d.counts) parts in
         let x = fire_passes (system_on d) (shown d) n (configuration pile' f.placed) (subst (λ (k : ℕ). walk_from (system_on d) k 0 (n ∷ []) (shown d).here ≡ halt_end (system_on d) (configuration pile' f.placed)) g.size (t.onward 0 [])) in
@@ -135,9 +129,23 @@ module _ (d : Desk) (g : Good d) where
         (record { inside = g.inside; holds = g.holds; shape = t.shape; size = t.size ∙ g.size; count = g.count; counts = ap length q ∙ four_counts (processes_of f.processes) d.counts; names = g.names }))
 
   -- ---- names
-  pub save_stop : (a number : ℕ) → number ≡ first_stop (checks (name_findings a false)) → number ≡ stop_of (system_on d) (shown d) (saves a)
-  unfolding findings
-  save_stop a number e = e
+  module _ (a : ℕ) where
+    pub save_stop : stop_or_pass (first_stop (checks (name_findings a false))) ≡ stop_or_pass (stop_of (system_on d) (shown d) (saves a))
+    unfolding findings
+    save_stop = refl
+
+    -- a return and a forget ask for a name that is held
+    module _ (free : Bool) (is : free ≡ is_missing (named (shown d) a)) where
+      held_stop : stop_or_pass (first_stop (checks (name_findings a free))) ≡ stop_or_pass (first_stop (checks (name_findings a (is_missing (named (shown d) a)))))
+      held_stop = ap (λ (b : Bool). stop_or_pass (first_stop (checks (name_findings a b)))) is
+
+      pub return_stop : stop_or_pass (first_stop (checks (name_findings a free))) ≡ stop_or_pass (stop_of (system_on d) (shown d) (returns a))
+      unfolding findings
+      return_stop = held_stop
+
+      pub forget_stop : stop_or_pass (first_stop (checks (name_findings a free))) ≡ stop_or_pass (stop_of (system_on d) (shown d) (forgets a))
+      unfolding findings
+      forget_stop = held_stop
 
   module _ (a : ℕ) (h : a < name_count) where
     good_renamed : (v : Named) → GoodName d.table v → Good (renamed d (set d.names a v))
@@ -164,17 +172,13 @@ module _ (d : Desk) (g : Good d) where
     held_is : (get_or d.names a past).held ≡ true → named (shown d) a ≡ some (configuration (get_or d.names a past).pile (get_or d.names a past).placed)
     held_is held = named_is (some (configuration s.pile s.placed)) (rw held refl)
 
-    -- whether the name is held, as code reads it
-    empty_is : not (get_or d.names a past).held ≡ is_missing (named (shown d) a)
-    empty_is = by_test s.held (λ y. rw y (sym (ap is_missing (held_is y)))) (λ y. rw y (sym (ap is_missing (named_is none (rw y refl)))))
-
     held_of : first_stop (checks (name_findings a (is_missing (named (shown d) a)))) ≡ 0 → (get_or d.names a past).held ≡ true
-    held_of z = by_test s.held (λ y. y) (λ y. absurd (not_empty a (is_missing (named (shown d) a)) z (sym empty_is ∙ rw y refl)))
+    held_of z = by_test s.held (λ y. y) (λ y. absurd (not_empty a (is_missing (named (shown d) a)) z (ap is_missing (named_is none (rw y refl)))))
 
     good_name : GoodName d.table (get_or d.names a past)
     good_name = each_place (GoodName d.table) d.names past a g.names (omega (arith, g.count))
 
-    pub moves_saved : stop_of (system_on d) (shown d) (saves a) ≡ 0 → Moves (saves a) d Told.Done (renamed d (set d.names a (record { held = true; placed = d.placed; pile = d.pile })))
+    moves_saved : stop_of (system_on d) (shown d) (saves a) ≡ 0 → Moves (saves a) d Told.Done (renamed d (set d.names a (record { held = true; placed = d.placed; pile = d.pile })))
     moves_saved z =
         let v : Named = record { held = true; placed = d.placed; pile = d.pile } in
         moves_done (saves a) (renamed d (set d.names a v)) z (names_are v) refl refl
@@ -194,39 +198,17 @@ module _ (d : Desk) (g : Good d) where
         moves_done (forgets a) (renamed d (set d.names a v)) z (names_are v) refl refl
         (good_renamed v (record { size = good_name.size; shape = λ f. absurd (false≢true f) }))
 
--- ---- a return and a forget ask for a name that is held; `at` is where it is looked up
-module _ (d : Desk) (g : Good d) (a at number : ℕ) (is : at ≡ name_place a) (e : number ≡ first_stop (checks (name_findings a (not (get_or d.names at past).held)))) where
-  place_is : a < name_count → a ≡ at
-  place_is h = sym (is ∙ rw (lt-leb name_count a h) refl)
+  -- ---- where no check stops a call about a name
+  module _ (a : ℕ) (x : Unit) where
+    pub saved : stop_or_pass (first_stop (checks (name_findings a false))) ≡ Ok x → Moves (saves a) d Told.Done (renamed d (set d.names a (record { held = true; placed = d.placed; pile = d.pile })))
+    unfolding findings
+    saved e = let z = passes _ x e in moves_saved a (not_beyond a _ z) z
 
-  held_stop : number ≡ first_stop (checks (name_findings a (is_missing (named (shown d) a))))
-  held_stop = e ∙ by_test (leb name_count a) (λ y. rw y refl) (λ y. let h : a < name_count = leb-false name_count a y in
-      ap (λ (b : Bool). first_stop (checks (name_findings a b))) (ap (λ (k : ℕ). not (get_or d.names k past).held) (sym (place_is h)) ∙ empty_is d g a h))
+    module _ (free : Bool) (is : free ≡ is_missing (named (shown d) a)) (e : stop_or_pass (first_stop (checks (name_findings a free))) ≡ Ok x) where
+      pub returned : Moves (returns a) d Told.Done (moved d (get_or d.names a past).placed uncounted (get_or d.names a past).pile)
+      unfolding findings
+      returned = let z = passes _ x (sym (held_stop a free is) ∙ e) in moves_returned a (not_beyond a _ z) z
 
-  pub return_stop : number ≡ stop_of (system_on d) (shown d) (returns a)
-  unfolding findings
-  return_stop = held_stop
-
-  pub forget_stop : number ≡ stop_of (system_on d) (shown d) (forgets a)
-  unfolding findings
-  forget_stop = held_stop
-
-  -- where no check stops the call
-  module _ (z : number ≡ 0) where
-    inside : a < name_count
-    inside = not_beyond a _ (sym e ∙ z)
-
-    pub returned : Moves (returns a) d Told.Done (moved d (get_or d.names at past).placed uncounted (get_or d.names at past).pile)
-    returned = subst (λ (k : ℕ). Moves (returns a) d Told.Done (moved d (get_or d.names k past).placed uncounted (get_or d.names k past).pile)) (place_is inside) (moves_returned d g a inside (sym return_stop ∙ z))
-
-    pub forgotten : Moves (forgets a) d Told.Done (renamed d (set d.names at (record { held = false; placed = (get_or d.names at past).placed; pile = (get_or d.names at past).pile })))
-    forgotten = subst (λ (k : ℕ). Moves (forgets a) d Told.Done (renamed d (set d.names k (record { held = false; placed = (get_or d.names k past).placed; pile = (get_or d.names k past).pile })))) (place_is inside)
-        (moves_forgotten d g a inside (sym forget_stop ∙ z))
-
--- ---- looking
-pub sight_is : (d : Desk) (pile : List ℕ) → Good d → pile ≡ filled (drop d.placed.top d.pile) d.pile
-    → record { states = d.placed.states; length = desk_pile - d.placed.top; pile = pile } ≡ sight_of (shown d).here
-sight_is d pile g e =
-    ap₂ (λ (n : ℕ) (l : List ℕ). record { states = d.placed.states; length = n; pile = l })
-    (let n : desk_pile - d.placed.top ≡ length (drop d.placed.top d.pile) = omega (arith, length-drop d.placed.top d.pile, g.size) in n)
-    (e ∙ ap (λ (n : ℕ). drop d.placed.top d.pile ++ replicate (n - length (drop d.placed.top d.pile)) 0) (g.size ∙ sym (length-replicate {A = ℕ} desk_pile 0)))
+      pub forgotten : Moves (forgets a) d Told.Done (renamed d (set d.names a (record { held = false; placed = (get_or d.names a past).placed; pile = (get_or d.names a past).pile })))
+      unfolding findings
+      forgotten = let z = passes _ x (sym (held_stop a free is) ∙ e) in moves_forgotten a (not_beyond a _ z) z

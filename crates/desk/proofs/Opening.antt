@@ -1,5 +1,5 @@
 -- A desk that is opened: its own copy of the table, the start, no name held; and that there is none after a refused opening.
-use mathlib.Core.Path.{◌≡◌, refl, ap, ap₂, sym, subst, ◌∙◌}
+use mathlib.Core.Path.{◌≡◌, refl, ap, sym, subst, ◌∙◌}
 use mathlib.Core.Bool.{false, false≢true}
 use mathlib.Core.Option.{none}
 use mathlib.Core.List.{List, [], ◌++◌}
@@ -8,22 +8,21 @@ use native.Mathlib.Nat.{le_refl}
 use native.Mathlib.Omega.{arith}
 use lib.ListN.{length, take, drop, replicate, length-replicate}
 use lib.Seq.{paste, length-paste, length-take-le, take_all, take_at}
-use Rattle.desk_model.specs.declared.Told.{Told}
-use Rattle.desk_model.specs.Desks.{desk_pile, name_count, open_told, uncounted}
+use Rattle.desk_model.specs.Desks.{desk_pile, name_count, uncounted}
 use Rattle.model.specs.Lists.{Each}
 use Rattle.model.specs.Systems.{Configuration}
-use Rattle.model.specs.Tables.{Reading, accepted, longest, read, read_from, refused}
+use Rattle.model.specs.Tables.{longest, read, read_from}
 use Rattle.states.specs.StateNumbers.{Over}
-use Rattle.table.specs.declared.Parsed.TheVariants.{Accepted, Refused}
+use Rattle.std.specs.Prelude.{Ok}
+use Rattle.model.specs.Calls.{refuse}
 use Rattle.table.specs.declared.Table.{Table}
-use Rattle.table.specs.Reading.{Holds, counts_of, parsed, system_in}
+use Rattle.table.specs.Reading.{Holds, counts_of, system_in}
 use Rattle.table.proofs.Layouts.{table_length}
 use Rattle.table.specs.Present.{present_in}
 use Rattle.table.proofs.Configurations.{start_over, start_lettered}
 use Rattle.model.specs.declared.Placed.{Placed}
 use Rattle.firing.specs.Piles.{configuration}
-use Rattle.desk.specs.declared.Desk.{Desk}
-use Rattle.desk.specs.Promises.{Good, GoodName, Opened, Opens, copy_of, no_desk}
+use Rattle.desk.specs.Promises.{Good, GoodName, Opened, copy_of, no_desk}
 
 each_replicate : {A : Type 0} (P : A → Type 0) (n : ℕ) (x : A) → P x → Each P (replicate n x)
 each_replicate P zero x p = tt
@@ -74,26 +73,10 @@ opened_desk bytes t p copy pile h e c i n =
       };
     }
 
-done_tells : (t : Table) (x : Reading) → parsed x ≡ Accepted t → Told.Done ≡ open_told x
-done_tells t (accepted items) e = refl
-done_tells t (refused n p) e = let z : ◌≡◌ {A = ℕ} 0 1 = cc in absurd (omega arith)
-
-pub opens_done : (bytes : List ℕ) (t : Table) (d : Desk) → Holds bytes t → Opened bytes d → Opens bytes Told.Done d
-opens_done bytes t d h o = record { answer = done_tells t (read bytes) h.reading; desk = λ e. o; without_desk = λ z. absurd (z refl) }
-
--- ---- refused
--- the empty string is no table
+-- what stands in the place of a desk is none: the empty string is no table
 nothing_read : (t : Table) → Holds [] t → ⊥
 unfolding read read_from
-nothing_read t h = let e : Refused 1 0 ≡ Accepted t = h.reading in let z : ◌≡◌ {A = ℕ} 0 1 = cc in omega arith
+nothing_read t h = let e : refuse 1 0 ≡ Ok t = h.reading in let z : ◌≡◌ {A = ℕ} 0 1 = cc in omega arith
 
-refused_tells : (number place : ℕ) (x : Reading) → Refused number place ≡ parsed x → Told.Refused number place ≡ open_told x
-refused_tells number place (accepted items) e = let z : ◌≡◌ {A = ℕ} 0 1 = cc in absurd (omega arith)
-refused_tells number place (refused n p) e = let a : number ≡ n = cc in let b : place ≡ p = cc in ap₂ Told.Refused a b
-
-pub opens_refused : (bytes : List ℕ) (number place : ℕ) (d : Desk) → Refused number place ≡ parsed (read bytes) → d ≡ no_desk → Opens bytes (Told.Refused number place) d
-opens_refused bytes number place d e q = record {
-  answer = refused_tells number place (read bytes) e;
-  desk = λ f. let z : ◌≡◌ {A = ℕ} 0 1 = cc in absurd (omega arith);
-  without_desk = λ z. (q, λ g. nothing_read (counts_of []) (subst Good q g).holds);
-}
+pub no_desk_bad : Good no_desk → ⊥
+no_desk_bad g = nothing_read (counts_of []) g.holds

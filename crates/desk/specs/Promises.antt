@@ -1,10 +1,11 @@
 -- The struct `Desk`: what it shows of a desk, what always holds of one that was opened, and what each call promises.
-use Rattle.std.specs.Prelude.{◌≡◌, true, false, cond, List, [], ◌∷◌, map, ℕ, ◌≤◌, length, take, replicate}
+use Rattle.std.specs.Prelude.{◌≡◌, true, false, cond, List, [], ◌∷◌, map, ℕ, ◌≤◌, length, take, replicate, Result, Ok}
 use Rattle.std.proofs.Math.Option.{Option, none, some}
-use Rattle.desk_model.specs.declared.Told.{Told}
 use Rattle.model.specs.Calls.{filled}
-use Rattle.desk_model.specs.Desks.{Call, Contents, DeskOutcome, HistoriesLead, Leads, desk_call, desk_pile, name_count}
-use Rattle.desk_model.specs.Desks.{note_calls, open_told, opened, told_refusal, uncounted, unwritten}
+use Rattle.desk_model.specs.Desks.{Call, Contents, DeskOutcome, HistoriesLead, Leads, Told, desk_call, desk_pile}
+use Rattle.desk_model.specs.Desks.{name_count, note_calls, open_told, opened, told_by, told_refusal, uncounted}
+use Rattle.desk_model.specs.Desks.{unwritten}
+use Rattle.model.specs.declared.Refusal.{Refusal}
 use Rattle.model.specs.Lists.{Each}
 use Rattle.model.specs.Systems.{System, Configuration}
 use Rattle.model.specs.Tables.{longest, read}
@@ -86,7 +87,12 @@ pub record Opened (bytes : List ℕ) (d : Desk) : Type 0 where
   pub contents : shown d ≡ opened (system_in bytes)
   pub good : Good d
 
--- what stands in the place of a desk after a refused opening
+-- "one that meets 1 to 9 is refused so, and there is then no desk to call"
+pub record Opens (bytes : List ℕ) (r : Result Desk Refusal) : Type 0 where
+  pub answer : told_by r ≡ open_told (read bytes)
+  pub desk : (d : Desk) → r ≡ Ok d → Opened bytes d
+
+-- what stands in the place of a desk where there is none
 abbrev pub nowhere : Placed
 nowhere = record { states = record { s0 = 0; s1 = 0; s2 = 0; s3 = 0 }; top = 0 }
 
@@ -100,13 +106,6 @@ no_desk = record {
   pile = replicate desk_pile 0;
   names = replicate name_count (record { held = false; placed = nowhere; pile = replicate desk_pile 0 });
 }
-
--- "one that meets 1 to 9 is refused so, and there is then no desk to call": none for which a call's `requires` can be
--- met
-pub record Opens (bytes : List ℕ) (told : Told) (d : Desk) : Type 0 where
-  pub answer : told ≡ open_told (read bytes)
-  pub desk : told ≡ Told.Done → Opened bytes d
-  pub without_desk : (told ≡ Told.Done → ⊥) → (d ≡ no_desk) × (Good d → ⊥)
 
 -- ---- a desk and the calls that led to it
 pub data Called : Desk → List Call → Desk → Type 0 where

@@ -8,9 +8,11 @@ use native.Mathlib.Omega.{arith}
 use lib.ListN.{get_elem?}
 use lib.Dec.{leb}
 use borrow.Author.Tests.{leb-false, lt-leb}
+use Rattle.std.specs.Prelude.{Result, Ok, Err}
+use Rattle.model.specs.declared.Ending.{Ending}
 use Rattle.model.specs.declared.Group.{Group}
-use Rattle.model.specs.declared.Walked.{Walked}
-use Rattle.model.specs.Calls.{Halt, halt_at, halt_end, walk_from}
+use Rattle.model.specs.declared.Refusal.{Refusal}
+use Rattle.model.specs.Calls.{Halt, halt_at, halt_end, refused_by, walk_from}
 use Rattle.desk_model.specs.Desks.{fires, Contents, findings, desk_pile, fired_to, stop_of, is_high, name_count}
 use Rattle.model.specs.Lists.{is_missing, value_or}
 use Rattle.model.specs.Systems.{System, Rule, Configuration, fire}
@@ -18,7 +20,7 @@ use Rattle.model.proofs.Tests.{by_test}
 
 -- ---- where a walk halts
 at_number : (j k step : ℕ) (list : List ℕ) (c : Configuration) → halt_at j step list c ≡ halt_at k step list c → j ≡ k
-at_number j k step list c e = let a : Walked.Refused j step ≡ Walked.Refused k step = ap (λ (h : Halt). h.answer) e in cc
+at_number j k step list c e = ap (λ (h : Halt). refused_by h.answer) e
 
 not_both : (k step : ℕ) (list : List ℕ) (c : Configuration) (sys : System) (d : Configuration) → halt_at k step list c ≡ halt_end sys d → ⊥
 not_both k step list c sys d e =
@@ -28,12 +30,16 @@ same_end : (sys : System) (c d : Configuration) → halt_end sys c ≡ halt_end 
 same_end sys c d e =
     let a : (halt_end sys c).answer ≡ (halt_end sys d).answer = ap (λ (h : Halt). h.answer) e in
     let w : (halt_end sys c).pile ≡ (halt_end sys d).pile = ap (λ (h : Halt). h.pile) e in
-    let states : c.states ≡ d.states = cc in
+    let states : c.states ≡ d.states = ap ended_states a in
     let word : c.word ≡ d.word = cc in
     ap₂ made states word
   where
     made : Group → List ℕ → Configuration
     made g l = record { states = g; word = l }
+
+    ended_states : Result Ending Refusal → Group
+    ended_states (Ok x) = x.states
+    ended_states (Err r) = c.states
 
 module _ (sys : System) (s : Contents) where
   -- ---- a fire

@@ -1,11 +1,10 @@
 -- Request 2.1, named situations at the desk: what a desk holds, the checks of its calls, what each call does, and the
 -- histories of fires that its calls note. Request 2.5: who took part since it was opened or last returned. A situation
 -- is a configuration here.
-use Rattle.std.specs.Prelude.{◌≡◌, Bool, false, cond, List, [], ◌∷◌, ◌++◌, map, ℕ, zero, suc, ◌≤◌, min, ltb, leb, length, get_or, set, replicate}
+use Rattle.std.specs.Prelude.{◌≡◌, Bool, false, cond, List, [], ◌∷◌, ◌++◌, map, ℕ, zero, suc, ◌≤◌, min, ltb, leb, length, get_or, set, replicate, Result, Ok, Err}
 use Rattle.std.proofs.Math.Option.{Option, none, some}
 use Rattle.std.proofs.Math.ListN.{get_elem?}
-use Rattle.desk_model.specs.declared.Findings.{Findings}
-use Rattle.desk_model.specs.declared.Told.{Told}
+use Rattle.model.specs.declared.Refusal.{Refusal}
 use Rattle.model.specs.Lists.{is_missing, value_or}
 use Rattle.model.specs.Groups.{at_each, process_bits}
 use Rattle.model.specs.Systems.{System, Configuration, walk}
@@ -38,6 +37,22 @@ uncounted = at_each (λ i. 0)
 -- "opened once on a table, no name held": it stands at the table's start, and nothing is counted
 abbrev pub opened : System → Contents
 opened sys = record { here = sys.start; names = replicate name_count none; counts = uncounted }
+
+-- what a call tells: done; fired, with the processes of the rule's letter as bits; or refused, by this number at this
+-- place
+pub data Told : Type 0 where
+  Done : Told
+  Fired : ℕ → Told
+  Refused : ℕ → ℕ → Told
+
+-- so in code: the answer of a fire, and of a call that tells no processes
+abbrev pub told_by_fire : Result ℕ Refusal → Told
+told_by_fire (Ok processes) = Told.Fired processes
+told_by_fire (Err r) = Told.Refused r.number r.place
+
+abbrev pub told_by : {A : Type 0} → Result A Refusal → Told
+told_by (Ok x) = Told.Done
+told_by (Err r) = Told.Refused r.number r.place
 
 -- "one that meets 1 to 9 is refused so", with the place that reading the table gives
 abbrev pub open_told : Reading → Told
@@ -79,6 +94,14 @@ abbrev pub named : Contents → ℕ → Option Configuration
 named s a = get_or s.names a none
 
 -- ---- the checks
+-- what they find of a call; false where the call is about no such thing
+pub record Findings : Type 0 where
+  pub missing : Bool
+  pub beyond : Bool
+  pub empty : Bool
+  pub idle : Bool
+  pub full : Bool
+
 pub record Check : Type 0 where
   pub number : ℕ
   pub stops : Bool
@@ -114,6 +137,11 @@ checks f =
 abbrev pub first_stop : List Check → ℕ
 first_stop [] = 0
 first_stop (k ∷ ks) = cond k.stops k.number (first_stop ks)
+
+-- what code gives where this is the first stop: a refusal of place 0, or none
+abbrev pub stop_or_pass : ℕ → Result Unit Refusal
+stop_or_pass zero = Ok tt
+stop_or_pass (suc n) = Err (record { number = suc n; place = 0 })
 
 abbrev pub stop_of : System → Contents → Call → ℕ
 stop_of sys s c = first_stop (checks (findings sys s c))

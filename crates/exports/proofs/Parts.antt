@@ -7,7 +7,9 @@ use native.Mathlib.Omega.{arith}
 use lib.Dec.{ltb}
 use lib.ListN.{length, get_or, get_elem?, take, drop, replicate}
 use lib.Seq.{take_at}
-use Rattle.model.specs.declared.Walked.{Walked}
+use Rattle.std.specs.Prelude.{Result, Ok, Err}
+use Rattle.model.specs.declared.Ending.{Ending}
+use Rattle.model.specs.declared.Refusal.{Refusal}
 use Rattle.model.specs.Calls.{Halt, step_by, step_to, walk_call, walk_counts, walk_figures, walk_from, walk_given, walk_scratch}
 use Rattle.model.specs.Demands.{Demand2Walk, TookPart}
 use Rattle.model.specs.Groups.{Processes}
@@ -19,20 +21,20 @@ use Rattle.model.proofs.WalkDemand.{counted_more, demand_more}
 use Rattle.exports.specs.Figures.{sixteen}
 
 -- ---- the figures: eight of the answer, where the part handed back begins, the counts
-sixteen_is : (x : Walked) (l : List ℕ) → sixteen (walk_figures x ++ l) ≡ walk_figures x ++ (l ++ replicate (8 - length l) 0)
-sixteen_is (Walked.Ended g n w) l = let k : 16 - length (walk_figures (Walked.Ended g n w) ++ l) ≡ 8 - length l = omega arith in ap (λ (m : ℕ). walk_figures (Walked.Ended g n w) ++ (l ++ replicate m 0)) k
-sixteen_is (Walked.Refused number place) l = let k : 16 - length (walk_figures (Walked.Refused number place) ++ l) ≡ 8 - length l = omega arith in ap (λ (m : ℕ). walk_figures (Walked.Refused number place) ++ (l ++ replicate m 0)) k
+sixteen_is : (x : Result Ending Refusal) (l : List ℕ) → sixteen (walk_figures x ++ l) ≡ walk_figures x ++ (l ++ replicate (8 - length l) 0)
+sixteen_is (Ok end) l = let k : 16 - length (walk_figures (Ok end) ++ l) ≡ 8 - length l = omega arith in ap (λ (m : ℕ). walk_figures (Ok end) ++ (l ++ replicate m 0)) k
+sixteen_is (Err r) l = let k : 16 - length (walk_figures (Err r) ++ l) ≡ 8 - length l = omega arith in ap (λ (m : ℕ). walk_figures (Err r) ++ (l ++ replicate m 0)) k
 
-pub figures_split : (x : Walked) (counts : List ℕ) (from : ℕ) → sixteen (take 8 (walk_figures x ++ counts) ++ (from ∷ drop 8 (walk_figures x ++ counts))) ≡ sixteen (walk_figures x ++ (from ∷ counts))
-figures_split (Walked.Ended g n w) counts from = refl
-figures_split (Walked.Refused number place) counts from = refl
+pub figures_split : (x : Result Ending Refusal) (counts : List ℕ) (from : ℕ) → sixteen (take 8 (walk_figures x ++ counts) ++ (from ∷ drop 8 (walk_figures x ++ counts))) ≡ sixteen (walk_figures x ++ (from ∷ counts))
+figures_split (Ok end) counts from = refl
+figures_split (Err r) counts from = refl
 
-counts_stand : (x : Walked) (counts zeros : List ℕ) (from : ℕ) → length counts ≡ 4 → take 4 (drop 9 (walk_figures x ++ (from ∷ counts ++ zeros))) ≡ counts
-counts_stand (Walked.Ended g n w) counts zeros from e = take_at counts zeros 4 e
-counts_stand (Walked.Refused number place) counts zeros from e = take_at counts zeros 4 e
+counts_stand : (x : Result Ending Refusal) (counts zeros : List ℕ) (from : ℕ) → length counts ≡ 4 → take 4 (drop 9 (walk_figures x ++ (from ∷ counts ++ zeros))) ≡ counts
+counts_stand (Ok end) counts zeros from e = take_at counts zeros 4 e
+counts_stand (Err r) counts zeros from e = take_at counts zeros 4 e
 
 -- a count for each process
-four_counts : (r : Reading) (list : List ℕ) (x : Walked) → length (walk_counts r list x) ≡ 4
+four_counts : (r : Reading) (list : List ℕ) (x : Result Ending Refusal) → length (walk_counts r list x) ≡ 4
 unfolding walk_counts
 four_counts (refused number place) list x = refl
 four_counts (accepted items) list x = refl
@@ -41,9 +43,9 @@ counts_length : (table list pile scratch : List ℕ) → length (walk_call table
 unfolding walk_call
 counts_length table list pile scratch = four_counts (read table) list (walk_given (read table) list (length pile) (length scratch)).answer
 
-twelve : (x : Walked) (counts : List ℕ) → length counts ≡ 4 → length (walk_figures x ++ counts) ≡ 12
-twelve (Walked.Ended g n w) counts e = omega arith
-twelve (Walked.Refused number place) counts e = omega arith
+twelve : (x : Result Ending Refusal) (counts : List ℕ) → length counts ≡ 4 → length (walk_figures x ++ counts) ≡ 12
+twelve (Ok end) counts e = omega arith
+twelve (Err r) counts e = omega arith
 
 pub figures_length : (table list pile scratch : List ℕ) → let o = walk_call table list pile scratch in length (walk_figures o.answer ++ o.counts) ≡ 12
 figures_length table list pile scratch = twelve (walk_call table list pile scratch).answer (walk_call table list pile scratch).counts (counts_length table list pile scratch)

@@ -1,7 +1,6 @@
 -- What the desk's calls for C and Rust answer and leave.
 use Rattle.std.specs.Prelude.{◌≡◌, List, ℕ}
-use Rattle.desk_model.specs.declared.Told.{Told}
-use Rattle.desk_model.specs.Desks.{Call, fires, open_told, told_place, told_processes, told_refusal}
+use Rattle.desk_model.specs.Desks.{Call, Told, fires, open_told, told_place, told_processes, told_refusal}
 use Rattle.model.specs.Tables.{read}
 use Rattle.desk.specs.declared.Desk.{Desk}
 use Rattle.desk.specs.Promises.{Good, Leaves, Opened, no_desk, outcome_of}

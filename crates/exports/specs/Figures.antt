@@ -1,7 +1,8 @@
 -- What the calls for C and Rust leave: the 16 figures of the answer, and each lent buffer as the call's outcome has it.
-use Rattle.std.specs.Prelude.{◌≡◌, ◌↔◌, List, [], ◌∷◌, ◌++◌, ℕ, ◌-◌, ◌≤◌, length, get_or, take, replicate}
-use Rattle.model.specs.declared.Answered.{Answered}
-use Rattle.model.specs.declared.Ran.{Ran}
+use Rattle.std.specs.Prelude.{◌≡◌, ◌↔◌, List, [], ◌∷◌, ◌++◌, ℕ, ◌-◌, ◌≤◌, length, get_or, take, replicate, Result}
+use Rattle.model.specs.declared.Refusal.{Refusal}
+use Rattle.model.specs.declared.Run.{Run}
+use Rattle.model.specs.declared.Verdict.{Verdict}
 use Rattle.model.specs.Systems.{System, Joins, PeakIs, peak}
 use Rattle.model.specs.Tables.{Item, accepted, read, saturated_of, system_of}
 use Rattle.model.specs.Log.{limit, rounds}
@@ -59,7 +60,7 @@ pub record Premises (table log scratch : List ℕ) (items : List Item) : Type 0 
 -- The answer behind the figures meets demand 3; so, in figures, under both premises: verdict 2 exactly if no run joins
 -- the start and the watched set, 1 exactly if one does; and 10 exactly where the second premise fails.
 pub record AnswerDemand (table log scratch f : List ℕ) : Type 0 where
-  pub answer : Answered
+  pub answer : Result Verdict Refusal
   pub behind : f ≡ sixteen (answer_figures answer)
   pub demand : (page : List ℕ)
       → Demand3 table log scratch page answer (run_call table log scratch page).answer
@@ -71,7 +72,7 @@ pub record AnswerDemand (table log scratch f : List ℕ) : Type 0 where
 -- Likewise of a run: 16 exactly if no run joins them, 11 exactly if the steps exceed the page or 1,000,000; else the
 -- figures, and a run on the page.
 pub record RunDemand (table log scratch page f left : List ℕ) : Type 0 where
-  pub answer : Ran
+  pub answer : Result Run Refusal
   pub behind : f ≡ sixteen (run_figures answer)
   pub demand : Demand3 table log scratch page (answer_call table log scratch).answer answer left
   pub no_run : (items : List Item) → Premises table log scratch items → NoRun (system_of items) ↔ (get_or f 0 0 ≡ 16)

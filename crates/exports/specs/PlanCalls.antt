@@ -1,8 +1,9 @@
 -- What the plan call for C and Rust is given, answers and leaves.
 use Rattle.std.specs.Prelude.{◌≡◌, List, [], ℕ, ℤ, get_or}
 use Rattle.plan_model.specs.declared.Window.{Window}
+use Rattle.model.specs.Calls.{refused_at, refused_by}
 use Rattle.model.specs.Groups.{Process, at_each, number_of}
-use Rattle.plan_model.specs.Hours.{PlanOutcome, planned_place, planned_refusal}
+use Rattle.plan_model.specs.Hours.{PlanOutcome}
 use Rattle.exports.specs.declared.planning.Hours.{Hours}
 use Rattle.exports.specs.declared.planning.PlanAnswer.{PlanAnswer}
 use Rattle.exports.specs.declared.planning.Week.{Week}
@@ -20,6 +21,6 @@ counts_of week = at_each (λ i. (hours_at week i).count)
 -- the number and the place of the refusal, 0 and 0 if there is none, and the list of begins as the call's outcome has
 -- it
 pub record PlanAnswers (o : PlanOutcome) (r : PlanAnswer) (begins : List ℤ) : Type 0 where
-  pub number : r.number ≡ planned_refusal o.answer
-  pub place : r.place ≡ planned_place o.answer
+  pub number : r.number ≡ refused_by o.answer
+  pub place : r.place ≡ refused_at o.answer
   pub left : begins ≡ o.begins

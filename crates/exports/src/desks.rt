@@ -1,18 +1,18 @@
 // The desk for C and Rust: its owner holds it and lends it by a pointer. Each call that changes it answers with the number of the refusal, 0 if there is none; a
 // fire tells besides who took part.
 ghost use Rattle.std.specs.Prelude.{◌≡◌};
-ghost use Rattle.desk_model.specs.Desks.{saves, returns, forgets, told_refusal, told_place, told_processes};
+ghost use Rattle.model.specs.Calls.{refused_by};
+ghost use Rattle.desk_model.specs.Desks.{saves, returns, forgets};
 ghost use Rattle.desk.specs.Promises.{Good, counts_of, shown, sight_of};
-ghost use Rattle.exports.specs.DeskCalls.{DeskAnswers, DeskFires, DeskOpens, fire_told};
+ghost use Rattle.exports.specs.DeskCalls.{DeskAnswers, DeskFires, DeskOpens};
 
-use desk::{
-    Counts, Desk, Sight, counted, fired, forgotten, looked, no_desk, returned, saved, set_up,
-};
-use desk_model::{PILE, Told};
+use desk::{Counts, Desk, Sight, no_desk};
+use desk_model::PILE;
+use model::Refusal;
 use reading::read;
-use table::{Parsed, Table};
+use table::{Accepted, Table};
 
-// What opening gives: a desk, or the number and the place of the refusal; then the desk is none.
+// What opening gives: a desk, or the number and the place of the refusal; then the desk is none. C has no Result.
 #[repr(C)]
 #[derive(Clone, Copy)]
 pub struct Opening {
@@ -29,88 +29,42 @@ pub struct Fire {
     pub processes: u8,
 }
 
-fn number_of(told: Told) -> u8
-    ensures { result ≡ told_refusal told }
+// The number of a refusal, 0 if there is none.
+fn number_of<T: Copy>(called: Result<T, Refusal>) -> u8
+    ensures { result ≡ refused_by called }
 {
-    match told {
-        Told::Done => {
-            return 0;
-        }
-        Told::Fired { processes } => {
-            return 0;
-        }
-        Told::Refused { number, place } => {
-            return number;
-        }
+    match called {
+        Ok(_) => 0,
+        Err(refusal) => refusal.number,
     }
 }
 
-fn place_of(told: Told) -> usize
-    ensures { result ≡ told_place told }
-{
-    match told {
-        Told::Done => {
-            return 0;
-        }
-        Told::Fired { processes } => {
-            return 0;
-        }
-        Told::Refused { number, place } => {
-            return place;
-        }
-    }
-}
-
-fn processes_of(told: Told) -> u8
-    ensures { result ≡ told_processes told }
-{
-    match told {
-        Told::Done => {
-            return 0;
-        }
-        Told::Fired { processes } => {
-            return processes;
-        }
-        Told::Refused { number, place } => {
-            return 0;
-        }
-    }
-}
-
-fn fire_of(told: Told) -> Fire
-    ensures { result ≡ fire_told told }
-{
-    let number = number_of(told);
-    let processes = processes_of(told);
-    Fire { number, processes }
-}
-
-// Opens a desk on the table. Refused by 1 to 9.
+// Opens a desk on the table. Refused by 1 to 9. By what `Desk::open` does and not by it: moved out of a Result, the desk takes
+// 26,440 bytes of the stack.
 #[unsafe(no_mangle)]
 pub extern "C" fn roskavel_desk_open(table: &[u8]) -> Opening
     ensures { DeskOpens table.now result }
 {
-    match read(table) {
-        Parsed::Refused { number, place } => {
-            let desk = no_desk();
-            let told = Told::Refused { number, place };
+    let counts = match read(table) {
+        Ok(counts) => counts,
+        Err(refusal) => {
             return Opening {
-                desk,
-                number: number_of(told),
-                place: place_of(told),
+                desk: no_desk(),
+                number: refusal.number,
+                place: refusal.place,
             };
         }
-        Parsed::Accepted(t) => {
-            let mut bytes = [0; Table::LONGEST];
-            let mut pile = [0; PILE];
-            let desk = set_up(table, t, &mut bytes, &mut pile);
-            let told = Told::Done;
-            return Opening {
-                desk,
-                number: number_of(told),
-                place: place_of(told),
-            };
-        }
+    };
+    let accepted = Accepted {
+        bytes: table,
+        counts,
+    };
+    let mut bytes = [0; Table::LONGEST];
+    let mut pile = [0; PILE];
+    Opening {
+        desk: Desk::set_up(&accepted, &mut bytes, &mut pile),
+        number: 0,
+        place: 0,
     }
 }
 
@@ -120,9 +74,10 @@ pub extern "C" fn roskavel_desk_fire(desk: &mut Desk, rule: u16) -> Fire
     requires { Good desk.old }
     ensures { DeskFires rule desk.old result desk.new }
 {
-    let next = fired(*desk, rule);
-    *desk = next.desk;
-    fire_of(next.told)
+    let fired = desk.fire(rule);
+    let number = number_of(fired);
+    let processes = fired.unwrap_or(0);
+    Fire { number, processes }
 }
 
 // Saves where the desk stands under a name. Refused by 18.
@@ -131,9 +86,7 @@ pub extern "C" fn roskavel_desk_save(desk: &mut Desk, name: u8) -> u8
     requires { Good desk.old }
     ensures { DeskAnswers (saves name) desk.old result desk.new }
 {
-    let next = saved(*desk, name);
-    *desk = next.desk;
-    number_of(next.told)
+    number_of(desk.save(name))
 }
 
 // Returns to what is saved under a name. Refused by 18 and 17.
@@ -142,9 +95,7 @@ pub extern "C" fn roskavel_desk_return(desk: &mut Desk, name: u8) -> u8
     requires { Good desk.old }
     ensures { DeskAnswers (returns name) desk.old result desk.new }
 {
-    let next = returned(*desk, name);
-    *desk = next.desk;
-    number_of(next.told)
+    number_of(desk.return_to(name))
 }
 
 // Forgets a name. Refused by 18 and 17.
@@ -153,9 +104,7 @@ pub extern "C" fn roskavel_desk_forget(desk: &mut Desk, name: u8) -> u8
     requires { Good desk.old }
     ensures { DeskAnswers (forgets name) desk.old result desk.new }
 {
-    let next = forgotten(*desk, name);
-    *desk = next.desk;
-    number_of(next.told)
+    number_of(desk.forget(name))
 }
 
 // Looks at where the desk stands.
@@ -164,7 +113,7 @@ pub extern "C" fn roskavel_desk_look(desk: &Desk) -> Sight
     requires { Good desk.now }
     ensures { result ≡ sight_of (shown desk.now).here }
 {
-    looked(*desk)
+    desk.look()
 }
 
 // Tells who took part, and how often, since the desk was opened or last returned.
@@ -173,5 +122,5 @@ pub extern "C" fn roskavel_desk_count(desk: &Desk) -> Counts
     requires { Good desk.now }
     ensures { result ≡ counts_of (shown desk.now) }
 {
-    counted(*desk)
+    desk.counts()
 }

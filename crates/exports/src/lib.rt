@@ -11,7 +11,7 @@ ghost use Rattle.model.specs.Calls.{answer_call, run_call, walk_call, answer_fig
 ghost use Rattle.model.specs.Demands.{LogHolds, Demand2Walk, TookPart};
 ghost use Rattle.exports.specs.Figures.{sixteen, AnswerLeaves, RunLeaves, WalkLeaves, Word, RunWord, AnswerDemand, RunDemand};
 
-use model::{Answered, Ran};
+use model::{Refusal, Run, Verdict};
 use walk::FIGURES;
 
 // The verdict figure: 0 is no verdict, so that figures of no call, or of a refused one, never pass for one.
@@ -54,44 +54,58 @@ fn put(
     ];
 }
 
-fn put_answer(figures: &mut [u64; 16], a: Answered)
-    ensures { figures.new ≡ sixteen (answer_figures a) }
+// The figures of a refusal.
+fn put_refused(figures: &mut [u64; 16], refusal: Refusal)
+    ensures { figures.new ≡ sixteen (refusal.number ∷ refusal.place ∷ []) }
 {
-    match a {
-        Answered::Reachable {
-            transitions,
-            rounds,
-            steps,
-        } => {
-            put(figures, 0, 0, REACHABLE, transitions, rounds, steps, 0);
-        }
-        Answered::Unreachable {
-            transitions,
-            rounds,
-        } => {
-            put(figures, 0, 0, UNREACHABLE, transitions, rounds, 0, 0);
-        }
-        Answered::Refused { number, place } => {
-            put(figures, number, place, NO_VERDICT, 0, 0, 0, 0);
-        }
+    put(
+        figures,
+        refusal.number,
+        refusal.place,
+        NO_VERDICT,
+        0,
+        0,
+        0,
+        0,
+    );
+}
+
+fn put_answer(figures: &mut [u64; 16], answered: Result<Verdict, Refusal>)
+    ensures { figures.new ≡ sixteen (answer_figures answered) }
+{
+    match answered {
+        Ok(
+            Verdict::Reachable {
+                transitions,
+                rounds,
+                steps,
+            },
+        ) => put(figures, 0, 0, REACHABLE, transitions, rounds, steps, 0),
+        Ok(
+            Verdict::Unreachable {
+                transitions,
+                rounds,
+            },
+        ) => put(figures, 0, 0, UNREACHABLE, transitions, rounds, 0, 0),
+        Err(refusal) => put_refused(figures, refusal),
     }
 }
 
-fn put_run(figures: &mut [u64; 16], r: Ran)
-    ensures { figures.new ≡ sixteen (run_figures r) }
+fn put_run(figures: &mut [u64; 16], ran: Result<Run, Refusal>)
+    ensures { figures.new ≡ sixteen (run_figures ran) }
 {
-    match r {
-        Ran::Reached {
-            transitions,
-            rounds,
-            steps,
-            peak,
-        } => {
-            put(figures, 0, 0, REACHABLE, transitions, rounds, steps, peak);
-        }
-        Ran::Refused { number, place } => {
-            put(figures, number, place, NO_VERDICT, 0, 0, 0, 0);
-        }
+    match ran {
+        Ok(run) => put(
+            figures,
+            0,
+            0,
+            REACHABLE,
+            run.transitions,
+            run.rounds,
+            run.steps,
+            run.peak,
+        ),
+        Err(refusal) => put_refused(figures, refusal),
     }
 }
 
@@ -133,8 +147,8 @@ pub extern "C" fn roskavel_answer(
     ensures demand_3 { AnswerDemand table.now log.old scratch.old figures.new }
     ensures word { Word table.now figures.new }
 {
-    let a = reach::answer(table, log, scratch);
-    put_answer(figures, a);
+    let answered = reach::answer(table, log, scratch);
+    put_answer(figures, answered);
 }
 
 // Document 01, the run call.
@@ -151,8 +165,8 @@ pub extern "C" fn roskavel_run(
     ensures demand_3 { RunDemand table.now log.old scratch.old page.old figures.new page.new }
     ensures word { RunWord table.now figures.new page.new }
 {
-    let r = reach::run(table, log, scratch, page);
-    put_run(figures, r);
+    let ran = reach::run(table, log, scratch, page);
+    put_run(figures, ran);
 }
 
 // Document 01, the walk call; `request_2_5` is who took part, in figures.

@@ -1,9 +1,11 @@
 // The plan for C and Rust: the hours come as one struct, by value, and the answer is the number and the place of the refusal.
 ghost use Rattle.std.specs.Prelude.{◌≡◌};
-ghost use Rattle.plan_model.specs.Hours.{PlanMeans, plan_call, planned_place, planned_refusal};
+ghost use Rattle.model.specs.Calls.{refused_at, refused_by};
+ghost use Rattle.plan_model.specs.Hours.{PlanMeans, plan_call};
 ghost use Rattle.exports.specs.PlanCalls.{PlanAnswers, counts_of, hours_of};
 
-use plan_model::{Planned, WINDOW_PLACES, Window};
+use model::Refusal;
+use plan_model::{WINDOW_PLACES, Window};
 use plans::plan;
 use table::Table;
 
@@ -36,29 +38,18 @@ fn windows_of(hours: Hours) -> [Window; WINDOW_PLACES]
     hours.windows
 }
 
-fn number_of(planned: Planned) -> u8
-    ensures { result ≡ planned_refusal planned }
+fn answer_of(planned: Result<(), Refusal>) -> PlanAnswer
+    ensures { (result.number ≡ refused_by planned) × (result.place ≡ refused_at planned) }
 {
     match planned {
-        Planned::Given => {
-            return 0;
-        }
-        Planned::Refused { number, place } => {
-            return number;
-        }
-    }
-}
-
-fn place_of(planned: Planned) -> usize
-    ensures { result ≡ planned_place planned }
-{
-    match planned {
-        Planned::Given => {
-            return 0;
-        }
-        Planned::Refused { number, place } => {
-            return place;
-        }
+        Ok(()) => PlanAnswer {
+            number: 0,
+            place: 0,
+        },
+        Err(refusal) => PlanAnswer {
+            number: refusal.number,
+            place: refusal.place,
+        },
     }
 }
 
@@ -86,8 +77,5 @@ pub extern "C" fn roskavel_plan(
     let w3 = windows_of(p3);
     let counts = [p0.count, p1.count, p2.count, p3.count];
     let planned = plan(table, run, [w0, w1, w2, w3], counts, lengths, start, begins);
-    PlanAnswer {
-        number: number_of(planned),
-        place: place_of(planned),
-    }
+    answer_of(planned)
 }

@@ -84,9 +84,6 @@ module _ (loc : ℕ → Processes) (a : ℕ) where
     pub high : p ≤ length pile
     pub same : top + place loc a (drop top pile) ≡ p + place loc a (drop p pile)
 
-  pub finding_start : (pile : List ℕ) (top : ℕ) → top ≤ length pile → Finding pile top top
-  finding_start pile top h = record { low = omega arith; high = h; same = refl }
-
   pub finding_here : (pile : List ℕ) (top p : ℕ) → Finding pile top p → p < length pile → get_or pile p 0 ≡ a → p ≡ top + place loc a (drop top pile)
   finding_here pile top p f h e =
       let z : place loc a (drop p pile) ≡ 0 = ap (place loc a) (drop-cons pile p 0 h) ∙ place_here (get_or pile p 0) (drop (suc p) pile) e in
@@ -103,11 +100,6 @@ module _ (loc : ℕ → Processes) (a : ℕ) where
       let z : place loc a (drop p pile) ≡ suc (place loc a (drop (suc p) pile)) = ap (place loc a) (drop-cons pile p 0 h) ∙ place_past (get_or pile p 0) (drop (suc p) pile) n e in
       let s : place loc a (drop (suc p) pile) ≡ place loc a (drop (p + 1) pile) = ap (λ (k : ℕ). place loc a (drop k pile)) (sym (add-one p)) in
       record { low = omega (arith, f.low); high = omega arith; same = omega (arith, f.same) }
-
-  pub finding_end : (pile : List ℕ) (top p : ℕ) → Finding pile top p → length pile ≤ p → p ≡ top + place loc a (drop top pile)
-  finding_end pile top p f h =
-      let z : place loc a (drop p pile) ≤ length (drop p pile) = place_within (drop p pile) in
-      omega (arith, f.same, length-drop p pile)
 
 -- ---- the rule's letter
 module _ (loc : ℕ → Processes) (ne : Located loc) (r : Rule) (pile : List ℕ) (c : Placed) (inside : c.top ≤ length pile) where

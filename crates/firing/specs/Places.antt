@@ -1,5 +1,5 @@
 -- What the parts of firing find and leave: the place of the letter, the letters moved, the letters written.
-use Rattle.std.specs.Prelude.{cond, List, [], ◌∷◌, ◌++◌, ℕ, suc, ◌+◌, ◌-◌, eqb, length, take, drop}
+use Rattle.std.specs.Prelude.{◌≡◌, cond, List, [], ◌∷◌, ◌++◌, ℕ, suc, ◌+◌, ◌-◌, ◌<◌, ◌≤◌, eqb, length, take, drop, Option, Some, None}
 use Rattle.model.specs.Groups.{Processes, apart_test, restrict, same_group}
 use Rattle.model.specs.Systems.{Rule}
 use Rattle.model.specs.declared.Placed.{Placed}
@@ -15,6 +15,11 @@ unfoldable pub firing_place : (ℕ → Processes) → Rule → List ℕ → Plac
 firing_place loc r pile c =
     cond (same_group (restrict (loc r.letter) c.states) r.before)
     (c.top + place loc r.letter (drop c.top pile)) (length pile)
+
+-- the place p, if it is one of the n of the buffer
+abbrev pub PlaceFound : ℕ → ℕ → Option ℕ → Type 0
+PlaceFound n p (Some q) = (q ≡ p) × (p < n)
+PlaceFound n p None = n ≤ p
 
 -- the letters from `top` up to p one place on, over the one at p
 unfoldable pub closed : List ℕ → ℕ → ℕ → List ℕ

@@ -1,21 +1,17 @@
 // Firing a rule on a word that stands at the end of its buffer: only what lies above the letter that fires is moved, by one place.
 #![tactic(auto)]
 
-ghost use Rattle.std.specs.Prelude.{◌≡◌, ℕ, ◌+◌, ◌-◌, ◌≤◌, ◌<◌, length, drop, get_or};
+ghost use Rattle.std.specs.Prelude.{◌≡◌, ℕ, ◌+◌, ◌≤◌, ◌<◌, length, drop, get_or};
 ghost use Rattle.std.proofs.Math.Seq.{paste};
 ghost use Rattle.model.specs.Groups.{apart_test, processes_of};
 ghost use Rattle.model.specs.Systems as Systems;
 ghost use Rattle.table.specs.Reading.{Holds, system_in, rule_in};
 ghost use Rattle.firing.specs.Piles.{configuration, Stands, Fires};
-ghost use Rattle.firing.specs.Places.{place, firing_place, closed, rewritten};
+ghost use Rattle.firing.specs.Places.{closed, PlaceFound, place, firing_place, rewritten};
 
 use model::Placed;
-use numbers::wide;
 use states::groups;
-use table::{
-    Table, letter_bits, rule_after, rule_before, rule_bits, rule_letter, written_count,
-    written_letter,
-};
+use table::Accepted;
 
 // A rule that fired: the configuration after it, and the processes of its letter as bits.
 #[derive(Clone, Copy)]
@@ -24,58 +20,52 @@ pub struct Fired {
     pub processes: u8,
 }
 
-// What firing a rule comes to: it does not fire; the word after it is longer than the buffer; or it fired.
-#[derive(Clone, Copy)]
-pub enum Firing {
+// Why a rule is not fired: it does not fire, or the word after it is longer than the buffer.
+#[derive(Clone, Copy, Debug, PartialEq, Eq)]
+pub enum Stuck {
     Idle,
     Full,
-    Done(Fired),
 }
 
 // Letter b shares no process with those in bits.
-fn is_apart(table: &[u8], t: Table, bits: u8, b: u8) -> bool
-    requires { Holds table.now t × (b < t.letters) × (bits ≤ 15) }
-    ensures { result ≡ apart_test (processes_of bits) ((system_in table.now).loc b) }
+fn is_apart(table: &Accepted, bits: u8, b: u8) -> bool
+    requires { (b < table.now.counts.letters) × (bits ≤ 15) }
+    ensures { result ≡ apart_test (processes_of bits) ((system_in table.now.bytes.now).loc b) }
 {
-    let other = letter_bits(table, t, wide(b));
+    let other = table.letter_bits(usize::from(b));
     bits & other == 0
 }
 
-// The place of the letter a, if it tops the word from `top` on; else the buffer's length.
-fn find(table: &[u8], t: Table, pile: &[u8], top: usize, a: u8) -> usize
-    requires { Holds table.now t × (a < t.letters) × (top ≤ length pile.now) × ((j : ℕ) → top ≤ j → j < length pile.now → get_or pile.now j 0 < t.letters) }
-    ensures { result ≡ top + place (system_in table.now).loc a (drop top pile.now) }
+// The place of the letter a, if it tops the word from `top` on.
+fn find(table: &Accepted, pile: &[u8], top: usize, a: u8) -> Option<usize>
+    requires { (a < table.now.counts.letters) × (top ≤ length pile.now) × ((j : ℕ) → top ≤ j → j < length pile.now → get_or pile.now j 0 < table.now.counts.letters) }
+    ensures { PlaceFound (length pile.now) (top + place (system_in table.now.bytes.now).loc a (drop top pile.now)) result }
 {
-    let bits = letter_bits(table, t, wide(a));
-    let mut p = top;
-    while p < pile.len() {
+    let bits = table.letter_bits(usize::from(a));
+    for p in top..pile.len() {
         if pile[p] == a {
-            return p;
+            return Some(p);
         }
-        if is_apart(table, t, bits, pile[p]) {} else {
-            return pile.len();
+        if !is_apart(table, bits, pile[p]) {
+            return None;
         }
-        p += 1;
     }
-    p
+    None
 }
 
-// The place of the letter at which rule k fires, or the buffer's length where it does not fire.
-fn firing_place(table: &[u8], t: Table, k: usize, pile: &[u8], c: Placed) -> usize
-    requires { Holds table.now t × (k < t.rules) × Stands t.letters pile.now c }
-    ensures { result ≡ firing_place (system_in table.now).loc (rule_in table.now k) pile.now c }
+// The place of the letter at which rule k fires, if it fires.
+fn firing_place(table: &Accepted, k: usize, pile: &[u8], c: Placed) -> Option<usize>
+    requires { (k < table.now.counts.rules) × Stands table.now.counts.letters pile.now c }
+    ensures { PlaceFound (length pile.now) (firing_place (system_in table.now.bytes.now).loc (rule_in table.now.bytes.now k) pile.now c) result }
 {
-    let bits = rule_bits(table, t, k);
-    let before = rule_before(table, t, k);
-    let states = c.states;
-    if groups::reads(bits, states, before) {
-        let a = rule_letter(table, t, k);
-        return find(table, t, pile, c.top, a);
+    if !groups::reads(table.rule_bits(k), c.states, table.rule_before(k)) {
+        return None;
     }
-    pile.len()
+    find(table, pile, c.top, table.rule_letter(k))
 }
 
-// Moves the letters from `top` up to p one place on, over the letter at p.
+// Moves the letters from `top` up to p one place on, over the letter at p. Neither copy_within nor a `for`: the compiler makes both a call of memmove, and the
+// header promises that the archive imports memcpy and memset alone.
 fn close_gap(pile: &mut [u8], top: usize, p: usize)
     requires { (top ≤ p) × (p < length pile.old) }
     ensures { pile.new ≡ closed pile.old top p }
@@ -87,50 +77,42 @@ fn close_gap(pile: &mut [u8], top: usize, p: usize)
     }
 }
 
-// Writes the letters of rule k from a place on, top first.
-fn write_letters(table: &[u8], t: Table, k: usize, pile: &mut [u8], at: usize)
-    requires { Holds table.now t × (k < t.rules) × (at + length (rule_in table.now k).written ≤ length pile.old) }
-    ensures { pile.new ≡ paste pile.old at (rule_in table.now k).written (length (rule_in table.now k).written) }
+// Writes the letters from a place on. No copy_from_slice, since the compiler cannot tell the table's bytes from the pile's, and makes it a call of memmove too.
+fn write_letters(pile: &mut [u8], at: usize, written: &[u8])
+    requires { at + length written.now ≤ length pile.old }
+    ensures { pile.new ≡ paste pile.old at written.now (length written.now) }
 {
-    let count = written_count(table, t, k);
-    let mut j = 0;
-    while j < count {
-        pile[at + j] = written_letter(table, t, k, j);
-        j += 1;
+    for j in 0..written.len() {
+        pile[at + j] = written[j];
     }
 }
 
-// Takes the letter at p out of the word and puts the letters of rule k in front of all that remains.
-fn rewrite(table: &[u8], t: Table, k: usize, pile: &mut [u8], top: usize, p: usize)
-    requires { Holds table.now t × (k < t.rules) × (top ≤ p) × (p < length pile.old) × (length (rule_in table.now k).written ≤ top + 1) }
-    ensures { pile.new ≡ rewritten pile.old top p (rule_in table.now k).written }
+// Takes the letter at p out of the word and puts the letters `written` in front of all that remains: those from `top` up to p move one place on.
+fn rewrite(pile: &mut [u8], top: usize, p: usize, written: &[u8])
+    requires { (top ≤ p) × (p < length pile.old) × (length written.now ≤ top + 1) }
+    ensures { pile.new ≡ rewritten pile.old top p written.now }
 {
     close_gap(pile, top, p);
-    let count = written_count(table, t, k);
-    write_letters(table, t, k, pile, top + 1 - count);
+    write_letters(pile, top + 1 - written.len(), written);
 }
 
 // Fires rule k. The length of the word after it is known before anything is moved.
-pub fn fire(table: &[u8], t: Table, k: usize, pile: &mut [u8], c: Placed) -> Firing
-    requires { Holds table.now t × (k < t.rules) × Stands t.letters pile.old c }
-    ensures { Fires ((system_in table.now).loc (rule_in table.now k).letter) (Systems.fire (system_in table.now).loc (rule_in table.now k) (configuration pile.old c)) pile.old pile.new result }
+pub fn fire(table: &Accepted, k: usize, pile: &mut [u8], c: Placed) -> Result<Fired, Stuck>
+    requires { (k < table.now.counts.rules) × Stands table.now.counts.letters pile.old c }
+    ensures { Fires ((system_in table.now.bytes.now).loc (rule_in table.now.bytes.now k).letter) (Systems.fire (system_in table.now.bytes.now).loc (rule_in table.now.bytes.now k) (configuration pile.old c)) pile.old pile.new result }
 {
-    let p = firing_place(table, t, k, pile, c);
-    if pile.len() <= p {
-        return Firing::Idle;
-    }
-    let top = c.top;
-    let count = written_count(table, t, k);
-    if top + 1 < count {
-        return Firing::Full;
-    }
-    rewrite(table, t, k, pile, top, p);
-    let processes = rule_bits(table, t, k);
-    let after = rule_after(table, t, k);
-    let states = groups::merged(processes, after, c.states);
-    let placed = Placed {
-        states,
-        top: top + 1 - count,
+    let Some(p) = firing_place(table, k, pile, c) else {
+        return Err(Stuck::Idle);
     };
-    Firing::Done(Fired { placed, processes })
+    let written = table.written(k);
+    if c.top + 1 < written.len() {
+        return Err(Stuck::Full);
+    }
+    rewrite(pile, c.top, p, written);
+    let processes = table.rule_bits(k);
+    let placed = Placed {
+        states: groups::merged(processes, table.rule_after(k), c.states),
+        top: c.top + 1 - written.len(),
+    };
+    Ok(Fired { placed, processes })
 }

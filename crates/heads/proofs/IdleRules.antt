@@ -68,9 +68,6 @@ module _ {table : List ℕ} {t : Table} {round : Round} {log s : List ℕ} (here
   no_letters [] e = refl
   no_letters (a ∷ w) e = absurd (omega arith)
 
-  pub idle_plain : length rule.written ≡ 0 → rule_offers table round k ≡ []
-  idle_plain e = none (ap fresh (no_letters rule.written e))
-
   -- ---- no record reads its first letter
   module _ {a mask state g : ℕ} (some : 0 < length rule.written) (a-is : a ≡ get_or rule.written 0 0) (mask_is : mask ≡ mask_of (loc a)) (state_is : state ≡ packed rule.after)
       (g-is : g ≡ packed_restrict mask state) where

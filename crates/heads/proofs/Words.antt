@@ -1,12 +1,12 @@
 -- The heads of rules, and their written letters, read one after the other.
-use mathlib.Core.Path.{◌≡◌, refl, ap, sym, subst, ◌∙◌}
+use mathlib.Core.Path.{◌≡◌, ap, sym, subst, ◌∙◌}
 use mathlib.Core.Bool.{Bool, true, false, cond, ◌&&◌}
 use mathlib.Core.List.{List}
 use Prim.Native.Nat.{ℕ, ◌+◌, ◌<◌}
 use native.Mathlib.Decide.{ℕ_discrete}
 use native.Mathlib.Omega.{arith}
 use lib.Dec.{eqb}
-use lib.ListN.{get_or, length, length-set, replicate, set}
+use lib.ListN.{get_or, length, length-set, set}
 use lib.Seq.{get_or-set_other, get_or-set_same}
 use borrow.Author.Tests.{eq-eqb, ne_eqb}
 use Rattle.model.specs.Tables.{written_places}
@@ -31,15 +31,6 @@ module _ (table : List ℕ) (h : Head) (k a : ℕ) (letter : a ≡ (rule_in tabl
   same_letter g e f = by_letter true (eq-eqb a h.letter e) ∙ ap (λ (x : ℕ). eqb x h.before) (sym f)
 
 -- ---- its written letters
-pub word_none : (table : List ℕ) (fresh k : ℕ) → WordTo table fresh k 0 (replicate written_places 0) (replicate written_places 0) 0
-word_none table fresh k = record {
-  letters_size = refl;
-  masks_size = refl;
-  letter = λ i h. absurd (omega arith);
-  mask = λ i h. absurd (omega arith);
-  stale = λ i h l. absurd (omega arith);
-}
-
 -- the first n numbers of a list are those of f
 abbrev Agrees : List ℕ → (ℕ → ℕ) → ℕ → Type 0
 Agrees l f n = (i : ℕ) → i < n → get_or l i 0 ≡ f i

@@ -1,11 +1,10 @@
 -- What the search for a step's first minute finds in the windows.
-use Rattle.std.specs.Prelude.{true, false, cond, List, [], ◌≡◌, ℕ, ◌+◌, ◌-◌, ◌≤◌, ◌<◌, min, leb, ltb, pos, get_or, take}
+use Rattle.std.specs.Prelude.{true, false, cond, List, [], ◌≡◌, ℕ, ◌+◌, ◌-◌, ◌≤◌, ◌<◌, leb, ltb, pos, get_or, length}
+use Rattle.std.specs.Prelude
 use Rattle.std.proofs.Math.Option.{Option, none, some}
 use Rattle.plan_model.specs.declared.Window.{Window}
 use Rattle.model.specs.Groups.{Process, has, processes_of}
-use Rattle.plan_model.specs.Hours.{PlannedStep, fits, in_window, is_open, longest_step, week_minutes, window_at}
-use Rattle.plan_model.specs.Hours.{window_places}
-use Rattle.hours.specs.declared.Waited.{Waited}
+use Rattle.plan_model.specs.Hours.{PlannedStep, fits, in_window, is_open, longest_step, week_minutes, window_at, windows_of}
 
 -- a step of the processes in bits
 abbrev pub step_by : ℕ → ℕ → PlannedStep
@@ -31,19 +30,12 @@ pub record Stays (ws : List Window) (w : Window) (r : ℕ) : Type 0 where
   pub opened : (j : ℕ) → j < r → is_open ws (pos (w.opens + j)) ≡ true
   pub shut : 0 < r → r < farthest → is_open ws (pos (w.opens + r)) ≡ false
 
--- so of the windows of a process, and of each process
-abbrev pub ProcessStays : List Window → ℕ → List ℕ → Type 0
-ProcessStays ws count stays = (k : ℕ) → k < count → Stays (take count ws) (window_at ws k) (get_or stays k 0)
+-- so of each window of a process, and of each process
+abbrev pub ProcessStays : List Window → List ℕ → Type 0
+ProcessStays ws stays = (k : ℕ) → k < length ws → Stays ws (window_at ws k) (get_or stays k 0)
 
 abbrev pub WeekStays : List (List Window) → List ℕ → List (List ℕ) → Type 0
-WeekStays hours counts stays =
-    (i : ℕ) → i < 4 → ProcessStays (get_or hours i []) (min (get_or counts i 0) window_places) (get_or stays i [])
-
--- what a search for a step of this length is given
-pub record Searched (hours : List (List Window)) (counts : List ℕ) (stays : List (List ℕ)) (length : ℕ) : Type 0 where
-  pub stay : WeekStays hours counts stays
-  pub some_minute : 0 < length
-  pub short : length ≤ longest_step
+WeekStays hours counts stays = (i : ℕ) → i < 4 → ProcessStays (windows_of hours counts i) (get_or stays i [])
 
 -- the minutes from minute m of the week to the next opening of the window
 abbrev pub until_opening : Window → ℕ → ℕ
@@ -80,7 +72,7 @@ pub record Passes (week : Process → List Window) (s : PlannedStep) (m r : ℕ)
   pub fitting : r ≡ 0 → fits week s (pos m) ≡ true
   pub misses : (e : ℕ) → e < r → fits week s (pos (m + e)) ≡ false
 
--- what the search answers
-abbrev pub waited : Option ℕ → Waited
-waited none = Waited.Never
-waited (some d) = Waited.After d
+-- a number that may be missing, as the code answers it
+abbrev pub answered : Option ℕ → Prelude.Option ℕ
+answered none = Prelude.None
+answered (some d) = Prelude.Some d

@@ -2,87 +2,70 @@
 // each for how long the process stays open from its opening on. A step then asks each window once, and passes over all that are too short for it.
 #![tactic(auto)]
 
-ghost use Rattle.std.specs.Prelude.{cond, false, ◌&&◌, ◌≡◌, ℕ, ◌+◌, ◌-◌, ◌≤◌, ◌<◌, min, leb, ltb, pos, take};
+ghost use Rattle.std.specs.Prelude.{cond, false, ◌&&◌, ◌≡◌, ℕ, ◌+◌, ◌-◌, ◌≤◌, ◌<◌, min, leb, ltb, pos, take, length};
 ghost use Rattle.model.specs.Groups.{has, processes_of};
 ghost use Rattle.model.specs.Lists.{value_or};
-ghost use Rattle.plan_model.specs.Hours.{delay, is_open, longest_step, never_fits, week_minutes, week_of, window_at, window_places};
+ghost use Rattle.plan_model.specs.Hours.{delay, is_open, longest_step, never_fits, week_minutes, week_of, window_at, window_places, windows_of};
 ghost use Rattle.table.specs.Reading.{process_at};
-ghost use Rattle.hours.specs.Searching.{OpenUntil, Passes, ProcessPasses, ProcessStays, Searched, Skips, Stays, WeekStays, step_by, until_fitting, until_opening, waited};
+ghost use Rattle.hours.specs.Searching.{OpenUntil, Passes, ProcessPasses, ProcessStays, Skips, Stays, WeekStays, answered, step_by, until_fitting, until_opening};
 
 use minutes::minute_of_week;
-use numbers::{wide, wide_two};
 use plan_model::{LONGEST_STEP, WEEK, WINDOW_PLACES, Window};
-use table::Table;
+use table::{Table, has_process};
 
 // The last minute, counted from an opening, at which a step ends that begins in the week after it.
 const FARTHEST: usize = WEEK + LONGEST_STEP as usize;
 
-// How long a step waits until its processes are open for its whole length.
+// A step of the run: its processes, a bit each, and how many minutes it lasts.
 #[derive(Clone, Copy)]
-pub enum Waited {
-    After(usize),
-    Never,
+pub struct Step {
+    pub bits: u8,
+    pub length: usize,
+    pub ghost some_minute: { 0 < length },
+    pub ghost short: { length ≤ longest_step },
+}
+
+// The opening hours of each process, and for how long it stays open from the opening of each window on.
+#[derive(Clone, Copy)]
+pub struct Openings {
+    pub hours: [[Window; WINDOW_PLACES]; Table::PROCESSES],
+    pub counts: [u8; Table::PROCESSES],
+    stays: [[u16; WINDOW_PLACES]; Table::PROCESSES],
+    ghost noted: { WeekStays hours counts stays },
 }
 
 // ---- how long a process stays open
-// The closing of a window that holds minute m, if it is later than the latest so far.
-fn later_closing(w: Window, m: usize, latest: usize) -> usize
-    ensures { result ≡ cond (leb w.opens m && ltb latest w.closes) w.closes latest }
-{
-    let opens = wide_two(w.opens);
-    let closes = wide_two(w.closes);
-    if m < opens {
-        return latest;
-    }
-    if latest < closes {
-        return closes;
-    }
-    latest
-}
-
 // The latest closing, in this week, of the windows that hold minute m; or m, where none does.
-fn open_until(windows: [Window; WINDOW_PLACES], count: usize, m: usize) -> usize
-    requires { (count ≤ window_places) × (m < week_minutes) }
-    ensures { OpenUntil (take count windows) m result }
+fn open_until(windows: &[Window], m: usize) -> usize
+    requires { m < week_minutes }
+    ensures { OpenUntil windows.now m result }
 {
     let mut latest = m;
-    let mut k = 0;
-    while k < count {
-        let w = windows[k];
-        latest = later_closing(w, m, latest);
-        k += 1;
+    for w in windows {
+        if usize::from(w.opens) <= m {
+            latest = latest.max(usize::from(w.closes));
+        }
     }
-    if WEEK < latest {
-        return WEEK;
-    }
-    latest
-}
-
-fn smaller_of(a: usize, b: usize) -> usize
-    ensures { result ≡ min a b }
-{
-    if a < b {
-        return a;
-    }
-    b
+    latest.min(WEEK)
 }
 
 // How long the process stays open from the opening of window k on, over windows that touch or overlap and over Sunday midnight; not at all where the window
 // holds no minute. It is not asked further than a step may last that begins in the week after the opening.
-fn stay_from(windows: [Window; WINDOW_PLACES], count: usize, k: usize) -> usize
-    requires { (count ≤ window_places) × (k < count) }
-    ensures { Stays (take count windows) (window_at windows k) result }
+fn stay_from(windows: &[Window], k: usize) -> usize
+    requires { k < length windows.now }
+    ensures { Stays windows.now (window_at windows.now k) result }
 {
     let w = windows[k];
-    let opens = wide_two(w.opens);
-    let closes = smaller_of(wide_two(w.closes), WEEK);
+    let opens = usize::from(w.opens);
+    let closes = usize::from(w.closes).min(WEEK);
     if closes <= opens {
         return 0;
     }
     let mut run = closes - opens;
+    // A while: its steps are of uneven length.
     while run < FARTHEST {
         let at = (opens + run) % WEEK;
-        let until = open_until(windows, count, at);
+        let until = open_until(windows, at);
         if until == at {
             return run;
         }
@@ -92,58 +75,50 @@ fn stay_from(windows: [Window; WINDOW_PLACES], count: usize, k: usize) -> usize
 }
 
 // The same of each window of a process.
-fn stays_in(windows: [Window; WINDOW_PLACES], count: usize) -> [u16; WINDOW_PLACES]
-    requires { count ≤ window_places }
-    ensures { ProcessStays windows count result }
+fn stays_in(windows: &[Window]) -> [u16; WINDOW_PLACES]
+    requires { length windows.now ≤ window_places }
+    ensures { ProcessStays windows.now result }
 {
     let mut stays = [0; WINDOW_PLACES];
-    let mut k = 0;
-    while k < count {
-        stays[k] = stay_from(windows, count, k) as u16;
-        k += 1;
+    for k in 0..windows.len() {
+        stays[k] = stay_from(windows, k) as u16;
     }
     stays
 }
 
-// A process has so many windows, whatever its count says.
-fn window_count(count: u8) -> usize
-    ensures { result ≡ min count window_places }
+// The windows of a process, as many as its count says and as there are places.
+fn counted(windows: &[Window; WINDOW_PLACES], count: u8) -> &[Window]
+    ensures { result.now ≡ take (min count window_places) windows.now }
 {
-    let n = wide(count);
-    if n < WINDOW_PLACES {
-        return n;
-    }
-    WINDOW_PLACES
+    &windows[..usize::from(count).min(WINDOW_PLACES)]
 }
 
-// The same of each process.
-pub fn stays_of(
-    hours: [[Window; WINDOW_PLACES]; Table::PROCESSES],
-    counts: [u8; Table::PROCESSES],
+// The stays of each process.
+fn stays_of(
+    hours: &[[Window; WINDOW_PLACES]; Table::PROCESSES],
+    counts: &[u8; Table::PROCESSES],
 ) -> [[u16; WINDOW_PLACES]; Table::PROCESSES]
-    ensures { WeekStays hours counts result }
+    ensures { WeekStays hours.now counts.now result }
 {
     let mut stays = [[0; WINDOW_PLACES]; Table::PROCESSES];
-    let mut i = 0;
-    while i < Table::PROCESSES {
-        let windows = hours[i];
-        stays[i] = stays_in(windows, window_count(counts[i]));
-        i += 1;
+    for i in 0..Table::PROCESSES {
+        stays[i] = stays_in(counted(&hours[i], counts[i]));
     }
     stays
 }
 
-// ---- one process, from minute m of the week on
+// ---- one process, from minute m of the week on (m is a plain number with a clause: a struct of one number would be no plainer)
 // The minutes from minute m to the next opening of a window.
 fn until_opening(w: Window, m: usize) -> usize
     requires { m < week_minutes }
     ensures { result ≡ until_opening w m }
 {
-    let opens = wide_two(w.opens);
+    let opens = usize::from(w.opens);
     if m < opens {
-        return opens - m;
+        opens - m
+    } else {
+        opens + WEEK - m
     }
-    opens + WEEK - m
 }
 
 // The minutes from minute m to the first from which the process stays open for the whole length by this window; a week where it is too short.
@@ -155,150 +130,104 @@ fn until_fitting(w: Window, stay: usize, length: usize, m: usize) -> usize
         return WEEK;
     }
     let gap = until_opening(w, m);
-    if WEEK + length <= stay + gap {
-        return 0;
-    }
-    gap
+    if WEEK + length <= stay + gap { 0 } else { gap }
 }
 
 // How many minutes are passed over: none where the process stays open for the whole length. Else it is shut in some minute of every step that begins before the
 // next opening of a window that is long enough.
-fn skip_at(
-    windows: [Window; WINDOW_PLACES],
-    stays: [u16; WINDOW_PLACES],
-    count: usize,
-    length: usize,
-    m: usize,
-) -> usize
-    requires { (count ≤ window_places) × ProcessStays windows count stays × (0 < length) × (length ≤ longest_step) × (m < week_minutes) }
-    ensures { Skips (take count windows) length m result }
+fn skip_at(windows: &[Window], stays: &[u16; WINDOW_PLACES], step: Step, m: usize) -> usize
+    requires { (length windows.now ≤ window_places) × ProcessStays windows.now stays.now × (m < week_minutes) }
+    ensures { Skips windows.now step.length m result }
 {
     let mut least = WEEK;
-    let mut k = 0;
-    while k < count {
-        let gap = until_fitting(windows[k], wide_two(stays[k]), length, m);
+    for (w, stay) in windows.iter().zip(stays) {
+        let gap = until_fitting(*w, usize::from(*stay), step.length, m);
         if gap == 0 {
             return 0;
         }
-        least = smaller_of(least, gap);
-        k += 1;
+        least = least.min(gap);
     }
     least
 }
 
 // ---- the processes of a step
-fn has_process(bits: u8, i: usize) -> bool
-    requires { i < 4 }
-    ensures { result ≡ has (processes_of bits) (process_at i) }
-{
-    (bits >> i) % 2 == 1
-}
-
-// How many minutes are passed over for process i: none where it has no part, or stays open for the whole length.
-fn skip_process(
-    hours: [[Window; WINDOW_PLACES]; Table::PROCESSES],
-    counts: [u8; Table::PROCESSES],
-    stays: [[u16; WINDOW_PLACES]; Table::PROCESSES],
-    i: usize,
-    bits: u8,
-    length: usize,
-    m: usize,
-) -> usize
-    requires { Searched hours counts stays length × (i < 4) × (m < week_minutes) }
-    ensures { ProcessPasses (week_of hours counts) (process_at i) (step_by bits length) m result }
-{
-    if has_process(bits, i) {
-        let windows = hours[i];
-        return skip_at(windows, stays[i], window_count(counts[i]), length, m);
-    }
-    0
-}
-
-// How many minutes are passed over for the processes in bits: none where all stay open for the whole length.
-fn skip_for(
-    hours: [[Window; WINDOW_PLACES]; Table::PROCESSES],
-    counts: [u8; Table::PROCESSES],
-    stays: [[u16; WINDOW_PLACES]; Table::PROCESSES],
-    bits: u8,
-    length: usize,
-    m: usize,
-) -> usize
-    requires { Searched hours counts stays length × (m < week_minutes) }
-    ensures { Passes (week_of hours counts) (step_by bits length) m result }
-{
-    let mut i = 0;
-    while i < Table::PROCESSES {
-        let minutes = skip_process(hours, counts, stays, i, bits, length, m);
-        if minutes != 0 {
-            return minutes;
-        }
-        i += 1;
-    }
-    0
-}
-
-// How long a step waits from minute m of the week on.
-fn wait_from(
-    hours: [[Window; WINDOW_PLACES]; Table::PROCESSES],
-    counts: [u8; Table::PROCESSES],
-    stays: [[u16; WINDOW_PLACES]; Table::PROCESSES],
-    bits: u8,
-    length: usize,
-    m: usize,
-) -> Waited
-    requires { Searched hours counts stays length × (m < week_minutes) }
-    ensures { result ≡ waited (delay (week_of hours counts) (step_by bits length) (pos m)) }
-{
-    let mut d = 0;
-    while d < WEEK {
-        let minutes = skip_for(hours, counts, stays, bits, length, (m + d) % WEEK);
-        if minutes == 0 {
-            return Waited::After(d);
-        }
-        d += minutes;
-    }
-    Waited::Never
-}
-
-// How many minutes after `bound` a step begins that fits some minute; 0 if it fits none.
-pub fn delay_of(
-    hours: [[Window; WINDOW_PLACES]; Table::PROCESSES],
-    counts: [u8; Table::PROCESSES],
-    stays: [[u16; WINDOW_PLACES]; Table::PROCESSES],
-    bits: u8,
-    length: usize,
-    bound: i64,
-) -> usize
-    requires { Searched hours counts stays length }
-    ensures { (result ≡ value_or 0 (λ (d : ℕ). d) (delay (week_of hours counts) (step_by bits length) bound)) × (result < week_minutes) }
-{
-    match wait_from(hours, counts, stays, bits, length, minute_of_week(bound)) {
-        Waited::After(d) => {
-            return d;
-        }
-        Waited::Never => {
-            return 0;
+impl Openings {
+    // Notes for how long each process stays open.
+    pub fn new(
+        hours: &[[Window; WINDOW_PLACES]; Table::PROCESSES],
+        counts: &[u8; Table::PROCESSES],
+    ) -> Openings
+        ensures { (result.hours ≡ hours.now) × (result.counts ≡ counts.now) }
+    {
+        Openings {
+            hours: *hours,
+            counts: *counts,
+            stays: stays_of(hours, counts),
         }
     }
-}
 
-// A step of this length fits no minute of any week.
-pub fn fits_never(
-    hours: [[Window; WINDOW_PLACES]; Table::PROCESSES],
-    counts: [u8; Table::PROCESSES],
-    stays: [[u16; WINDOW_PLACES]; Table::PROCESSES],
-    bits: u8,
-    length: usize,
-) -> bool
-    requires { Searched hours counts stays length }
-    ensures { result ≡ never_fits (week_of hours counts) (step_by bits length) }
-{
-    match wait_from(hours, counts, stays, bits, length, 0) {
-        Waited::After(_) => {
-            return false;
+    // The windows of process i that count.
+    fn windows(&self, i: usize) -> &[Window]
+        requires { i < 4 }
+        ensures { result.now ≡ windows_of self.now.hours self.now.counts i }
+    {
+        counted(&self.hours[i], self.counts[i])
+    }
+
+    // How many minutes are passed over for process i: none where it has no part, or stays open for the whole length.
+    fn skip_process(&self, i: usize, step: Step, m: usize) -> usize
+        requires { (i < 4) × (m < week_minutes) }
+        ensures { ProcessPasses (week_of self.now.hours self.now.counts) (process_at i) (step_by step.bits step.length) m result }
+    {
+        if has_process(step.bits, i) {
+            skip_at(self.windows(i), &self.stays[i], step, m)
+        } else {
+            0
         }
-        Waited::Never => {
-            return true;
+    }
+
+    // How many minutes are passed over for the processes of the step: none where all stay open for the whole length.
+    fn skip_for(&self, step: Step, m: usize) -> usize
+        requires { m < week_minutes }
+        ensures { Passes (week_of self.now.hours self.now.counts) (step_by step.bits step.length) m result }
+    {
+        for i in 0..Table::PROCESSES {
+            let minutes = self.skip_process(i, step, m);
+            if minutes != 0 {
+                return minutes;
+            }
         }
+        0
+    }
+
+    // How long a step waits from minute m of the week on, if it ever fits.
+    fn wait_from(&self, step: Step, m: usize) -> Option<usize>
+        requires { m < week_minutes }
+        ensures { result ≡ answered (delay (week_of self.now.hours self.now.counts) (step_by step.bits step.length) (pos m)) }
+    {
+        let mut d = 0;
+        // A while: its steps are of uneven length.
+        while d < WEEK {
+            let minutes = self.skip_for(step, (m + d) % WEEK);
+            if minutes == 0 {
+                return Some(d);
+            }
+            d += minutes;
+        }
+        None
+    }
+
+    // How many minutes after `bound` a step begins that fits some minute; 0 if it fits none.
+    pub fn delay_of(&self, step: Step, bound: i64) -> usize
+        ensures { (result ≡ value_or 0 (λ (d : ℕ). d) (delay (week_of self.now.hours self.now.counts) (step_by step.bits step.length) bound)) × (result < week_minutes) }
+    {
+        self.wait_from(step, minute_of_week(bound)).unwrap_or(0)
+    }
+
+    // The step fits no minute of any week.
+    pub fn fits_never(&self, step: Step) -> bool
+        ensures { result ≡ never_fits (week_of self.now.hours self.now.counts) (step_by step.bits step.length) }
+    {
+        self.wait_from(step, 0).is_none()
     }
 }

@@ -14,6 +14,7 @@ pub fn fill<R: Read>(from: &mut R, buffer: &mut [u8]) -> io::Result<usize>
     ensures bytes { IfOk result (λ n. Consumes (R.remaining from.old) (R.remaining from.new) (take n buffer.new)) }
     ensures whole { IfOk result (λ n. n < length buffer.new → IsAtEnd (R.remaining from.new)) }
 {
+    // A read gives any number of bytes, so the loop counts no turns.
     let mut end = 0;
     while end < buffer.len() {
         let n = from.read(&mut buffer[end..])?;

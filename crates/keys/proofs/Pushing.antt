@@ -1,24 +1,17 @@
 -- Laws of adding: an index without records, and one with a record more in front of its bucket.
 use mathlib.Core.Path.{◌≡◌, sym, subst, ◌∙◌}
-use mathlib.Core.Logic.{◌⊎◌, inl, inr, ⊎_elim}
+use mathlib.Core.Logic.{◌⊎◌, inr, ⊎_elim}
 use mathlib.Core.List.{List}
 use Prim.Native.Nat.{ℕ, suc, ◌+◌, ◌*◌, ◌<◌, ◌≤◌}
 use native.Mathlib.Decide.{ℕ_discrete}
 use native.Mathlib.Omega.{arith}
 use lib.ListN.{length}
 use Rattle.numbers.proofs.NumberBytes.{length_number}
-use Rattle.rings.specs.Rings.{no_link, link_place, link_at, OutsideSame, Unlinked, NoTail, Greatest, with_link}
-use Rattle.rings.proofs.Links.{link_other, link_same, outside_join, outside_link, outside_wider}
+use Rattle.rings.specs.Rings.{no_link, link_place, link_at, OutsideSame, NoTail, Greatest, with_link}
+use Rattle.rings.proofs.Links.{link_other, link_same, outside_join, outside_link}
 use Rattle.rings.proofs.NewRecord.{tail_more}
 use Rattle.keys.specs.Keys.{key_bucket_at, in_key_bucket, KeyRoom, Indexed, pushed}
 use Rattle.keys.proofs.Buckets.{in_other, in_own, own_below}
-
--- no first record, and none in the index
-pub unlinked_index : {n at : ℕ} {s t : List ℕ} (log : List ℕ) → Unlinked n at s t → OutsideSame (4 * n) at s t × Indexed log 0 n at t
-unlinked_index {n} log w = (
-  outside_wider (2 * n) (4 * n) (omega arith) w.same,
-  record { first = λ k q. inl (record { is = w.none k q; none = λ j a b. absurd (omega arith) }); next = λ r q. absurd (omega arith) },
-)
 
 -- record r in front of its bucket
 module _ (log : List ℕ) (n at r : ℕ) (s : List ℕ) (short : n ≤ no_link) (room : at + 4 * n ≤ length s) (lr : r < n) (w : Indexed log r n at s) where

@@ -3,7 +3,7 @@ use mathlib.Core.Path.{◌≡◌, refl, ap, sym, subst, ◌∙◌}
 use mathlib.Core.Bool.{Bool, true, false, ◌||◌, or-true}
 use mathlib.Core.Logic.{◌⊎◌, ⊎_elim}
 use mathlib.Core.List.{List}
-use Prim.Native.Nat.{ℕ, zero, suc, ◌+◌, ◌%◌, ◌<◌, ◌≤◌}
+use Prim.Native.Nat.{ℕ, zero, suc, ◌+◌, ◌<◌, ◌≤◌}
 use native.Mathlib.Decide.{ℕ_discrete, dec_lt}
 use native.Mathlib.Omega.{arith}
 use Rattle.rings.specs.Rings.{no_link, link_at, NoneIn, NoTail, Greatest}
@@ -74,7 +74,3 @@ module _ {log : List ℕ} {base n letter g x r : ℕ} (w : Seeking log base n le
           (λ j p q. elim (dec_lt j w.till) [ yes y ↦ none_keyed log n letter g x (suc r) w.till here.behind j p y | no y ↦ w.none j (omega arith) q ]);
       link = behind;
     }
-
-    -- the links fall, and no link counts as the least
-    pub seeking_less : base ≤ no_link → (k + 1) % 65536 < (r + 1) % 65536
-    seeking_less short = ⊎_elim (λ a. omega (arith, a.is, seeking_below)) (λ a. omega (arith, a.below, seeking_below)) behind

@@ -9,7 +9,6 @@ ghost use Rattle.records.specs.Entries.{HasRecord};
 ghost use Rattle.rings.specs.Rings.{no_link, OutsideSame};
 ghost use Rattle.keys.specs.Keys.{key_bucket_of, key_bucket_at, has_key, held_below, KeyRoom, Indexed, pushed};
 
-use numbers::as_u64;
 use packs::{after_at, before_at, number};
 use records::letter_at;
 use rings::{MIXER, NO_LINK, link_at, matches, put_link, scaled, unlink};
@@ -17,23 +16,28 @@ use rings::{MIXER, NO_LINK, link_at, matches, put_link, scaled, unlink};
 const END_MIXER: u64 = 506952111;
 
 // The bucket of a letter, the states before and the number x of the states after.
+#[tactic(auto, unfolding(crate::specs::Keys::key_bucket_of))]
 fn bucket(n: usize, letter: u8, g: u32, x: usize) -> usize
     requires { (0 < n) × (n ≤ no_link) × (x < state_count) }
     ensures { (result ≡ key_bucket_of n letter g x) × (result < n) }
 {
     scaled(
         n,
-        (as_u64(g) + 8 * (letter as u64)) * MIXER + (x as u64) * END_MIXER,
+        (u64::from(g) + 8 * u64::from(letter)) * MIXER + (x as u64) * END_MIXER,
     )
 }
 
+#[tactic(auto, unfolding(crate::specs::Keys::key_bucket_at))]
 fn record_bucket(log: &[u8], n: usize, r: usize) -> usize
     requires { (0 < n) × (n ≤ no_link) × HasRecord log.now r }
     ensures { (result ≡ key_bucket_at log.now n r) × (result < n) }
 {
-    let g = before_at(log, r);
-    let x = number(after_at(log, r));
-    bucket(n, letter_at(log, r), g, x)
+    bucket(
+        n,
+        letter_at(log, r),
+        before_at(log, r),
+        number(after_at(log, r)),
+    )
 }
 
 // No record is in the index.
@@ -45,6 +49,7 @@ pub fn clear(log: &[u8], scratch: &mut [u8], at: usize, n: usize)
 }
 
 // Puts record r in front of its bucket.
+#[tactic(auto, unfolding(crate::specs::Keys::pushed))]
 fn push(log: &[u8], scratch: &mut [u8], at: usize, n: usize, r: usize)
     requires { KeyRoom log.now (r + 1) n at scratch.old }
     ensures { scratch.new ≡ pushed log.now n at scratch.old r }
@@ -60,10 +65,8 @@ pub fn append(log: &[u8], scratch: &mut [u8], at: usize, n: usize, from: usize, 
     requires { (from ≤ to) × KeyRoom log.now to n at scratch.old × Indexed log.now from n at scratch.old }
     ensures { OutsideSame (4 * n) at scratch.old scratch.new × Indexed log.now to n at scratch.new }
 {
-    let mut r = from;
-    while r < to {
+    for r in from..to {
         push(log, scratch, at, n, r);
-        r += 1;
     }
 }
 
@@ -72,11 +75,7 @@ fn has_key(log: &[u8], r: usize, letter: u8, g: u32, x: usize) -> bool
     requires { HasRecord log.now r }
     ensures { result ≡ has_key log.now letter g x r }
 {
-    if !matches(log, r, letter, g) {
-        return false;
-    }
-    let end = number(after_at(log, r));
-    x == end
+    matches(log, r, letter, g) && x == number(after_at(log, r))
 }
 
 // Some record below base reads the letter with the states g before and has the end x.

@@ -10,12 +10,12 @@ use lib.ListN.{length}
 use Rattle.model.specs.Records.{record_length, letter_at}
 use Rattle.model.proofs.Tests.{by_test}
 use Rattle.numbers.proofs.NumberBytes.{AllBytes, length_number, number_kept}
-use Rattle.rings.specs.Rings.{no_link, link_place, link_at, Unlinked, RingRoom, with_link}
+use Rattle.rings.specs.Rings.{no_link, link_place, link_at, RingRoom, with_link}
 use Rattle.rings.proofs.Links.{link_other, link_same, outside_link}
 use Rattle.scratch.specs.Regions.{rings_at, keys_at, leaders_at}
-use Rattle.leaders.specs.Leaders.{leader_of, leader_among, FirstBelow, Chained, OutsideLeaders, LeadersChained, with_leader, with_record}
+use Rattle.leaders.specs.Leaders.{leader_of, leader_among, FirstBelow, Chained, OutsideLeaders, with_leader, with_record}
 use Rattle.leaders.proofs.Leaders.{leader_none, leader_other, among_asked, among_of, among_own}
-use Rattle.leaders.proofs.Chains.{outside_firsts, outside_leaders_join, outside_leaders_none, outside_nexts}
+use Rattle.leaders.proofs.Chains.{outside_firsts, outside_leaders_join, outside_nexts}
 
 -- ---- the first number
 none_below : (test : ℕ → Bool) (from base x : ℕ) → base ≤ from → base ≤ x → FirstBelow test from base x
@@ -102,17 +102,6 @@ pub record Chaining (log : List ℕ) (letters count n : ℕ) (s t : List ℕ) (r
   pub outside : OutsideLeaders n s t
   pub chained : Chained log letters r count n t
 
-pub chaining_start : {count : ℕ} {s t : List ℕ} (log : List ℕ) (letters n : ℕ) → count ≤ no_link → Unlinked 256 leaders_at s t → Chaining log letters count n t t count
-chaining_start {count} {s} {t} log letters n short u = record {
-  within = omega arith;
-  small = λ k l. omega (arith, u.none k l);
-  outside = outside_leaders_none n t;
-  chained = record {
-    first = λ letter l m. none_below (leader_of log letter) count count (link_at t leaders_at letter) (omega arith) (omega (arith, u.none letter l));
-    next = λ r h l i m. absurd (omega arith);
-  };
-}
-
 chaining_step : {log : List ℕ} {letters count n : ℕ} {s t : List ℕ} (r : ℕ) → count ≤ n → n ≤ no_link → keys_at n + 2 * n ≤ length s → letter_at log r < 256 → Chaining log letters count n s t (r + 1)
     → Chaining log letters count n s (with_record log letters n t r) r
 unfolding with_record with_leader
@@ -134,9 +123,3 @@ unfolding letter_at
 chaining_turn {log} {letters} {count} {n} {s} {t} {r} rings room bytes l w =
     let e : r ≡ r - 1 + 1 = omega arith in
     chaining_step (r - 1) rings.fits rings.short room (bytes ((r - 1) * record_length)) (subst (Chaining log letters count n s t) e w)
-
-pub chaining_end : {log : List ℕ} {letters count n : ℕ} {s t u : List ℕ} {r : ℕ} → Unlinked 256 leaders_at s t → Chaining log letters count n t u r → r ≡ 0 → LeadersChained log letters count n s u
-chaining_end {log} {letters} {count} {n} {u = u} none w e = record {
-  outside = outside_leaders_join (outside_firsts n none.same) w.outside;
-  chained = subst (λ (k : ℕ). Chained log letters k count n u) e w.chained;
-}

@@ -10,7 +10,7 @@ ghost use Rattle.leaders.specs.Leaders.{Linked, leader_among, LeadersChained, wi
 
 use packs::before_at;
 use records::letter_at;
-use rings::{first_match, link_at, matches, put_link, unlink};
+use rings::{Rings, link_at, matches, put_link, unlink};
 use scratch::{LEADERS, RINGS, keys_at};
 
 // The record before r reads the letter with the states g before.
@@ -18,10 +18,7 @@ fn is_alike(log: &[u8], r: usize, letter: u8, g: u32) -> bool
     requires { HasRecord log.now r }
     ensures { result ≡ ltb 0 r && record_reads log.now letter g (r - 1) }
 {
-    if r == 0 {
-        return false;
-    }
-    matches(log, r - 1, letter, g)
+    r != 0 && matches(log, r - 1, letter, g)
 }
 
 // Record r is the least with its letter, one of these, and its states before. Most that are not have one like them right before them.
@@ -37,28 +34,30 @@ fn is_leader(log: &[u8], scratch: &[u8], n: usize, count: usize, letters: u32, r
     if is_alike(log, r, letter, g) {
         return false;
     }
-    first_match(log, scratch, RINGS, n, count, letter, g) == r
+    Rings::new(log, scratch, RINGS, n, count).first_match(letter, g) == r
 }
 
 // Puts record r in front of the leaders of a letter.
+#[tactic(auto, unfolding(crate::specs::Leaders::with_leader))]
 fn push(scratch: &mut [u8], n: usize, letter: u8, r: usize)
     requires { (keys_at n + 2 * n ≤ length scratch.old) × (r < n) × (n ≤ no_link) }
     ensures { scratch.new ≡ with_leader n scratch.old letter r }
 {
-    let first = link_at(scratch, LEADERS, letter as usize);
+    let letter = usize::from(letter);
+    let first = link_at(scratch, LEADERS, letter);
     put_link(scratch, keys_at(n), r, first);
-    put_link(scratch, LEADERS, letter as usize, r);
+    put_link(scratch, LEADERS, letter, r);
 }
 
 // Puts record r in front of its letter's leaders if it is one, and its letter one of these.
+#[tactic(auto, unfolding(crate::specs::Leaders::with_record))]
 fn chain(log: &[u8], scratch: &mut [u8], n: usize, count: usize, letters: u32, r: usize)
     requires { Linked log.now count n scratch.old × (r < count) × (keys_at n + 2 * n ≤ length scratch.old) }
     ensures { scratch.new ≡ with_record log.now letters n scratch.old r }
 {
-    if !is_leader(log, scratch, n, count, letters, r) {
-        return;
+    if is_leader(log, scratch, n, count, letters, r) {
+        push(scratch, n, letter_at(log, r), r);
     }
-    push(scratch, n, letter_at(log, r), r);
 }
 
 // Chains the leaders of the letters whose bits, of 32, are in `letters`.
@@ -67,19 +66,17 @@ pub fn chain_leaders(log: &[u8], scratch: &mut [u8], n: usize, count: usize, let
     ensures { LeadersChained log.now letters count n scratch.old scratch.new }
 {
     unlink(scratch, LEADERS, 256);
-    let mut r = count;
-    while 0 < r {
-        r -= 1;
+    for r in (0..count).rev() {
         chain(log, scratch, n, count, letters, r);
     }
 }
 
-// The first leader of a letter, and the one behind leader r; where there is none, no record.
+// The first leader of a letter, and the one behind leader r; where there is none, no record, as the two bytes of the link say it.
 pub fn first_leader(scratch: &[u8], letter: u8) -> usize
     requires { leaders_end ≤ length scratch.now }
     ensures { result ≡ link_at scratch.now leaders_at letter }
 {
-    link_at(scratch, LEADERS, letter as usize)
+    link_at(scratch, LEADERS, usize::from(letter))
 }
 
 pub fn next_leader(scratch: &[u8], n: usize, r: usize) -> usize

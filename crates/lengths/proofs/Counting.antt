@@ -1,6 +1,5 @@
 -- The letters of a word join the lengths one by one.
 use mathlib.Core.Path.{◌≡◌, ◌∙◌, ap, subst}
-use mathlib.Core.Bool.{Bool, false, true}
 use mathlib.Core.List.{List, [], ◌∷◌}
 use Prim.Native.Nat.{ℕ, ◌+◌, ◌<◌, ◌≤◌}
 use native.Mathlib.Numerals.{add-one}
@@ -8,29 +7,21 @@ use native.Mathlib.Omega.{arith}
 use lib.ListN.{get_or, length, take}
 use lib.Seq.{length-take-le, take_all, take-suc}
 use Rattle.model.specs.Groups.{Process, Processes, bit, has, processes_of}
-use Rattle.model.specs.Systems.{Rule}
 use Rattle.model.specs.Words.{project}
+use Rattle.model.proofs.Groups.{bit_low}
 use Rattle.model.proofs.Peak.{append_length, project_length}
 use Rattle.model.proofs.Tests.{each_process}
 use Rattle.table.specs.Reading.{BitsOf}
-use Rattle.lengths.specs.declared.Lengths.{Lengths}
-use Rattle.lengths.specs.Projections.{Change, Joined, LengthsOf, Rest, AtMost, length_at}
-
-bit_small : (b : Bool) → bit b ≤ 1
-bit_small true = omega arith
-bit_small false = omega arith
+use Rattle.lengths.specs.Projections.{Lengths, Joined, LengthsOf, Rest, AtMost, length_at}
 
 pub project_shorter : (loc : ℕ → Processes) (i : Process) (w : List ℕ) → length (project loc i w) ≤ length w
 project_shorter loc i [] = omega arith
-project_shorter loc i (a ∷ w) = omega (arith, project_length loc i a w, project_shorter loc i w, bit_small (has (loc a) i))
+project_shorter loc i (a ∷ w) = omega (arith, project_length loc i a w, project_shorter loc i w, bit_low (has (loc a) i))
 
 -- the first k letters of w have joined
 pub record Counting (loc : ℕ → Processes) (w : List ℕ) (l₀ l : Lengths) (k : ℕ) : Type 0 where
   pub inside : k ≤ length w
   pub lengths : (i : Process) → length_at l i ≡ length_at l₀ i + length (project loc i (take k w))
-
-pub counting_start : (loc : ℕ → Processes) (w : List ℕ) (l : Lengths) → Counting loc w l l 0
-counting_start loc w l = record { inside = omega arith; lengths = λ i. omega arith }
 
 module _ {loc : ℕ → Processes} {w : List ℕ} {l₀ l : Lengths} {k : ℕ} (c : Counting loc w l₀ l k) where
   pub counting_within : {m n : ℕ} → AtMost m l₀ → m + length w ≤ n → AtMost n l
@@ -57,7 +48,7 @@ module _ {loc : ℕ → Processes} {w : List ℕ} {l₀ l : Lengths} {k : ℕ} (
 
 -- ---- from no letter on
 abbrev pub none : Lengths
-none = record { s0 = 0; s1 = 0; s2 = 0; s3 = 0 }
+none = 0 ∷ 0 ∷ 0 ∷ 0 ∷ []
 
 pub none_within : AtMost 0 none
 none_within = each_process _ (omega arith) (omega arith) (omega arith) (omega arith)
@@ -68,9 +59,3 @@ counted_word c all i = omega (arith, counting_end c all i, none_within i)
 -- ---- from the letter that a rule reads on
 pub rest_within : (L : Processes) (l : Lengths) → Rest L l → AtMost 1 l
 rest_within L l rest i = omega (arith, rest i)
-
-pub counted_change : {loc : ℕ → Processes} (r : Rule) {l₀ l : Lengths} {a bits k : ℕ} → a ≡ r.letter → BitsOf (loc a) bits → Rest (processes_of bits) l₀ → Counting loc r.written l₀ l k
-    → length r.written ≤ k → Change loc r (length_at l)
-counted_change {loc} r {l₀} is of rest-bits c all i =
-    let rest : Rest (loc r.letter) l₀ = subst (λ (L : Processes). Rest L l₀) (of.same ∙ ap loc is) rest-bits in
-    omega (arith, rest i, counting_end c all i)

@@ -1,3 +1,2 @@
-pub mod Bits
 pub mod Counting
-pub mod Noting
+pub mod Turning

@@ -1,18 +1,17 @@
 -- The lengths of the processes' projections, and what a rule makes of them.
-use Rattle.std.specs.Prelude.{◌≡◌, List, ℕ, ◌+◌, ◌*◌, ◌^◌, ◌<◌, ◌≤◌, max, get_or, length, set}
-use Rattle.model.specs.Groups.{Process, Processes, bit, has, p0, p1, p2, p3}
+use Rattle.std.specs.Prelude.{◌≡◌, List, [], ℕ, ◌+◌, ◌^◌, ◌<◌, ◌≤◌, max, get_or, length}
+use Rattle.model.specs.Groups.{Process, Processes, bit, has, number_of}
 use Rattle.model.specs.Systems.{Rule}
 use Rattle.model.specs.Tables.{ceiling}
 use Rattle.model.specs.Words.{project}
 use Rattle.table.specs.Reading.{rule_in, system_in}
-use Rattle.lengths.specs.declared.Lengths.{Lengths}
 
--- the number of a process
+-- a number for each process; that of one of them
+abbrev pub Lengths : Type 0
+Lengths = List ℕ
+
 abbrev pub length_at : Lengths → Process → ℕ
-length_at l p0 = l.s0
-length_at l p1 = l.s1
-length_at l p2 = l.s2
-length_at l p3 = l.s3
+length_at l i = get_or l (number_of i) 0
 
 -- none is greater than k
 abbrev pub AtMost : ℕ → Lengths → Type 0
@@ -49,29 +48,14 @@ Change loc r f = (i : Process) → f i + bit (has (loc r.letter) i) ≡ 1 + leng
 abbrev pub rule_ceiling : ℕ
 rule_ceiling = ceiling 3
 
-abbrev pub changes_length : ℕ
-changes_length = 4 * rule_ceiling
-
--- where process i's change by rule k stands
-abbrev pub change_place : ℕ → Process → ℕ
-change_place k p0 = 4 * k
-change_place k p1 = 4 * k + 1
-change_place k p2 = 4 * k + 2
-change_place k p3 = 4 * k + 3
-
-abbrev pub noted : List ℕ → ℕ → Process → ℕ
-noted changes k i = get_or changes (change_place k i) 0
+-- process i's change by rule k
+abbrev pub noted : List Lengths → ℕ → Process → ℕ
+noted changes k = length_at (get_or changes k [])
 
 -- with them the lengths are numbers of 32 bits
-abbrev pub Addable : List ℕ → ℕ → Lengths → Type 0
+abbrev pub Addable : List Lengths → ℕ → Lengths → Type 0
 Addable changes k l = (i : Process) → length_at l i + noted changes k i < 2 ^ 32
 
-unfoldable pub with_change : List ℕ → ℕ → Lengths → List ℕ
-with_change changes k l =
-    set (set (set (set changes (change_place k p0) l.s0) (change_place k p1) l.s1) (change_place k p2) l.s2)
-    (change_place k p3) l.s3
-
 -- those of the rules below n
-pub record ChangesNoted (table : List ℕ) (n : ℕ) (changes : List ℕ) : Type 0 where
-  pub size : length changes ≡ changes_length
+pub record ChangesNoted (table : List ℕ) (n : ℕ) (changes : List Lengths) : Type 0 where
   pub rule : (k : ℕ) → k < n → Change (system_in table).loc (rule_in table k) (noted changes k)

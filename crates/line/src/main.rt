@@ -8,7 +8,7 @@ ghost use Rattle.listing.specs.Listing.{is_reachable};
 
 use input::fill;
 use listing::{put_answer, put_ran};
-use model::Answered;
+use model::{Refusal, Verdict};
 use reach::answer_and_run;
 use records::RECORD_LENGTH;
 use scratch::{NEEDED, NEEDED_PER_RECORD};
@@ -24,27 +24,10 @@ const TEXT: usize = 65536;
 // The records that the log can hold.
 const RECORDS: usize = 2000;
 
-fn is_reachable(answered: Answered) -> bool
+fn is_reachable(answered: Result<Verdict, Refusal>) -> bool
     ensures { result ≡ is_reachable answered }
 {
-    match answered {
-        Answered::Reachable {
-            transitions,
-            rounds,
-            steps,
-        } => {
-            return true;
-        }
-        Answered::Unreachable {
-            transitions,
-            rounds,
-        } => {
-            return false;
-        }
-        Answered::Refused { number, place } => {
-            return false;
-        }
-    }
+    matches!(answered, Ok(Verdict::Reachable { .. }))
 }
 
 // Document 01's text for an input: the answer's lines, and behind a reachable answer the run's. The table is saturated once.
@@ -59,11 +42,9 @@ fn respond(
     ensures { (take result out.new ≡ line_text input.now) × (result ≤ length out.new) }
 {
     let both = answer_and_run(input, log, scratch, page);
-    let answered = both.answered;
-    let ran = both.ran;
-    let end = put_answer(out, 0, answered);
-    if is_reachable(answered) {
-        return put_ran(out, end, ran, page);
+    let end = put_answer(out, 0, both.answered);
+    if is_reachable(both.answered) {
+        return put_ran(out, end, both.ran, page);
     }
     end
 }

@@ -8,9 +8,11 @@ use native.Mathlib.Omega.{arith}
 use lib.Dec.{ltb}
 use lib.ListN.{length, take, replicate, length-replicate}
 use borrow.Author.Tests.{ltb-false}
-use Rattle.model.specs.declared.Answered.{Answered}
-use Rattle.model.specs.declared.Ran.{Ran}
-use Rattle.model.specs.Calls.{answer_call, answer_given, capacity, is_long, page_after, run_call, run_given, run_of, run_refusal, run_verdict, scratch_for, scratch_needed, start_path}
+use Rattle.std.specs.Prelude.{Result, Ok, Err}
+use Rattle.model.specs.declared.Refusal.{Refusal}
+use Rattle.model.specs.declared.Run.{Run}
+use Rattle.model.specs.declared.Verdict.{Verdict}
+use Rattle.model.specs.Calls.{answer_call, answer_given, capacity, is_long, page_after, run_call, run_given, run_of, refused_by, run_verdict, scratch_for, scratch_needed, start_path}
 use Rattle.model.specs.Records.{record_length}
 use Rattle.model.specs.Copies.{with_copy}
 use Rattle.model.specs.Log.{Path, limit, longest_run}
@@ -28,10 +30,10 @@ unfolding answer_call
 answer_lengths input log scratch log' scratch' l s = ap₂ (answer_given (read input)) l s
 
 -- a refused run lists nothing of the page, and any other leaves zeros behind the run
-page_lengths : (g : Ran) (run page page' : List ℕ) → length page ≡ length page' → run_lines g (page_after (run_refusal g) run page) ≡ run_lines g (page_after (run_refusal g) run page')
+page_lengths : (g : Result Run Refusal) (run page page' : List ℕ) → length page ≡ length page' → run_lines g (page_after (refused_by g) run page) ≡ run_lines g (page_after (refused_by g) run page')
 unfolding run_lines page_after
-page_lengths (Ran.Reached t r s p) run page page' h = ap (λ (n : ℕ). run_lines (Ran.Reached t r s p) (run ++ replicate (n - length run) 0)) h
-page_lengths (Ran.Refused number place) run page page' h = refl
+page_lengths (Ok x) run page page' h = ap (λ (n : ℕ). run_lines (Ok x) (run ++ replicate (n - length run) 0)) h
+page_lengths (Err r) run page page' h = refl
 
 -- what the run call lists
 abbrev ran_lines : List ℕ → List ℕ → List ℕ → List ℕ → List ℕ
@@ -43,12 +45,12 @@ run_lengths input log scratch page log' scratch' page' l s p =
     let given = run_given (read input) (length log) (length scratch) (length page) in
     let given' = run_given (read input) (length log') (length scratch') (length page') in
     let same : given ≡ given' = rw (l, s, p) in
-    page_lengths given (run_of (read input)) page page' p ∙ ap (λ (g : Ran). run_lines g (page_after (run_refusal g) (run_of (read input)) page')) same
+    page_lengths given (run_of (read input)) page page' p ∙ ap (λ (g : Result Run Refusal). run_lines g (page_after (refused_by g) (run_of (read input)) page')) same
 
 text_lengths : (input log scratch page log' scratch' page' : List ℕ) → length log ≡ length log' → length scratch ≡ length scratch' → length page ≡ length page' → text_with input log scratch page ≡ text_with input log' scratch' page'
 unfolding text_with listing
 text_lengths input log scratch page log' scratch' page' l s p =
-    ap₂ (λ (a : Answered) (ran : List ℕ). answer_lines a ++ cond (is_reachable a) ran []) (answer_lengths input log scratch log' scratch' l s) (run_lengths input log scratch page log' scratch' page' l s p)
+    ap₂ (λ (a : Result Verdict Refusal) (ran : List ℕ). answer_lines a ++ cond (is_reachable a) ran []) (answer_lengths input log scratch log' scratch' l s) (run_lengths input log scratch page log' scratch' page' l s p)
 
 zeros_length : (n : ℕ) → n ≡ length (replicate {A = ℕ} n 0)
 zeros_length n = sym (length-replicate {A = ℕ} n 0)
@@ -60,14 +62,14 @@ text_of input log scratch page b =
     (b.page_length ∙ zeros_length 10000)
 
 -- ---- a reachable answer with the run behind it, or another answer alone, is the whole text
-module _ (input log scratch page : List ℕ) (a : Answered) (b : Lent log scratch page) (e : a ≡ (answer_call input log scratch).answer) where
+module _ (input log scratch page : List ℕ) (a : Result Verdict Refusal) (b : Lent log scratch page) (e : a ≡ (answer_call input log scratch).answer) where
   text_is : answer_lines a ++ cond (is_reachable a) (ran_lines input log scratch page) [] ≡ line_text input
   unfolding text_with listing
-  text_is = ap (λ (x : Answered). answer_lines x ++ cond (is_reachable x) (ran_lines input log scratch page) []) e ∙ text_of input log scratch page b
+  text_is = ap (λ (x : Result Verdict Refusal). answer_lines x ++ cond (is_reachable x) (ran_lines input log scratch page) []) e ∙ text_of input log scratch page b
 
-  pub text_with_run : is_reachable a ≡ true → {ran : Ran} {left : List ℕ} → ran ≡ (run_call input log scratch page).answer → left ≡ (run_call input log scratch page).page
+  pub text_with_run : is_reachable a ≡ true → {ran : Result Run Refusal} {left : List ℕ} → ran ≡ (run_call input log scratch page).answer → left ≡ (run_call input log scratch page).page
       → answer_lines a ++ run_lines ran left ≡ line_text input
-  text_with_run y r l = let t = text_is in ap₂ (λ (x : Ran) (p : List ℕ). answer_lines a ++ run_lines x p) r l ∙ rw y at t
+  text_with_run y r l = let t = text_is in ap₂ (λ (x : Result Run Refusal) (p : List ℕ). answer_lines a ++ run_lines x p) r l ∙ rw y at t
 
   pub text_alone : is_reachable a ≡ false → answer_lines a ≡ line_text input
   text_alone n = let t = text_is in sym (append-nil (answer_lines a)) ∙ rw n at t

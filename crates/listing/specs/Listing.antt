@@ -1,9 +1,10 @@
 -- Document 01, "Small tables": the text that the program `line` writes, as a list of bytes.
-use Rattle.std.specs.Prelude.{Bool, true, false, cond, List, [], ◌∷◌, ◌++◌, ℕ, zero, suc, ◌+◌, ◌/◌, ◌%◌, ltb, take}
+use Rattle.std.specs.Prelude.{Bool, true, false, cond, List, [], ◌∷◌, ◌++◌, ℕ, zero, suc, ◌+◌, ◌/◌, ◌%◌, ltb, take, Result, Ok, Err}
 use Prim.Native.Char.{code}
 use Prim.Native.String.{String, [] as end, ◌∷◌ as ◌then◌}
-use Rattle.model.specs.declared.Answered.{Answered}
-use Rattle.model.specs.declared.Ran.{Ran}
+use Rattle.model.specs.declared.Refusal.{Refusal}
+use Rattle.model.specs.declared.Run.{Run}
+use Rattle.model.specs.declared.Verdict.{Verdict}
 
 -- the bytes of a text in ASCII
 abbrev pub ascii : String → List ℕ
@@ -32,11 +33,11 @@ unfoldable pub refused_line : ℕ → ℕ → List ℕ
 refused_line number place = ascii "refused " ++ decimal number ++ line (ascii " at ") place
 
 -- "Unreachable ends after rounds"
-unfoldable pub answer_lines : Answered → List ℕ
-answer_lines (Answered.Reachable transitions rounds steps) =
+unfoldable pub answer_lines : Result Verdict Refusal → List ℕ
+answer_lines (Ok (Verdict.Reachable transitions rounds steps)) =
     counted (ascii "answer reachable\n") transitions rounds ++ line (ascii "steps ") steps
-answer_lines (Answered.Unreachable transitions rounds) = counted (ascii "answer unreachable\n") transitions rounds
-answer_lines (Answered.Refused number place) = refused_line number place
+answer_lines (Ok (Verdict.Unreachable transitions rounds)) = counted (ascii "answer unreachable\n") transitions rounds
+answer_lines (Err r) = refused_line r.number r.place
 
 -- rule numbers, each after a space
 abbrev pub spaced : List ℕ → List ℕ
@@ -49,21 +50,21 @@ run_line rules = ascii "run" ++ spaced rules ++ ascii "\n"
 
 -- the peak and the rule numbers, which stand first on the page, as many as steps; "on refusal 11 `run refused 11`
 -- follows steps"
-unfoldable pub run_lines : Ran → List ℕ → List ℕ
-run_lines (Ran.Reached transitions rounds steps peak) page = line (ascii "peak ") peak ++ run_line (take steps page)
-run_lines (Ran.Refused number place) page = line (ascii "run refused ") number
+unfoldable pub run_lines : Result Run Refusal → List ℕ → List ℕ
+run_lines (Ok run) page = line (ascii "peak ") run.peak ++ run_line (take run.steps page)
+run_lines (Err r) page = line (ascii "run refused ") r.number
 
 -- how many rule numbers are listed
-abbrev pub listed : Ran → ℕ
-listed (Ran.Reached transitions rounds steps peak) = steps
-listed (Ran.Refused number place) = 0
+abbrev pub listed : Result Run Refusal → ℕ
+listed (Ok run) = run.steps
+listed (Err r) = 0
 
 -- whether the run's lines follow: behind a reachable answer only
-abbrev pub is_reachable : Answered → Bool
-is_reachable (Answered.Reachable transitions rounds steps) = true
-is_reachable (Answered.Unreachable transitions rounds) = false
-is_reachable (Answered.Refused number place) = false
+abbrev pub is_reachable : Result Verdict Refusal → Bool
+is_reachable (Ok (Verdict.Reachable transitions rounds steps)) = true
+is_reachable (Ok (Verdict.Unreachable transitions rounds)) = false
+is_reachable (Err r) = false
 
 -- the whole text
-unfoldable pub listing : Answered → Ran → List ℕ → List ℕ
+unfoldable pub listing : Result Verdict Refusal → Result Run Refusal → List ℕ → List ℕ
 listing answered ran page = answer_lines answered ++ cond (is_reachable answered) (run_lines ran page) []

@@ -1,10 +1,9 @@
 -- Document 01, "Small tables": what the program `line` writes for them, as one table of inputs and texts, with one
 -- theorem.
-use Rattle.std.specs.Prelude.{◌≡◌, refl, List, [], ◌∷◌, ◌++◌, map, ℕ, suc}
+use Rattle.std.specs.Prelude.{◌≡◌, refl, List, [], ◌∷◌, ◌++◌, map, ℕ, suc, Ok}
 use mathlib.Core.Path.{ap}
 use Prim.Native.String.{String}
-use Rattle.model.specs.declared.Answered.{Answered}
-use Rattle.model.specs.declared.Ran.{Ran}
+use Rattle.model.specs.declared.Verdict.{Verdict}
 use Rattle.model.specs.Groups.{greatest, same_group, restrict, merge}
 use Rattle.model.specs.Words.{tops}
 use Rattle.model.specs.Systems.{enabled, fire}
@@ -13,7 +12,7 @@ use Rattle.model.specs.Tables.{is_out_of_turn, group_fits, transition_fits, writ
 use Rattle.model.specs.Tables.{is_reentry, is_twin, refusal, read_from, read, system_of}
 use Rattle.model.specs.Log.{reads_at, key_less, same_key, additions, log_at, first_saturated, saturated_at}
 use Rattle.model.specs.Unfolding.{accepting_path, emitted_by}
-use Rattle.model.specs.Calls.{records_of, run_of, page_after, answer_given, answer_call, run_given, run_call}
+use Rattle.model.specs.Calls.{refuse, records_of, run_of, page_after, answer_given, answer_call, run_given, run_call}
 use Rattle.model.specs.SmallTables.{head_T, rules01_T, rule2_T, accepting_T, start_T, table_T, re_entry, staying}
 use Rattle.model.specs.SmallTables.{doubling, roast, short_bodies_T}
 use Rattle.listing.specs.LineText.{line_text, text_with}
@@ -78,12 +77,12 @@ long_number : decimal 524287 ≡ ascii "524287"
 unfolding decimal
 long_number = six_digits 524281
 
-long_lines : listing (Answered.Reachable 19 19 524287) (Ran.Refused 11 0) []
+long_lines : listing (Ok (Verdict.Reachable 19 19 524287)) (refuse 11 0) []
     ≡ (counted (ascii "answer reachable\n") 19 19 ++ (ascii "steps " ++ ascii "524287" ++ ascii "\n")) ++ line (ascii "run refused ") 11
 unfolding listing answer_lines run_lines line
 long_lines = ap (λ (d : List ℕ). (counted (ascii "answer reachable\n") 19 19 ++ (ascii "steps " ++ d ++ ascii "\n")) ++ line (ascii "run refused ") 11) long_number
 
-pub long_run : listing (Answered.Reachable 19 19 524287) (Ran.Refused 11 0) []
+pub long_run : listing (Ok (Verdict.Reachable 19 19 524287)) (refuse 11 0) []
     ≡ ascii "answer reachable\ntransitions 19\nrounds 19\nsteps 524287\nrun refused 11\n"
 unfolding counted line decimal
 long_run = long_lines

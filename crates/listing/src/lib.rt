@@ -6,18 +6,16 @@ ghost use Rattle.std.specs.Prelude.{◌++◌, ◌+◌, ◌*◌, ◌≤◌, lengt
 ghost use Rattle.listing.specs.Listing.{ascii, decimal, line, counted, refused_line, answer_lines, spaced, run_line, run_lines, listed};
 ghost use Rattle.listing.specs.Puts.{Puts};
 
-use model::{Answered, Ran};
+use model::{Refusal, Run, Verdict};
 
+#[tactic(auto, unfolding(crate::specs::Puts::with_text))]
 fn put_bytes(out: &mut [u8], at: usize, bytes: &[u8]) -> usize
     requires { at + length bytes.now ≤ length out.old }
     ensures { Puts out.old at bytes.now (length bytes.now) result out.new }
 {
-    let mut i = 0;
-    while i < bytes.len() {
-        out[at + i] = bytes[i];
-        i += 1;
-    }
-    at + i
+    let end = at + bytes.len();
+    out[at..end].copy_from_slice(bytes);
+    end
 }
 
 // The decimal digits, of which a number of 64 bits has at most 20.
@@ -51,38 +49,38 @@ fn put_counted(out: &mut [u8], at: usize, verdict: &[u8], transitions: u32, roun
     put_line(out, third, b"rounds ", rounds as u64)
 }
 
-fn put_refused(out: &mut [u8], at: usize, number: u8, place: usize) -> usize
+fn put_refused(out: &mut [u8], at: usize, refusal: Refusal) -> usize
     requires { at + 53 ≤ length out.old }
-    ensures { Puts out.old at (refused_line number place) 53 result out.new }
+    ensures { Puts out.old at (refused_line refusal.number refusal.place) 53 result out.new }
 {
     let digits = put_bytes(out, at, b"refused ");
-    let rest = put_number(out, digits, number as u64);
-    put_line(out, rest, b" at ", place as u64)
+    let rest = put_number(out, digits, refusal.number as u64);
+    put_line(out, rest, b" at ", refusal.place as u64)
 }
 
 // The answer's lines have at most 128 bytes.
-pub fn put_answer(out: &mut [u8], at: usize, answered: Answered) -> usize
+pub fn put_answer(out: &mut [u8], at: usize, answered: Result<Verdict, Refusal>) -> usize
     requires { at + 128 ≤ length out.old }
     ensures { Puts out.old at (answer_lines answered) 128 result out.new }
 {
     match answered {
-        Answered::Reachable {
-            transitions,
-            rounds,
-            steps,
-        } => {
+        Ok(
+            Verdict::Reachable {
+                transitions,
+                rounds,
+                steps,
+            },
+        ) => {
             let last = put_counted(out, at, b"answer reachable\n", transitions, rounds);
-            return put_line(out, last, b"steps ", steps as u64);
+            put_line(out, last, b"steps ", steps as u64)
         }
-        Answered::Unreachable {
-            transitions,
-            rounds,
-        } => {
-            return put_counted(out, at, b"answer unreachable\n", transitions, rounds);
-        }
-        Answered::Refused { number, place } => {
-            return put_refused(out, at, number, place);
-        }
+        Ok(
+            Verdict::Unreachable {
+                transitions,
+                rounds,
+            },
+        ) => put_counted(out, at, b"answer unreachable\n", transitions, rounds),
+        Err(refusal) => put_refused(out, at, refusal),
     }
 }
 
@@ -101,10 +99,8 @@ fn put_rules(out: &mut [u8], at: usize, rules: &[u16]) -> usize
     ensures { Puts out.old at (spaced rules.now) (6 * length rules.now) result out.new }
 {
     let mut end = at;
-    let mut i = 0;
-    while i < rules.len() {
-        end = put_rule(out, end, rules[i]);
-        i += 1;
+    for &rule in rules {
+        end = put_rule(out, end, rule);
     }
     end
 }
@@ -119,23 +115,15 @@ fn put_run(out: &mut [u8], at: usize, rules: &[u16]) -> usize
 }
 
 // The run's lines have at most 64 bytes and 6 for each place of the page.
-pub fn put_ran(out: &mut [u8], at: usize, ran: Ran, page: &[u16]) -> usize
+pub fn put_ran(out: &mut [u8], at: usize, ran: Result<Run, Refusal>, page: &[u16]) -> usize
     requires { (listed ran ≤ length page.now) × (at + 6 * length page.now + 64 ≤ length out.old) }
     ensures { Puts out.old at (run_lines ran page.now) (6 * length page.now + 64) result out.new }
 {
     match ran {
-        Ran::Reached {
-            transitions,
-            rounds,
-            steps,
-            peak,
-        } => {
-            let last = put_line(out, at, b"peak ", peak as u64);
-            let count = steps as usize;
-            return put_run(out, last, &page[0..count]);
+        Ok(reached) => {
+            let last = put_line(out, at, b"peak ", reached.peak as u64);
+            put_run(out, last, &page[0..reached.steps as usize])
         }
-        Ran::Refused { number, place } => {
-            return put_line(out, at, b"run refused ", number as u64);
-        }
+        Err(refusal) => put_line(out, at, b"run refused ", refusal.number as u64),
     }
 }

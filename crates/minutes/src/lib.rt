@@ -20,11 +20,7 @@ const LAST_START: i64 = 1000000;
 pub fn minute_of_week(t: i64) -> usize
     ensures { result ≡ minute_of_week t }
 {
-    let r = t % SIGNED_WEEK;
-    if r < 0 {
-        return (r + SIGNED_WEEK) as usize;
-    }
-    r as usize
+    t.rem_euclid(SIGNED_WEEK) as usize
 }
 
 // The minute that is d minutes after t.
@@ -32,26 +28,20 @@ pub fn after(t: i64, d: usize) -> i64
     requires { SFits w64 (t +ℤ pos d) × (d < 2 ^ 63) }
     ensures { result ≡ t +ℤ pos d }
 {
-    let minutes = d as i64;
-    t + minutes
+    t + d as i64
 }
 
 // The later of two minutes.
 pub fn later_of(a: i64, b: i64) -> i64
     ensures { result ≡ later_of a b }
 {
-    if a < b {
-        return b;
-    }
-    a
+    a.max(b)
 }
 
 // The plan's start lies between -1,000,000 and 1,000,000.
+#[tactic(auto, unfolding(plan_model::specs::Hours::start_fits))]
 pub fn start_fits(start: i64) -> bool
     ensures { result ≡ start_fits start }
 {
-    if start < FIRST_START {
-        return false;
-    }
-    start <= LAST_START
+    (FIRST_START..=LAST_START).contains(&start)
 }

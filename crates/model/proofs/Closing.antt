@@ -8,7 +8,7 @@ use native.Mathlib.Omega.{arith}
 use lib.Dec.{ltb}
 use lib.ListN.{get_elem?, length, replicate}
 use borrow.Author.Tests.{le-leb, ne_eqb}
-use Rattle.model.specs.Calls.{answer_call, answer_given, answer_refusal, changes_nothing, filled, log_after, page_after, records_of, run_call, run_given, run_of, run_refusal, scratch_after, step_by, step_to, walk_call, walk_from, walk_given, walk_refusal, walk_scratch, zeros}
+use Rattle.model.specs.Calls.{answer_call, answer_given, changes_nothing, filled, log_after, page_after, records_of, refused_by, run_call, run_given, run_of, scratch_after, step_by, step_to, walk_call, walk_from, walk_given, walk_scratch, zeros}
 use Rattle.model.specs.Lists.{value_or}
 use Rattle.model.specs.Log.{Record}
 use Rattle.model.specs.Systems.{Configuration, Rule, System, fire}
@@ -48,39 +48,39 @@ page_untouched zero run page e = absurd (true≢false (sym e))
 page_untouched (suc n) run page e = rw (ne_eqb (suc n) 0 (λ z. omega arith))
 
 pub answer_closes : (table log scratch : List ℕ)
-    → (changes_nothing (answer_refusal (answer_call table log scratch).answer) ≡ true → ((answer_call table log scratch).log ≡ log) × ((answer_call table log scratch).scratch ≡ scratch))
-    × (changes_nothing (answer_refusal (answer_call table log scratch).answer) ≡ false → (answer_call table log scratch).scratch ≡ zeros scratch)
+    → (changes_nothing (refused_by (answer_call table log scratch).answer) ≡ true → ((answer_call table log scratch).log ≡ log) × ((answer_call table log scratch).scratch ≡ scratch))
+    × (changes_nothing (refused_by (answer_call table log scratch).answer) ≡ false → (answer_call table log scratch).scratch ≡ zeros scratch)
 unfolding answer_call
 answer_closes table log scratch =
-    let number = answer_refusal (answer_given (read table) (length log) (length scratch)) in
+    let number = refused_by (answer_given (read table) (length log) (length scratch)) in
     ((λ e. (log_untouched number (records_of (read table)) log e, scratch_untouched number scratch e)), scratch_zero number scratch)
 
 pub run_closes : (table log scratch page : List ℕ)
-    → (changes_nothing (run_refusal (run_call table log scratch page).answer) ≡ true
+    → (changes_nothing (refused_by (run_call table log scratch page).answer) ≡ true
     → ((run_call table log scratch page).log ≡ log) × ((run_call table log scratch page).scratch ≡ scratch) × ((run_call table log scratch page).page ≡ page))
-    × (changes_nothing (run_refusal (run_call table log scratch page).answer) ≡ false → (run_call table log scratch page).scratch ≡ zeros scratch)
+    × (changes_nothing (refused_by (run_call table log scratch page).answer) ≡ false → (run_call table log scratch page).scratch ≡ zeros scratch)
 unfolding run_call
 run_closes table log scratch page =
-    let number = run_refusal (run_given (read table) (length log) (length scratch) (length page)) in
+    let number = refused_by (run_given (read table) (length log) (length scratch) (length page)) in
     ((λ e. (log_untouched number (records_of (read table)) log e, scratch_untouched number scratch e, page_untouched number (run_of (read table)) page e)), scratch_zero number scratch)
 
 -- once a walk has begun it is refused by none of the numbers that change nothing
-late : (sys : System) (size step : ℕ) (ns : List ℕ) (c : Configuration) → changes_nothing (walk_refusal (walk_from sys size step ns c).answer) ≡ true → ⊥
+late : (sys : System) (size step : ℕ) (ns : List ℕ) (c : Configuration) → changes_nothing (refused_by (walk_from sys size step ns c).answer) ≡ true → ⊥
 late sys size step [] c e = true≢false (sym e)
 late sys size step (n ∷ ns) c e = by_rule (λ d. late sys size (step + 1) ns d) (get_elem? sys.rules n) e
   where
-    by_step : ((d : Configuration) → changes_nothing (walk_refusal (walk_from sys size (step + 1) ns d).answer) ≡ true → ⊥) → (o : Option Configuration)
-        → changes_nothing (walk_refusal (step_to (λ d. walk_from sys size (step + 1) ns d) size step (n ∷ ns) c o).answer) ≡ true → ⊥
+    by_step : ((d : Configuration) → changes_nothing (refused_by (walk_from sys size (step + 1) ns d).answer) ≡ true → ⊥) → (o : Option Configuration)
+        → changes_nothing (refused_by (step_to (λ d. walk_from sys size (step + 1) ns d) size step (n ∷ ns) c o).answer) ≡ true → ⊥
     by_step later none e = true≢false (sym e)
     by_step later (some d) e = by_test (ltb size (length d.word)) (λ y. true≢false (sym (rw y at e))) (λ m. later d (rw m at e))
 
-    by_rule : ((d : Configuration) → changes_nothing (walk_refusal (walk_from sys size (step + 1) ns d).answer) ≡ true → ⊥) → (o : Option Rule)
-        → changes_nothing (walk_refusal (step_by (λ d. walk_from sys size (step + 1) ns d) sys.loc size step (n ∷ ns) c o).answer) ≡ true → ⊥
+    by_rule : ((d : Configuration) → changes_nothing (refused_by (walk_from sys size (step + 1) ns d).answer) ≡ true → ⊥) → (o : Option Rule)
+        → changes_nothing (refused_by (step_by (λ d. walk_from sys size (step + 1) ns d) sys.loc size step (n ∷ ns) c o).answer) ≡ true → ⊥
     by_rule later none e = true≢false (sym e)
     by_rule later (some r) e = by_step later (fire sys.loc r c) e
 
 -- a walk that is refused before its first step leaves the pile
-pile_untouched : (table list pile : List ℕ) (r : Reading) (scratch : ℕ) → changes_nothing (walk_refusal (walk_given r list (length pile) scratch).answer) ≡ true
+pile_untouched : (table list pile : List ℕ) (r : Reading) (scratch : ℕ) → changes_nothing (refused_by (walk_given r list (length pile) scratch).answer) ≡ true
     → value_or pile (λ (w : List ℕ). filled w pile) (walk_given r list (length pile) scratch).pile ≡ pile
 unfolding walk_given
 pile_untouched table list pile (refused number place) scratch e = refl
@@ -91,9 +91,9 @@ pile_untouched table list pile (accepted items) scratch e = by_test (ltb scratch
     (λ m. absurd (late (system_of items) (length pile) 0 list (system_of items).start (rw (n, m) at e))))
 
 pub walk_closes : (table list pile scratch : List ℕ)
-    → (changes_nothing (walk_refusal (walk_call table list pile scratch).answer) ≡ true → ((walk_call table list pile scratch).pile ≡ pile) × ((walk_call table list pile scratch).scratch ≡ scratch))
-    × (changes_nothing (walk_refusal (walk_call table list pile scratch).answer) ≡ false → (walk_call table list pile scratch).scratch ≡ zeros scratch)
+    → (changes_nothing (refused_by (walk_call table list pile scratch).answer) ≡ true → ((walk_call table list pile scratch).pile ≡ pile) × ((walk_call table list pile scratch).scratch ≡ scratch))
+    × (changes_nothing (refused_by (walk_call table list pile scratch).answer) ≡ false → (walk_call table list pile scratch).scratch ≡ zeros scratch)
 unfolding walk_call
 walk_closes table list pile scratch =
-    let number = walk_refusal (walk_given (read table) list (length pile) (length scratch)).answer in
+    let number = refused_by (walk_given (read table) list (length pile) (length scratch)).answer in
     ((λ e. (pile_untouched table list pile (read table) (length scratch) e, scratch_untouched number scratch e)), scratch_zero number scratch)

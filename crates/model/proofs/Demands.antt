@@ -10,9 +10,11 @@ use lib.Dec.{ltb}
 use lib.ListN.{length, replicate, take}
 use lib.Seq.{take_at}
 use borrow.Author.Tests.{le-ltb, lt-ltb, ltb-false, ltb-true}
-use Rattle.model.specs.declared.Answered.{Answered}
-use Rattle.model.specs.declared.Ran.{Ran}
-use Rattle.model.specs.Calls.{answer_call, answer_given, capacity, filled, is_long, page_after, run_call, run_given, run_of, run_refusal, run_verdict, scratch_needed, start_path, verdict}
+use Rattle.std.specs.Prelude.{Result, Ok}
+use Rattle.model.specs.declared.Refusal.{Refusal}
+use Rattle.model.specs.declared.Run.{Run}
+use Rattle.model.specs.declared.Verdict.{Verdict}
+use Rattle.model.specs.Calls.{answer_call, answer_given, capacity, filled, is_long, page_after, refuse, refused_by, run_found, run_call, run_given, run_of, run_verdict, scratch_needed, start_path, verdict}
 use Rattle.model.specs.Copies.{with_copy}
 use Rattle.model.specs.Demands.{StepsCounted, Decided, Demand3, LogServes, LogShort, NoRun, ScratchServes, TooLong}
 use Rattle.model.specs.Log.{Path, Record, limit, rounds, saturated_at, steps_cap, longest_run}
@@ -59,11 +61,11 @@ counts_emitted sys n p e c =
 
 -- ---- what the calls give under the premises
 module _ (table log scratch : List ℕ) (items : List Item) (e : read table ≡ accepted items) (serves : ScratchServes log scratch) where
-  answer_serves : LogServes (saturated_of items) log → (answer_call table log scratch).answer ≡ verdict (limit (saturated_of items)) (start_path (saturated_of items))
+  answer_serves : LogServes (saturated_of items) log → (answer_call table log scratch).answer ≡ Ok (verdict (limit (saturated_of items)) (start_path (saturated_of items)))
   unfolding answer_call answer_given
   answer_serves l = rw (e, le-ltb (length scratch) (scratch_needed (length log)) serves, le-ltb (capacity (length log)) (length (limit (saturated_of items))) l)
 
-  answer_lacks : LogShort (saturated_of items) log → (answer_call table log scratch).answer ≡ Answered.Refused 10 0
+  answer_lacks : LogShort (saturated_of items) log → (answer_call table log scratch).answer ≡ refuse 10 0
   unfolding answer_call answer_given
   answer_lacks l = rw (e, le-ltb (length scratch) (scratch_needed (length log)) serves, lt-ltb (capacity (length log)) (length (limit (saturated_of items))) l)
 
@@ -71,11 +73,11 @@ module _ (table log scratch : List ℕ) (items : List Item) (e : read table ≡ 
   unfolding run_call run_given
   run_serves page l = rw (e, le-ltb (length scratch) (scratch_needed (length log)) serves, le-ltb (capacity (length log)) (length (limit (saturated_of items))) l)
 
-  run_lacks : (page : List ℕ) → LogShort (saturated_of items) log → (run_call table log scratch page).answer ≡ Ran.Refused 10 0
+  run_lacks : (page : List ℕ) → LogShort (saturated_of items) log → (run_call table log scratch page).answer ≡ refuse 10 0
   unfolding run_call run_given
   run_lacks page l = rw (e, le-ltb (length scratch) (scratch_needed (length log)) serves, lt-ltb (capacity (length log)) (length (limit (saturated_of items))) l)
 
-  pub page_after_lem : (page : List ℕ) (p : Path) → start_path (saturated_of items) ≡ some p → run_refusal (run_call table log scratch page).answer ≡ 0
+  pub page_after_lem : (page : List ℕ) (p : Path) → start_path (saturated_of items) ≡ some p → refused_by (run_call table log scratch page).answer ≡ 0
       → (run_call table log scratch page).page ≡ filled (emitted (limit (saturated_of items)) p.numbers) page
   unfolding run_call page_after run_of
   page_after_lem page p q z = rw z (rw (e, q))
@@ -94,11 +96,11 @@ pub take_run : (run page : List ℕ) → take (length run) (filled run page) ≡
 take_run run page = take_at run (replicate (length page - length run) 0) (length run) refl
 
 -- ---- demand 3 under both premises, by the start's path
-module _ (sys : System) (page : List ℕ) (answer : Answered) (ran : Ran) (left : List ℕ) where
-  decided_none : start_path (with_copy sys) ≡ none → NoRun sys → answer ≡ verdict (limit (with_copy sys)) none → ran ≡ Ran.Refused 16 0 → Decided sys page answer ran left
+module _ (sys : System) (page : List ℕ) (answer : Result Verdict Refusal) (ran : Result Run Refusal) (left : List ℕ) where
+  decided_none : start_path (with_copy sys) ≡ none → NoRun sys → answer ≡ Ok (verdict (limit (with_copy sys)) none) → ran ≡ refuse 16 0 → Decided sys page answer ran left
   decided_none e never a r = record {
     unreachable = ((λ q. a), (λ q. never));
-    reachable = ((λ j. absurd (never j.0 j.1)), (λ q. absurd (let z : ◌≡◌ {A = ℕ} 0 1 = cc q.2 in omega arith)));
+    reachable = ((λ j. absurd (never j.0 j.1)), (λ q. absurd (let z : ◌≡◌ {A = ℕ} 0 1 = cc in omega arith)));
     long = λ n k. absurd (none_some k.path k.is);
     given = λ n k. absurd (none_some k.path k.is);
     no_run = ((λ q. r), (λ q. never));
@@ -108,8 +110,8 @@ module _ (sys : System) (page : List ℕ) (answer : Answered) (ran : Ran) (left 
       none_some p q = let z : ◌≡◌ {A = ℕ} 0 1 = cc in omega arith
 
   module _ (p : Path) (e : start_path (with_copy sys) ≡ some p) (joins : Joins sys sys.start (emitted (limit (with_copy sys)) p.numbers))
-      (a : answer ≡ verdict (limit (with_copy sys)) (some p)) (r : ran ≡ run_verdict sys (length page) (some p))
-      (l : run_refusal ran ≡ 0 → left ≡ filled (emitted (limit (with_copy sys)) p.numbers) page) where
+      (a : answer ≡ Ok (verdict (limit (with_copy sys)) (some p))) (r : ran ≡ run_verdict sys (length page) (some p))
+      (l : refused_by ran ≡ 0 → left ≡ filled (emitted (limit (with_copy sys)) p.numbers) page) where
     abbrev figure : ℕ
     figure = path_steps (limit (with_copy sys)) p.numbers
 
@@ -120,23 +122,23 @@ module _ (sys : System) (page : List ℕ) (answer : Answered) (ran : Ran) (left 
         (same, steps_figure (with_copy sys) p e ∙ ap (λ (m : ℕ). min m steps_cap) (sym long), long)
 
     -- refused as long, or not
-    long_run : (n : ℕ) (k : StepsCounted (with_copy sys) n) → TooLong n page → ran ≡ Ran.Refused 11 0
+    long_run : (n : ℕ) (k : StepsCounted (with_copy sys) n) → TooLong n page → ran ≡ refuse 11 0
     long_run n k t = r ∙ rw ((steps_are n k).1, long_of n (length page) t)
 
     short_figure : (n : ℕ) (k : StepsCounted (with_copy sys) n) → (TooLong n page → ⊥) → is_long figure (length page) ≡ false
     short_figure n k f = by_test (is_long figure (length page)) (λ y. absurd (f (long_true n (length page) (subst (λ (m : ℕ). is_long m (length page) ≡ true) (steps_are n k).1 y)))) (λ z. z)
 
-    refused_long : (n : ℕ) (k : StepsCounted (with_copy sys) n) → ran ≡ Ran.Refused 11 0 → TooLong n page
+    refused_long : (n : ℕ) (k : StepsCounted (with_copy sys) n) → ran ≡ refuse 11 0 → TooLong n page
     refused_long n k q = by_test (is_long figure (length page))
         (λ y. long_true n (length page) (subst (λ (m : ℕ). is_long m (length page) ≡ true) (steps_are n k).1 y))
-        (λ z. absurd (let reached : Ran.Reached (length (limit (with_copy sys))) (rounds (limit (with_copy sys))) figure (peak sys (emitted (limit (with_copy sys)) p.numbers) sys.start) ≡ Ran.Refused 11 0 = sym (r ∙ rw z) ∙ q in
+        (λ z. absurd (let reached : Ok (run_found sys (limit (with_copy sys)) p) ≡ refuse 11 0 = sym (r ∙ rw z) ∙ q in
         let bad : ◌≡◌ {A = ℕ} 0 1 = cc in omega arith))
 
     -- the figure is exact where the run is not too long
     exact : (n : ℕ) → (TooLong n page → ⊥) → min n steps_cap ≡ n
     exact n f = by_test (ltb longest_run n) (λ y. absurd (f (inr (ltb-true longest_run n y)))) (λ z. let le : n ≤ longest_run = ltb-false longest_run n z in omega arith)
 
-    given_run : (n : ℕ) (k : StepsCounted (with_copy sys) n) → (TooLong n page → ⊥) → ran ≡ Ran.Reached (length (limit (with_copy sys))) (rounds (limit (with_copy sys))) n (peak sys k.run sys.start)
+    given_run : (n : ℕ) (k : StepsCounted (with_copy sys) n) → (TooLong n page → ⊥) → ran ≡ Ok (record { transitions = length (limit (with_copy sys)); rounds = rounds (limit (with_copy sys)); steps = n; peak = peak sys k.run sys.start })
     given_run n k f = r ∙ rw (short_figure n k f, (steps_are n k).1, exact n f, (steps_are n k).0)
 
     given_page : (n : ℕ) (k : StepsCounted (with_copy sys) n) → (TooLong n page → ⊥) → Joins sys sys.start (take n left)
@@ -154,23 +156,23 @@ module _ (sys : System) (page : List ℕ) (answer : Answered) (ran : Ran) (left 
       no_run = ((λ never. absurd (never (emitted (limit (with_copy sys)) p.numbers) joins)), (λ q. absurd (not_16 q)));
     }
       where
-        not_16 : ran ≡ Ran.Refused 16 0 → ⊥
+        not_16 : ran ≡ refuse 16 0 → ⊥
         not_16 q = by_test (is_long figure (length page))
-            (λ y. let bad : Ran.Refused 11 0 ≡ Ran.Refused 16 0 = sym (r ∙ rw y) ∙ q in let z : ◌≡◌ {A = ℕ} 11 16 = cc in omega arith)
-            (λ n. let bad : Ran.Reached (length (limit (with_copy sys))) (rounds (limit (with_copy sys))) figure (peak sys (emitted (limit (with_copy sys)) p.numbers) sys.start) ≡ Ran.Refused 16 0 = sym (r ∙ rw n) ∙ q in
+            (λ y. let bad : refuse 11 0 ≡ refuse 16 0 = sym (r ∙ rw y) ∙ q in let z : ◌≡◌ {A = ℕ} 11 16 = ap refused_by bad in omega arith)
+            (λ n. let bad : Ok (run_found sys (limit (with_copy sys)) p) ≡ refuse 16 0 = sym (r ∙ rw n) ∙ q in
             let z : ◌≡◌ {A = ℕ} 0 1 = cc in omega arith)
 
 -- ---- a short log, and nowhere else
 -- no verdict is a refusal 10
-verdict_no_10 : (log : List Record) (o : Option Path) → verdict log o ≡ Answered.Refused 10 0 → ⊥
+verdict_no_10 : (log : List Record) (o : Option Path) → Ok (verdict log o) ≡ refuse 10 0 → ⊥
 verdict_no_10 log none e = let z : ◌≡◌ {A = ℕ} 0 1 = cc in omega arith
 verdict_no_10 log (some p) e = let z : ◌≡◌ {A = ℕ} 0 1 = cc in omega arith
 
-run_no_10 : (sys : System) (m : ℕ) (o : Option Path) → run_verdict sys m o ≡ Ran.Refused 10 0 → ⊥
-run_no_10 sys m none e = let z : ◌≡◌ {A = ℕ} 16 10 = cc in omega arith
+run_no_10 : (sys : System) (m : ℕ) (o : Option Path) → run_verdict sys m o ≡ refuse 10 0 → ⊥
+run_no_10 sys m none e = let z : ◌≡◌ {A = ℕ} 16 10 = ap refused_by e in omega arith
 run_no_10 sys m (some p) e = by_test (is_long (path_steps (limit (with_copy sys)) p.numbers) m)
-    (λ y. let bad : Ran.Refused 11 0 ≡ Ran.Refused 10 0 = rw y at e in let z : ◌≡◌ {A = ℕ} 11 10 = cc in omega arith)
-    (λ n. let bad : Ran.Reached (length (limit (with_copy sys))) (rounds (limit (with_copy sys))) (path_steps (limit (with_copy sys)) p.numbers) (peak sys (emitted (limit (with_copy sys)) p.numbers) sys.start) ≡ Ran.Refused 10 0 = rw n at e in
+    (λ y. let bad : refuse 11 0 ≡ refuse 10 0 = rw y at e in let z : ◌≡◌ {A = ℕ} 11 10 = ap refused_by bad in omega arith)
+    (λ n. let bad : Ok (run_found sys (limit (with_copy sys)) p) ≡ refuse 10 0 = rw n at e in
     let z : ◌≡◌ {A = ℕ} 0 1 = cc in omega arith)
 
 -- a call that gives 10 past the table's checks has enough scratch and too short a log
@@ -182,21 +184,21 @@ module _ (A : Type 0) (refuse : ℕ → A) (distinct : refuse 15 ≡ refuse 10 �
       (λ y. (ltb-false scratchLength needed n, ltb-true room records y))
       (λ m. absurd (not-10 (rw (n, m) at e))))
 
-answer_only_short : (reading : Reading) (log scratch : List ℕ) → Numbered9 reading → answer_given reading (length log) (length scratch) ≡ Answered.Refused 10 0
+answer_only_short : (reading : Reading) (log scratch : List ℕ) → Numbered9 reading → answer_given reading (length log) (length scratch) ≡ refuse 10 0
     → (items : List Item) × (reading ≡ accepted items) × ScratchServes log scratch × LogShort (saturated_of items) log
 unfolding answer_given
-answer_only_short (refused n p) log scratch h e = absurd (let is : n ≡ 10 = cc in omega (arith, h.1))
+answer_only_short (refused n p) log scratch h e = absurd (let is : n ≡ 10 = ap refused_by e in omega (arith, h.1))
 answer_only_short (accepted items) log scratch h e =
-    let s = only_short Answered (λ n. Answered.Refused n 0) (λ q. let z : ◌≡◌ {A = ℕ} 15 10 = cc in omega arith) (length scratch) (scratch_needed (length log)) (capacity (length log)) (length (limit (saturated_of items)))
-    (verdict (limit (saturated_of items)) (start_path (saturated_of items))) (verdict_no_10 (limit (saturated_of items)) (start_path (saturated_of items))) e in
+    let s = only_short (Result Verdict Refusal) (λ n. refuse n 0) (λ q. let z : ◌≡◌ {A = ℕ} 15 10 = ap refused_by q in omega arith) (length scratch) (scratch_needed (length log)) (capacity (length log)) (length (limit (saturated_of items)))
+    (Ok (verdict (limit (saturated_of items)) (start_path (saturated_of items)))) (verdict_no_10 (limit (saturated_of items)) (start_path (saturated_of items))) e in
     (items, refl, s.0, s.1)
 
-run_only_short : (reading : Reading) (log scratch page : List ℕ) → Numbered9 reading → run_given reading (length log) (length scratch) (length page) ≡ Ran.Refused 10 0
+run_only_short : (reading : Reading) (log scratch page : List ℕ) → Numbered9 reading → run_given reading (length log) (length scratch) (length page) ≡ refuse 10 0
     → (items : List Item) × (reading ≡ accepted items) × ScratchServes log scratch × LogShort (saturated_of items) log
 unfolding run_given
-run_only_short (refused n p) log scratch page h e = absurd (let is : n ≡ 10 = cc in omega (arith, h.1))
+run_only_short (refused n p) log scratch page h e = absurd (let is : n ≡ 10 = ap refused_by e in omega (arith, h.1))
 run_only_short (accepted items) log scratch page h e =
-    let s = only_short Ran (λ n. Ran.Refused n 0) (λ q. let z : ◌≡◌ {A = ℕ} 15 10 = cc in omega arith) (length scratch) (scratch_needed (length log)) (capacity (length log)) (length (limit (saturated_of items)))
+    let s = only_short (Result Run Refusal) (λ n. refuse n 0) (λ q. let z : ◌≡◌ {A = ℕ} 15 10 = ap refused_by q in omega arith) (length scratch) (scratch_needed (length log)) (capacity (length log)) (length (limit (saturated_of items)))
     (run_verdict (system_of items) (length page) (start_path (saturated_of items))) (run_no_10 (system_of items) (length page) (start_path (saturated_of items))) e in
     (items, refl, s.0, s.1)
 
@@ -209,11 +211,11 @@ decided_by table log scratch page items e s l = split (start_path (saturated_of 
         → Decided (system_of items) page (answer_call table log scratch).answer (run_call table log scratch page).answer (run_call table log scratch page).page
     split none q = decided_none (system_of items) page (answer_call table log scratch).answer (run_call table log scratch page).answer (run_call table log scratch page).page q
         (none_joins items (read_complete table items e) q)
-        (answer_serves table log scratch items e s l ∙ ap (verdict (limit (saturated_of items))) q)
+        (answer_serves table log scratch items e s l ∙ ap (λ (o : Option Path). Ok (verdict (limit (saturated_of items)) o)) q)
         (run_serves table log scratch items e s page l ∙ ap (run_verdict (system_of items) (length page)) q)
     split (some p) q = decided_some (system_of items) page (answer_call table log scratch).answer (run_call table log scratch page).answer (run_call table log scratch page).page p q
         (found_joins items (read_complete table items e) p q)
-        (answer_serves table log scratch items e s l ∙ ap (verdict (limit (saturated_of items))) q)
+        (answer_serves table log scratch items e s l ∙ ap (λ (o : Option Path). Ok (verdict (limit (saturated_of items)) o)) q)
         (run_serves table log scratch items e s page l ∙ ap (run_verdict (system_of items) (length page)) q)
         (page_after_lem table log scratch items e s page p q)
 

@@ -2,6 +2,7 @@
 -- files before them lead there; GreedyPath to CodeTests join the definitions with the way the code computes them.
 pub mod Tests
 pub mod Lists
+pub mod SliceTests
 pub mod Groups
 pub mod Words
 pub mod Paths

@@ -8,7 +8,7 @@ use lib.Dec.{eqb, ltb}
 use lib.ListN.{drop, length, length-append, length-replicate, replicate}
 use lib.Seq.{drop_at}
 use borrow.Author.Tests.{ltb-false}
-use Rattle.model.specs.Calls.{answer_call, answer_given, answer_refusal, capacity, changes_nothing, filled, log_after, records_of, run_call, run_given, run_refusal, run_verdict, scratch_needed, start_path, verdict}
+use Rattle.model.specs.Calls.{answer_call, answer_given, capacity, changes_nothing, filled, log_after, records_of, refused_by, run_call, run_given, run_verdict, scratch_needed, start_path}
 use Rattle.model.specs.Demands.{Demand2, LogHolds}
 use Rattle.model.specs.Log.{Record, limit, record_at, saturated_at}
 use Rattle.model.specs.Records.{key_at, log_bytes, record_length, round_at}
@@ -83,25 +83,25 @@ module _ (table log : List ℕ) where
   untouched : (number place : ℕ) (left : List ℕ) → read table ≡ refused number place → LogHolds table number left
   untouched number place left e = unfinished number left (rw (refusal_changes_nothing table number place e) refl)
 
-pub answer_log : (table log scratch : List ℕ) → LogHolds table (answer_refusal (answer_call table log scratch).answer) (answer_call table log scratch).log
+pub answer_log : (table log scratch : List ℕ) → LogHolds table (refused_by (answer_call table log scratch).answer) (answer_call table log scratch).log
 unfolding answer_call answer_given
 answer_log table log scratch = go (read table) refl
   where
-    go : (r : Reading) → read table ≡ r → LogHolds table (answer_refusal (answer_given r (length log) (length scratch))) (log_after (answer_refusal (answer_given r (length log) (length scratch))) (records_of (read table)) log)
+    go : (r : Reading) → read table ≡ r → LogHolds table (refused_by (answer_given r (length log) (length scratch))) (log_after (refused_by (answer_given r (length log) (length scratch))) (records_of (read table)) log)
     go (refused number place) e = untouched table log number place (log_after number (records_of (read table)) log) e
     go (accepted items) e =
         by_test (ltb (length scratch) (scratch_needed (length log))) (λ y. rw y (unfinished table log 15 _ refl))
         (λ n. rw n (by_test (ltb (capacity (length log)) (length (limit (saturated_of items)))) (λ y. rw y (unfinished table log 10 _ refl))
-        (λ m. rw m (finished table log items e (answer_refusal (verdict (limit (saturated_of items)) (start_path (saturated_of items)))) (ltb-false (capacity (length log)) (length (limit (saturated_of items))) m)))))
+        (λ m. rw m (finished table log items e 0 (ltb-false (capacity (length log)) (length (limit (saturated_of items))) m)))))
 
-pub run_log : (table log scratch page : List ℕ) → LogHolds table (run_refusal (run_call table log scratch page).answer) (run_call table log scratch page).log
+pub run_log : (table log scratch page : List ℕ) → LogHolds table (refused_by (run_call table log scratch page).answer) (run_call table log scratch page).log
 unfolding run_call run_given
 run_log table log scratch page = go (read table) refl
   where
     go : (r : Reading) → read table ≡ r
-        → LogHolds table (run_refusal (run_given r (length log) (length scratch) (length page))) (log_after (run_refusal (run_given r (length log) (length scratch) (length page))) (records_of (read table)) log)
+        → LogHolds table (refused_by (run_given r (length log) (length scratch) (length page))) (log_after (refused_by (run_given r (length log) (length scratch) (length page))) (records_of (read table)) log)
     go (refused number place) e = untouched table log number place (log_after number (records_of (read table)) log) e
     go (accepted items) e =
         by_test (ltb (length scratch) (scratch_needed (length log))) (λ y. rw y (unfinished table log 15 _ refl))
         (λ n. rw n (by_test (ltb (capacity (length log)) (length (limit (saturated_of items)))) (λ y. rw y (unfinished table log 10 _ refl))
-        (λ m. rw m (finished table log items e (run_refusal (run_verdict (system_of items) (length page) (start_path (saturated_of items)))) (ltb-false (capacity (length log)) (length (limit (saturated_of items))) m)))))
+        (λ m. rw m (finished table log items e (refused_by (run_verdict (system_of items) (length page) (start_path (saturated_of items)))) (ltb-false (capacity (length log)) (length (limit (saturated_of items))) m)))))

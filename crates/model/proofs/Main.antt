@@ -8,7 +8,7 @@ use Prim.Native.Nat.{◌<◌, ◌≤◌, ℕ}
 use lib.ListN.{get_or}
 use Rattle.model.specs.declared.Group.{Group}
 use Rattle.model.specs.Automata.{Transition}
-use Rattle.model.specs.Calls.{answer_call, answer_refusal, changes_nothing, run_call, run_refusal, walk_call, walk_figures, walk_refusal, zeros}
+use Rattle.model.specs.Calls.{answer_call, changes_nothing, refused_by, run_call, walk_call, walk_figures, zeros}
 use Rattle.model.specs.Copies.{mixed, reenters, copy_from}
 use Rattle.model.specs.Demands.{Demand2Walk, Demand3, LogHolds, Tells, TookPart, Writes}
 use Rattle.model.specs.Groups.{Process, Processes, Within, at, has}
@@ -34,27 +34,27 @@ use Rattle.model.proofs.Theorems.{rounds_of_limit}
 -- ---- demand 1: what a call gives and leaves is its definition in Calls, whole. Of its buffers: refusals 1 to 9 and 15 change none; later the scratch is
 -- left zero.
 pub demand_1_answer : (table log scratch : List ℕ)
-    → (changes_nothing (answer_refusal (answer_call table log scratch).answer) ≡ true → ((answer_call table log scratch).log ≡ log) × ((answer_call table log scratch).scratch ≡ scratch))
-    × (changes_nothing (answer_refusal (answer_call table log scratch).answer) ≡ false → (answer_call table log scratch).scratch ≡ zeros scratch)
+    → (changes_nothing (refused_by (answer_call table log scratch).answer) ≡ true → ((answer_call table log scratch).log ≡ log) × ((answer_call table log scratch).scratch ≡ scratch))
+    × (changes_nothing (refused_by (answer_call table log scratch).answer) ≡ false → (answer_call table log scratch).scratch ≡ zeros scratch)
 demand_1_answer = answer_closes
 
 pub demand_1_run : (table log scratch page : List ℕ)
-    → (changes_nothing (run_refusal (run_call table log scratch page).answer) ≡ true
+    → (changes_nothing (refused_by (run_call table log scratch page).answer) ≡ true
     → ((run_call table log scratch page).log ≡ log) × ((run_call table log scratch page).scratch ≡ scratch) × ((run_call table log scratch page).page ≡ page))
-    × (changes_nothing (run_refusal (run_call table log scratch page).answer) ≡ false → (run_call table log scratch page).scratch ≡ zeros scratch)
+    × (changes_nothing (refused_by (run_call table log scratch page).answer) ≡ false → (run_call table log scratch page).scratch ≡ zeros scratch)
 demand_1_run = run_closes
 
 pub demand_1_walk : (table list pile scratch : List ℕ)
-    → (changes_nothing (walk_refusal (walk_call table list pile scratch).answer) ≡ true → ((walk_call table list pile scratch).pile ≡ pile) × ((walk_call table list pile scratch).scratch ≡ scratch))
-    × (changes_nothing (walk_refusal (walk_call table list pile scratch).answer) ≡ false → (walk_call table list pile scratch).scratch ≡ zeros scratch)
+    → (changes_nothing (refused_by (walk_call table list pile scratch).answer) ≡ true → ((walk_call table list pile scratch).pile ≡ pile) × ((walk_call table list pile scratch).scratch ≡ scratch))
+    × (changes_nothing (refused_by (walk_call table list pile scratch).answer) ≡ false → (walk_call table list pile scratch).scratch ≡ zeros scratch)
 demand_1_walk = walk_closes
 
 -- ---- demand 2: the finished log holds the limit automaton's transitions, each in the round in which the paper first adds it; a walk moves exactly as
 -- the paper's systems step, and watched is acceptance
-pub demand_2_answer : (table log scratch : List ℕ) → LogHolds table (answer_refusal (answer_call table log scratch).answer) (answer_call table log scratch).log
+pub demand_2_answer : (table log scratch : List ℕ) → LogHolds table (refused_by (answer_call table log scratch).answer) (answer_call table log scratch).log
 demand_2_answer = answer_log
 
-pub demand_2_run : (table log scratch page : List ℕ) → LogHolds table (run_refusal (run_call table log scratch page).answer) (run_call table log scratch page).log
+pub demand_2_run : (table log scratch page : List ℕ) → LogHolds table (refused_by (run_call table log scratch page).answer) (run_call table log scratch page).log
 demand_2_run = run_log
 
 pub demand_2_walk : (table list pile scratch : List ℕ) → Demand2Walk table list scratch (walk_figures (walk_call table list pile scratch).answer) (walk_call table list pile scratch).pile

@@ -7,11 +7,12 @@ use native.Mathlib.Omega.{arith}
 use lib.Dec.{ltb}
 use lib.ListN.{length, take}
 use borrow.Author.Tests.{ltb-false}
-use Rattle.model.specs.declared.Answered.{Answered}
-use Rattle.model.specs.declared.Ran.{Ran}
-use Rattle.model.specs.Calls.{answer_call, answer_given, capacity, is_long, run_call, run_given, run_refusal, run_verdict, scratch_needed, start_path, verdict}
+use Rattle.std.specs.Prelude.{Result, Ok, Err}
+use Rattle.model.specs.declared.Refusal.{Refusal}
+use Rattle.model.specs.declared.Run.{Run}
+use Rattle.model.specs.Calls.{answer_call, answer_given, capacity, is_long, refuse, refused_by, run_call, run_found, run_given, run_verdict, scratch_needed, start_path, verdict}
 use Rattle.model.specs.Demands.{Decided, LogServes, ScratchServes, Tells, Writes}
-use Rattle.model.specs.Log.{Path, limit, rounds}
+use Rattle.model.specs.Log.{Path, limit}
 use Rattle.model.specs.Systems.{peak}
 use Rattle.model.specs.Tables.{Item, Reading, accepted, read, refused, saturated_of, system_of}
 use Rattle.model.specs.Unfolding.{emitted, path_steps}
@@ -23,7 +24,7 @@ use Rattle.model.proofs.Tests.{by_test}
 
 -- ---- the answer call
 module _ (table : List ℕ) (items : List Item) (e : read table ≡ accepted items) where
-  verdict_tells : (o : Option Path) → start_path (saturated_of items) ≡ o → Tells table (verdict (limit (saturated_of items)) o)
+  verdict_tells : (o : Option Path) → start_path (saturated_of items) ≡ o → Tells table (Ok (verdict (limit (saturated_of items)) o))
   verdict_tells none q = (items, e, none_joins items (read_complete table items e) q)
   verdict_tells (some p) q = (items, e, (emitted (limit (saturated_of items)) p.numbers, found_joins items (read_complete table items e) p q))
 
@@ -40,7 +41,7 @@ answer_tells table log scratch = go (read table) refl
 
 -- ---- the run call
 module _ (table log scratch page : List ℕ) where
-  abbrev Right : Ran → Type 0
+  abbrev Right : Result Run Refusal → Type 0
   Right x = Writes table (run_call table log scratch page).page x
 
   given_is : (r : Reading) → read table ≡ r → (run_call table log scratch page).answer ≡ run_given r (length log) (length scratch) (length page)
@@ -52,28 +53,28 @@ module _ (table log scratch page : List ℕ) where
     decided = (calls_decide table log scratch page).decided items e s l
 
     -- a run that was not refused
-    written : (p : Path) → start_path (saturated_of items) ≡ some p → (t r n k : ℕ) → (run_call table log scratch page).answer ≡ Ran.Reached t r n k → Right (Ran.Reached t r n k)
-    written p q t r n k is =
+    written : (p : Path) → start_path (saturated_of items) ≡ some p → (x : Run) → (run_call table log scratch page).answer ≡ Ok x → Right (Ok x)
+    written p q x is =
         let count : ℕ = length (emitted (limit (saturated_of items)) p.numbers) in
         let counts = found_counts (saturated_of items) p q in
-        let given = decided.given count counts (λ long. let bad : Ran.Reached t r n k ≡ Ran.Refused 11 0 = sym is ∙ (decided.long count counts).0 long in let z : ◌≡◌ {A = ℕ} 0 1 = cc in omega arith) in
-        let same = reached_same (sym is ∙ given.0) in
+        let given = decided.given count counts (λ long. let bad : Ok x ≡ refuse 11 0 = sym is ∙ (decided.long count counts).0 long in let z : ◌≡◌ {A = ℕ} 0 1 = cc in omega arith) in
+        let same = same_run (sym is ∙ given.0) in
         let run : List ℕ = emitted (limit (saturated_of items)) p.numbers in
-        let on-page : take n (run_call table log scratch page).page ≡ run =
-        ap (λ (m : ℕ). take m (run_call table log scratch page).page) same.0 ∙ ap (take count) (page_after_lem table log scratch items e s page p q (ap run_refusal is)) ∙ take_run run page in
-        let high : k ≡ peak (system_of items) run (system_of items).start =
+        let on-page : take x.steps (run_call table log scratch page).page ≡ run =
+        ap (λ (m : ℕ). take m (run_call table log scratch page).page) same.0 ∙ ap (take count) (page_after_lem table log scratch items e s page p q (ap refused_by is)) ∙ take_run run page in
+        let high : x.peak ≡ peak (system_of items) run (system_of items).start =
         same.1 ∙ ap (λ (ns : List ℕ). peak (system_of items) ns (system_of items).start) (counts_emitted (saturated_of items) count p q counts) in
         let joins = found_joins items (read_complete table items e) p q in
         (items, e, (rw on-page joins, rw (on-page, high) (peak_is (system_of items) run (system_of items).start joins.end joins.walks)))
       where
-        reached_same : {t t' r r' n n' k k' : ℕ} → Ran.Reached t r n k ≡ Ran.Reached t' r' n' k' → (n ≡ n') × (k ≡ k')
-        reached_same e = (cc, cc)
+        same_run : {x y : Run} → ◌≡◌ {A = Result Run Refusal} (Ok x) (Ok y) → (x.steps ≡ y.steps) × (x.peak ≡ y.peak)
+        same_run {x} {y} e = let same : x ≡ y = cc in (ap (λ (z : Run). z.steps) same, ap (λ (z : Run). z.peak) same)
 
     verdict_writes : (o : Option Path) → start_path (saturated_of items) ≡ o → (run_call table log scratch page).answer ≡ run_verdict (system_of items) (length page) o → Right (run_verdict (system_of items) (length page) o)
     verdict_writes none q is = omega arith
     verdict_writes (some p) q is = by_test (is_long (path_steps (limit (saturated_of items)) p.numbers) (length page))
         (λ y. rw y (omega arith))
-        (λ n. rw n (written p q (length (limit (saturated_of items))) (rounds (limit (saturated_of items))) (path_steps (limit (saturated_of items)) p.numbers) (peak (system_of items) (emitted (limit (saturated_of items)) p.numbers) (system_of items).start) (is ∙ rw n)))
+        (λ n. rw n (written p q (run_found (system_of items) (limit (saturated_of items)) p) (is ∙ rw n)))
 
 pub run_writes : (table log scratch page : List ℕ) → Writes table (run_call table log scratch page).page (run_call table log scratch page).answer
 unfolding run_given
@@ -90,38 +91,29 @@ run_writes table log scratch page = subst (Right table log scratch page) (sym (g
         (λ m. rw m (verdict_writes table log scratch page items e (ltb-false (length scratch) (scratch_needed (length log)) n) (ltb-false (capacity (length log)) (length (limit (saturated_of items))) m) (start_path (saturated_of items)) refl (is ∙ rw (n, m))))))
 
 -- ---- from refusal 10 on the place is 0
-abbrev pub AnswerPlaced : Answered → Type 0
-AnswerPlaced (Answered.Reachable t r s) = Unit {0}
-AnswerPlaced (Answered.Unreachable t r) = Unit {0}
-AnswerPlaced (Answered.Refused number place) = 10 ≤ number → place ≡ 0
+abbrev pub Unplaced : {A : Type 0} → Result A Refusal → Type 0
+Unplaced (Ok x) = Unit {0}
+Unplaced (Err r) = 10 ≤ r.number → r.place ≡ 0
 
-abbrev pub RunPlaced : Ran → Type 0
-RunPlaced (Ran.Reached t r s p) = Unit {0}
-RunPlaced (Ran.Refused number place) = 10 ≤ number → place ≡ 0
-
-pub answer_placed : (table log scratch : List ℕ) → AnswerPlaced (answer_call table log scratch).answer
+pub answer_placed : (table log scratch : List ℕ) → Unplaced (answer_call table log scratch).answer
 unfolding answer_call answer_given
 answer_placed table log scratch = go (read table) refl
   where
-    found : (items : List Item) (o : Option Path) → AnswerPlaced (verdict (limit (saturated_of items)) o)
-    found items none = tt
-    found items (some p) = tt
-
-    go : (r : Reading) → read table ≡ r → AnswerPlaced (answer_given r (length log) (length scratch))
+    go : (r : Reading) → read table ≡ r → Unplaced (answer_given r (length log) (length scratch))
     go (refused number place) e = λ h. absurd (omega (arith, (refusal_number table number place e).1))
     go (accepted items) e =
         by_test (ltb (length scratch) (scratch_needed (length log))) (λ y. rw y (λ h. refl))
-        (λ n. rw n (by_test (ltb (capacity (length log)) (length (limit (saturated_of items)))) (λ y. rw y (λ h. refl)) (λ m. rw m (found items (start_path (saturated_of items))))))
+        (λ n. rw n (by_test (ltb (capacity (length log)) (length (limit (saturated_of items)))) (λ y. rw y (λ h. refl)) (λ m. rw m tt)))
 
-pub run_placed : (table log scratch page : List ℕ) → RunPlaced (run_call table log scratch page).answer
+pub run_placed : (table log scratch page : List ℕ) → Unplaced (run_call table log scratch page).answer
 unfolding run_call run_given
 run_placed table log scratch page = go (read table) refl
   where
-    found : (items : List Item) (o : Option Path) → RunPlaced (run_verdict (system_of items) (length page) o)
+    found : (items : List Item) (o : Option Path) → Unplaced (run_verdict (system_of items) (length page) o)
     found items none = λ h. refl
     found items (some p) = by_test (is_long (path_steps (limit (saturated_of items)) p.numbers) (length page)) (λ y. rw y (λ h. refl)) (λ n. rw n tt)
 
-    go : (r : Reading) → read table ≡ r → RunPlaced (run_given r (length log) (length scratch) (length page))
+    go : (r : Reading) → read table ≡ r → Unplaced (run_given r (length log) (length scratch) (length page))
     go (refused number place) e = λ h. absurd (omega (arith, (refusal_number table number place e).1))
     go (accepted items) e =
         by_test (ltb (length scratch) (scratch_needed (length log))) (λ y. rw y (λ h. refl))

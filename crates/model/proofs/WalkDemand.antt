@@ -10,7 +10,9 @@ use lib.Dec.{ltb}
 use lib.ListN.{drop, get_or, get_elem?, length, length-append, length-replicate, replicate, take}
 use lib.Seq.{take-append_seam}
 use borrow.Author.Tests.{ltb-false, ltb-true}
-use Rattle.model.specs.declared.Walked.{Walked}
+use Rattle.std.specs.Prelude.{Result, Ok, Err}
+use Rattle.model.specs.declared.Ending.{Ending}
+use Rattle.model.specs.declared.Refusal.{Refusal}
 use Rattle.model.specs.Calls.{Halt, changes_nothing, filled, fired_rules, halt_at, halt_before, halt_end, step_by, step_to, walk_call, walk_counts, walk_figures, walk_from, walk_given, walk_scratch, watched_figure}
 use Rattle.model.specs.Demands.{Demand2Walk, NoRoom, NoRule, NoStep, WalkedTo, StoppedAt, TookPart}
 use Rattle.model.specs.Participation.{step_counts}
@@ -122,7 +124,7 @@ filled_size : (w pile : List ℕ) → length w ≤ length pile → length (fille
 filled_size w pile h = length-append w (replicate (length pile - length w) 0) ∙ omega (arith, length-replicate {A = ℕ} (length pile - length w) 0)
 
 -- request 2.5, by the figures of an answer
-abbrev pub Counted : List ℕ → List ℕ → Walked → List ℕ → Type 0
+abbrev pub Counted : List ℕ → List ℕ → Result Ending Refusal → List ℕ → Type 0
 Counted table list x counts = TookPart table list (get_or (walk_figures x) 0 0) (get_or (walk_figures x) 1 0) counts
 
 module _ (table list pile scratch : List ℕ) (items : List Item) (e : read table ≡ accepted items) where
@@ -325,15 +327,15 @@ module _ {table list scratch : List ℕ} (more : List ℕ) where
     judged = w.judged;
   }
 
-  pub demand_more : {pile : List ℕ} (x : Walked) → Demand2Walk table list scratch (walk_figures x) pile → Demand2Walk table list scratch (walk_figures x ++ more) pile
-  demand_more (Walked.Ended g n w) d = first_eight d
-  demand_more (Walked.Refused number place) d = first_eight d
+  pub demand_more : {pile : List ℕ} (x : Result Ending Refusal) → Demand2Walk table list scratch (walk_figures x) pile → Demand2Walk table list scratch (walk_figures x ++ more) pile
+  demand_more (Ok end) d = first_eight d
+  demand_more (Err r) d = first_eight d
 
 module _ {table list : List ℕ} (more : List ℕ) where
-  pub counted_more : (x : Walked) (counts : List ℕ) → Counted table list x counts → TookPart table list (get_or (walk_figures x ++ more) 0 0) (get_or (walk_figures x ++ more) 1 0) counts
-  counted_more (Walked.Ended g n w) counts d = d
-  counted_more (Walked.Refused number place) counts d = d
+  pub counted_more : (x : Result Ending Refusal) (counts : List ℕ) → Counted table list x counts → TookPart table list (get_or (walk_figures x ++ more) 0 0) (get_or (walk_figures x ++ more) 1 0) counts
+  counted_more (Ok end) counts d = d
+  counted_more (Err r) counts d = d
 
-pub figures_behind : (x : Walked) (more : List ℕ) → drop 8 (walk_figures x ++ more) ≡ more
-figures_behind (Walked.Ended g n w) more = refl
-figures_behind (Walked.Refused number place) more = refl
+pub figures_behind : (x : Result Ending Refusal) (more : List ℕ) → drop 8 (walk_figures x ++ more) ≡ more
+figures_behind (Ok end) more = refl
+figures_behind (Err r) more = refl

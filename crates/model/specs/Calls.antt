@@ -1,12 +1,13 @@
 -- Document 01, "Calls and what they leave": for each call one definition of what it gives and of the closing contents
 -- of every lent buffer. What a call gives depends on its buffers by their lengths alone. The order of the checks: 1 to
 -- 9; 15; then 10, 16, 11; in a walk 14 for the start pile and, at each step, 13, 12, 14.
-use Rattle.std.specs.Prelude.{Bool, cond, false, true, ◌&&◌, ◌||◌, List, [], ◌∷◌, ◌++◌, ℕ, ◌+◌, ◌-◌, ◌*◌, ◌/◌, min, eqb, ltb, leb, length, replicate, take}
+use Rattle.std.specs.Prelude.{Bool, cond, false, true, ◌&&◌, ◌||◌, List, [], ◌∷◌, ◌++◌, ℕ, ◌+◌, ◌-◌, ◌*◌, ◌/◌, min, eqb, ltb, leb, length, replicate, take, Result, Ok, Err}
 use Rattle.std.proofs.Math.Option.{Option, none, some}
 use Rattle.std.proofs.Math.ListN.{get_elem?}
-use Rattle.model.specs.declared.Answered.{Answered}
-use Rattle.model.specs.declared.Ran.{Ran}
-use Rattle.model.specs.declared.Walked.{Walked}
+use Rattle.model.specs.declared.Ending.{Ending}
+use Rattle.model.specs.declared.Refusal.{Refusal}
+use Rattle.model.specs.declared.Run.{Run}
+use Rattle.model.specs.declared.Verdict.{Verdict}
 use Rattle.model.specs.Lists.{value_or}
 use Rattle.model.specs.Groups.{Processes, at_each}
 use Rattle.model.specs.Systems.{System, Rule, Configuration, fire, peak, accepts}
@@ -42,7 +43,21 @@ walk_scratch = 2048
 abbrev pub start_path : System → Option Path
 start_path sys = accepting_path sys (limit sys) sys.start
 
--- ---- closing contents, by the refusal's number, which is 0 where there is none
+-- a call that is refused by this check at this place
+abbrev pub refuse : {A : Type 0} → ℕ → ℕ → Result A Refusal
+refuse number place = Err (record { number = number; place = place })
+
+-- the number of the check that refuses a call, 0 where none does
+abbrev pub refused_by : {A : Type 0} → Result A Refusal → ℕ
+refused_by (Ok x) = 0
+refused_by (Err r) = r.number
+
+-- and its place, 0 likewise
+abbrev pub refused_at : {A : Type 0} → Result A Refusal → ℕ
+refused_at (Ok x) = 0
+refused_at (Err r) = r.place
+
+-- ---- closing contents, by the number of the refusal, 0 where there is none
 -- refusals 1 to 9 and 15 change no buffer
 abbrev pub changes_nothing : ℕ → Bool
 changes_nothing number = (leb 1 number && leb number 9) || eqb number 15
@@ -78,25 +93,20 @@ run_of (accepted items) =
     value_or [] (λ (p : Path). emitted (limit (saturated_of items)) p.numbers) (start_path (saturated_of items))
 
 -- ---- the answer call: table, log, scratch
-abbrev pub answer_refusal : Answered → ℕ
-answer_refusal (Answered.Reachable t r s) = 0
-answer_refusal (Answered.Unreachable t r) = 0
-answer_refusal (Answered.Refused number place) = number
-
 -- the verdict with transitions, rounds and steps; unreachable has no steps
-abbrev pub verdict : List Record → Option Path → Answered
-verdict log none = Answered.Unreachable (length log) (rounds log)
-verdict log (some p) = Answered.Reachable (length log) (rounds log) (path_steps log p.numbers)
+abbrev pub verdict : List Record → Option Path → Verdict
+verdict log none = Verdict.Unreachable (length log) (rounds log)
+verdict log (some p) = Verdict.Reachable (length log) (rounds log) (path_steps log p.numbers)
 
-unfoldable pub answer_given : Reading → ℕ → ℕ → Answered
-answer_given (refused number place) logLength scratchLength = Answered.Refused number place
+unfoldable pub answer_given : Reading → ℕ → ℕ → Result Verdict Refusal
+answer_given (refused number place) logLength scratchLength = refuse number place
 answer_given (accepted items) logLength scratchLength =
-    cond (ltb scratchLength (scratch_needed logLength)) (Answered.Refused 15 0)
-    (cond (ltb (capacity logLength) (length (limit (saturated_of items)))) (Answered.Refused 10 0)
-    (verdict (limit (saturated_of items)) (start_path (saturated_of items))))
+    cond (ltb scratchLength (scratch_needed logLength)) (refuse 15 0)
+    (cond (ltb (capacity logLength) (length (limit (saturated_of items)))) (refuse 10 0)
+    (Ok (verdict (limit (saturated_of items)) (start_path (saturated_of items)))))
 
 pub record AnswerOutcome : Type 0 where
-  pub answer : Answered
+  pub answer : Result Verdict Refusal
   pub log : List ℕ
   pub scratch : List ℕ
 
@@ -105,36 +115,39 @@ answer_call table log scratch =
     let given = answer_given (read table) (length log) (length scratch) in
     record {
       answer = given;
-      log = log_after (answer_refusal given) (records_of (read table)) log;
-      scratch = scratch_after (answer_refusal given) scratch;
+      log = log_after (refused_by given) (records_of (read table)) log;
+      scratch = scratch_after (refused_by given) scratch;
     }
 
 -- ---- the run call: table, log, scratch, page
-abbrev pub run_refusal : Ran → ℕ
-run_refusal (Ran.Reached t r s p) = 0
-run_refusal (Ran.Refused number place) = number
-
 -- 16, no run; 11, long run: steps exceed the page's length or 1,000,000
 abbrev pub is_long : ℕ → ℕ → Bool
 is_long steps pageLength = ltb pageLength steps || ltb longest_run steps
 
-abbrev pub run_verdict : System → ℕ → Option Path → Ran
-run_verdict sys pageLength none = Ran.Refused 16 0
-run_verdict sys pageLength (some p) =
-    cond (is_long (path_steps (limit (with_copy sys)) p.numbers) pageLength) (Ran.Refused 11 0)
-    (Ran.Reached (length (limit (with_copy sys))) (rounds (limit (with_copy sys)))
-    (path_steps (limit (with_copy sys)) p.numbers)
-    (peak sys (emitted (limit (with_copy sys)) p.numbers) sys.start))
+-- the run's figures, by its path in the limit: transitions, rounds and steps as the verdict has them, and the peak
+abbrev pub run_found : System → List Record → Path → Run
+run_found sys log p = record {
+  transitions = length log;
+  rounds = rounds log;
+  steps = path_steps log p.numbers;
+  peak = peak sys (emitted log p.numbers) sys.start;
+}
 
-unfoldable pub run_given : Reading → ℕ → ℕ → ℕ → Ran
-run_given (refused number place) logLength scratchLength pageLength = Ran.Refused number place
+abbrev pub run_verdict : System → ℕ → Option Path → Result Run Refusal
+run_verdict sys pageLength none = refuse 16 0
+run_verdict sys pageLength (some p) =
+    cond (is_long (path_steps (limit (with_copy sys)) p.numbers) pageLength) (refuse 11 0)
+    (Ok (run_found sys (limit (with_copy sys)) p))
+
+unfoldable pub run_given : Reading → ℕ → ℕ → ℕ → Result Run Refusal
+run_given (refused number place) logLength scratchLength pageLength = refuse number place
 run_given (accepted items) logLength scratchLength pageLength =
-    cond (ltb scratchLength (scratch_needed logLength)) (Ran.Refused 15 0)
-    (cond (ltb (capacity logLength) (length (limit (saturated_of items)))) (Ran.Refused 10 0)
+    cond (ltb scratchLength (scratch_needed logLength)) (refuse 15 0)
+    (cond (ltb (capacity logLength) (length (limit (saturated_of items)))) (refuse 10 0)
     (run_verdict (system_of items) pageLength (start_path (saturated_of items))))
 
 pub record RunOutcome : Type 0 where
-  pub answer : Ran
+  pub answer : Result Run Refusal
   pub log : List ℕ
   pub scratch : List ℕ
   pub page : List ℕ
@@ -144,37 +157,36 @@ run_call table log scratch page =
     let given = run_given (read table) (length log) (length scratch) (length page) in
     record {
       answer = given;
-      log = log_after (run_refusal given) (records_of (read table)) log;
-      scratch = scratch_after (run_refusal given) scratch;
-      page = page_after (run_refusal given) (run_of (read table)) page;
+      log = log_after (refused_by given) (records_of (read table)) log;
+      scratch = scratch_after (refused_by given) scratch;
+      page = page_after (refused_by given) (run_of (read table)) page;
     }
 
 -- ---- the walk call: table, list of rule numbers, pile, scratch
-abbrev pub walk_refusal : Walked → ℕ
-walk_refusal (Walked.Ended g n w) = 0
-walk_refusal (Walked.Refused number place) = number
-
 -- what a walk comes to: what it gives, the part of the caller's list that it hands back, and the pile that its buffer
 -- holds; none leaves the buffer unchanged
 pub record Halt : Type 0 where
-  pub answer : Walked
+  pub answer : Result Ending Refusal
   pub rest : List ℕ
   pub pile : Option (List ℕ)
 
 -- refused before the first step
 abbrev pub halt_before : ℕ → ℕ → Halt
-halt_before number place = record { answer = Walked.Refused number place; rest = []; pile = none }
+halt_before number place = record { answer = refuse number place; rest = []; pile = none }
 
 -- refused at a step: the list from there on, and the pile before that step
 abbrev pub halt_at : ℕ → ℕ → List ℕ → Configuration → Halt
-halt_at number step list c = record { answer = Walked.Refused number step; rest = list; pile = some c.word }
+halt_at number step list c = record { answer = refuse number step; rest = list; pile = some c.word }
 
 -- at the list's end: end states, pile length, watched or not
 abbrev pub halt_end : System → Configuration → Halt
 halt_end sys c =
     record {
-      answer = Walked.Ended c.states (length c.word)
-          (accepts sys.loc sys.transitions sys.accepting c.word c.states);
+      answer = Ok (record {
+        states = c.states;
+        length = length c.word;
+        watched = accepts sys.loc sys.transitions sys.accepting c.word c.states;
+      });
       rest = [];
       pile = some c.word;
     }
@@ -204,17 +216,17 @@ walk_given (accepted items) list pileLength scratchLength =
 
 -- request 2.5: the rules of the list that were fired, all where the walk ended, else those before the refused step. The
 -- place of a refusal before the first step is 0.
-abbrev pub fired_rules : List ℕ → Walked → List ℕ
-fired_rules list (Walked.Ended g n w) = list
-fired_rules list (Walked.Refused number place) = take place list
+abbrev pub fired_rules : List ℕ → Result Ending Refusal → List ℕ
+fired_rules list (Ok end) = list
+fired_rules list (Err r) = take r.place list
 
 -- "A walk gives, for each station, the number of steps it took part in"; a table that is refused has no steps
-unfoldable pub walk_counts : Reading → List ℕ → Walked → List ℕ
+unfoldable pub walk_counts : Reading → List ℕ → Result Ending Refusal → List ℕ
 walk_counts (refused number place) list answer = at_each (λ i. 0)
 walk_counts (accepted items) list answer = step_counts (system_of items) (fired_rules list answer)
 
 pub record WalkOutcome : Type 0 where
-  pub answer : Walked
+  pub answer : Result Ending Refusal
   pub counts : List ℕ
   pub rest : List ℕ
   pub pile : List ℕ
@@ -228,27 +240,28 @@ walk_call table list pile scratch =
       counts = walk_counts (read table) list halt.answer;
       rest = halt.rest;
       pile = value_or pile (λ (w : List ℕ). filled w pile) halt.pile;
-      scratch = scratch_after (walk_refusal halt.answer) scratch;
+      scratch = scratch_after (refused_by halt.answer) scratch;
     }
 
 -- ---- document 01's number and values for every case: the refusal's number or 0, its place or 0, then the values, 0
 -- where a case has none
 -- the verdict, 1 reachable and 2 unreachable, so that 0 is no verdict; transitions, rounds, steps
-abbrev pub answer_figures : Answered → List ℕ
-answer_figures (Answered.Reachable t r s) = 0 ∷ 0 ∷ 1 ∷ t ∷ r ∷ s ∷ []
-answer_figures (Answered.Unreachable t r) = 0 ∷ 0 ∷ 2 ∷ t ∷ r ∷ 0 ∷ []
-answer_figures (Answered.Refused number place) = number ∷ place ∷ 0 ∷ 0 ∷ 0 ∷ 0 ∷ []
+abbrev pub answer_figures : Result Verdict Refusal → List ℕ
+answer_figures (Ok (Verdict.Reachable t r s)) = 0 ∷ 0 ∷ 1 ∷ t ∷ r ∷ s ∷ []
+answer_figures (Ok (Verdict.Unreachable t r)) = 0 ∷ 0 ∷ 2 ∷ t ∷ r ∷ 0 ∷ []
+answer_figures (Err r) = r.number ∷ r.place ∷ 0 ∷ 0 ∷ 0 ∷ 0 ∷ []
 
 -- the verdict, 1, transitions, rounds, steps, peak
-abbrev pub run_figures : Ran → List ℕ
-run_figures (Ran.Reached t r s p) = 0 ∷ 0 ∷ 1 ∷ t ∷ r ∷ s ∷ p ∷ []
-run_figures (Ran.Refused number place) = number ∷ place ∷ 0 ∷ 0 ∷ 0 ∷ 0 ∷ 0 ∷ []
+abbrev pub run_figures : Result Run Refusal → List ℕ
+run_figures (Ok x) = 0 ∷ 0 ∷ 1 ∷ x.transitions ∷ x.rounds ∷ x.steps ∷ x.peak ∷ []
+run_figures (Err r) = r.number ∷ r.place ∷ 0 ∷ 0 ∷ 0 ∷ 0 ∷ 0 ∷ []
 
 -- watched, 1, or not, 2, so that 0 is no answer; pile length, end states
 abbrev pub watched_figure : Bool → ℕ
 watched_figure true = 1
 watched_figure false = 2
 
-abbrev pub walk_figures : Walked → List ℕ
-walk_figures (Walked.Ended g n w) = 0 ∷ 0 ∷ watched_figure w ∷ n ∷ g.s0 ∷ g.s1 ∷ g.s2 ∷ g.s3 ∷ []
-walk_figures (Walked.Refused number place) = number ∷ place ∷ 0 ∷ 0 ∷ 0 ∷ 0 ∷ 0 ∷ 0 ∷ []
+abbrev pub walk_figures : Result Ending Refusal → List ℕ
+walk_figures (Ok x) =
+    0 ∷ 0 ∷ watched_figure x.watched ∷ x.length ∷ x.states.s0 ∷ x.states.s1 ∷ x.states.s2 ∷ x.states.s3 ∷ []
+walk_figures (Err r) = r.number ∷ r.place ∷ 0 ∷ 0 ∷ 0 ∷ 0 ∷ 0 ∷ 0 ∷ []

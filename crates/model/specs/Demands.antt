@@ -1,10 +1,11 @@
 -- Demands 2 and 3 of the mission and request 2.5, as statements about what the calls give and leave. Demand 1 is the
 -- definitions of Calls.
-use Rattle.std.specs.Prelude.{◌≡◌, true, false, ◌||◌, ◌⊎◌, ◌↔◌, List, ℕ, ◌-◌, ◌*◌, ◌≤◌, ◌<◌, min, eqb, length, take, drop, replicate, get_or}
+use Rattle.std.specs.Prelude.{◌≡◌, true, false, ◌||◌, ◌⊎◌, ◌↔◌, List, ℕ, ◌-◌, ◌*◌, ◌≤◌, ◌<◌, min, eqb, length, take, drop, replicate, get_or, Result, Ok, Err}
 use Rattle.std.proofs.Math.Option.{none, some}
 use Rattle.std.proofs.Math.ListN.{get_elem?}
-use Rattle.model.specs.declared.Answered.{Answered}
-use Rattle.model.specs.declared.Ran.{Ran}
+use Rattle.model.specs.declared.Refusal.{Refusal}
+use Rattle.model.specs.declared.Run.{Run}
+use Rattle.model.specs.declared.Verdict.{Verdict}
 use Rattle.model.specs.Groups.{at_each}
 use Rattle.model.specs.Automata.{Transition}
 use Rattle.model.specs.Saturation.{Delta}
@@ -15,7 +16,7 @@ use Rattle.model.specs.Log.{Path, limit, rounds, steps_cap, longest_run}
 use Rattle.model.specs.Unfolding.{Unfolds}
 use Rattle.model.specs.Records.{record_length, key_at, round_at}
 use Rattle.model.specs.Participation.{step_counts}
-use Rattle.model.specs.Calls.{capacity, changes_nothing, filled, scratch_needed, start_path, walk_scratch}
+use Rattle.model.specs.Calls.{capacity, changes_nothing, filled, refuse, scratch_needed, start_path, walk_scratch}
 
 -- the table is accepted, and P holds of the system that it describes
 abbrev pub Describes : List ℕ → (System → Type 0) → Type 0
@@ -140,41 +141,50 @@ ShortLog table log scratch =
 -- What the calls give under both premises. `sys` is the table's own system, so a run ends in the set that the table
 -- itself accepts; request 2.6: "Transitions, rounds and log are those of the copied automaton". `left` is what the page
 -- holds after the run call.
-pub record Decided (sys : System) (page : List ℕ) (answer : Answered) (ran : Ran) (left : List ℕ) : Type 0 where
+pub record Decided (sys : System) (page : List ℕ) (answer : Result Verdict Refusal) (ran : Result Run Refusal)
+    (left : List ℕ) : Type 0 where
   -- the answer call says "unreachable" exactly when no finite run joins them, and else "reachable"
   pub unreachable : NoRun sys
-      ↔ (answer ≡ Answered.Unreachable (length (limit (with_copy sys))) (rounds (limit (with_copy sys))))
+      ↔ (answer ≡ Ok (Verdict.Unreachable (length (limit (with_copy sys))) (rounds (limit (with_copy sys)))))
   pub reachable : SomeRun sys
       ↔ ((n : ℕ) × StepsCounted (with_copy sys) n
-      × (answer ≡ Answered.Reachable (length (limit (with_copy sys))) (rounds (limit (with_copy sys))) (min n steps_cap)))
+      × (answer
+      ≡ Ok (Verdict.Reachable (length (limit (with_copy sys))) (rounds (limit (with_copy sys))) (min n steps_cap))))
   -- where one does, the run call is refused as long exactly when the steps exceed the page's length or 1,000,000
-  pub long : (n : ℕ) → StepsCounted (with_copy sys) n → TooLong n page ↔ (ran ≡ Ran.Refused 11 0)
+  pub long : (n : ℕ) → StepsCounted (with_copy sys) n → TooLong n page ↔ (ran ≡ refuse 11 0)
   -- else it gives the answer call's figures, and the page's first places, as many as the steps, hold a run that joins
   -- them
   pub given : (n : ℕ) (c : StepsCounted (with_copy sys) n) → (TooLong n page → ⊥)
-      → (ran ≡ Ran.Reached (length (limit (with_copy sys))) (rounds (limit (with_copy sys))) n
-      (peak sys c.run sys.start))
-      × (answer ≡ Answered.Reachable (length (limit (with_copy sys))) (rounds (limit (with_copy sys))) n)
+      → (ran
+      ≡ Ok (record {
+        transitions = length (limit (with_copy sys));
+        rounds = rounds (limit (with_copy sys));
+        steps = n;
+        peak = peak sys c.run sys.start;
+      }))
+      × (answer ≡ Ok (Verdict.Reachable (length (limit (with_copy sys))) (rounds (limit (with_copy sys))) n))
       × Joins sys sys.start (take n left)
   -- where none does, the run call is refused for having no run
-  pub no_run : NoRun sys ↔ (ran ≡ Ran.Refused 16 0)
+  pub no_run : NoRun sys ↔ (ran ≡ refuse 16 0)
 
 -- whatever log, scratch and page held before
-pub record Demand3 (table log scratch page : List ℕ) (answer : Answered) (ran : Ran) (left : List ℕ) : Type 0 where
+pub record Demand3 (table log scratch page : List ℕ) (answer : Result Verdict Refusal) (ran : Result Run Refusal)
+    (left : List ℕ) : Type 0 where
   pub decided : (items : List Item) → read table ≡ accepted items → ScratchServes log scratch
       → LogServes (saturated_of items) log → Decided (system_of items) page answer ran left
   -- where the first premise holds and the second fails, both calls are refused for a short log, and nowhere else
-  pub answer_short : ShortLog table log scratch ↔ (answer ≡ Answered.Refused 10 0)
-  pub run_short : ShortLog table log scratch ↔ (ran ≡ Ran.Refused 10 0)
+  pub answer_short : ShortLog table log scratch ↔ (answer ≡ refuse 10 0)
+  pub run_short : ShortLog table log scratch ↔ (ran ≡ refuse 10 0)
 
 -- ---- the word alone, with no premise: what an answer tells of the table, and what a run call that was not refused
 -- leaves on the page, with its peak
-abbrev pub Tells : List ℕ → Answered → Type 0
-Tells table (Answered.Unreachable t r) = Describes table NoRun
-Tells table (Answered.Reachable t r s) = Describes table SomeRun
-Tells table (Answered.Refused number place) = 1 ≤ number
+abbrev pub Tells : List ℕ → Result Verdict Refusal → Type 0
+Tells table (Ok (Verdict.Unreachable t r)) = Describes table NoRun
+Tells table (Ok (Verdict.Reachable t r s)) = Describes table SomeRun
+Tells table (Err r) = 1 ≤ r.number
 
-abbrev pub Writes : List ℕ → List ℕ → Ran → Type 0
-Writes table left (Ran.Reached t r s p) =
-    Describes table (λ (sys : System). Joins sys sys.start (take s left) × PeakIs sys (take s left) sys.start p)
-Writes table left (Ran.Refused number place) = 1 ≤ number
+abbrev pub Writes : List ℕ → List ℕ → Result Run Refusal → Type 0
+Writes table left (Ok x) =
+    Describes table
+    (λ (sys : System). Joins sys sys.start (take x.steps left) × PeakIs sys (take x.steps left) sys.start x.peak)
+Writes table left (Err r) = 1 ≤ r.number

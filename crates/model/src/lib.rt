@@ -7,7 +7,8 @@ pub const WRITTEN_PLACES: usize = 6;
 // The most steps of a run that is written.
 pub const LONGEST_RUN: u32 = 1000000;
 
-// The refusals by number: of a table, then of the calls. Those of the desk and the plan stand in their own crates of definitions.
+// The refusals by number: of a table, then of the calls. Those of the desk and the plan stand in their own crates of definitions. They are numbers and no enum:
+// the documents number them, definitions compare them (`changes_nothing`), C and `line` give them, and a request adds its own in the crate of its subject.
 pub const CUT: u8 = 1;
 
 pub const STRANGER: u8 = 2;
@@ -40,9 +41,10 @@ pub const SHORT_SCRATCH: u8 = 15;
 
 pub const NO_RUN: u8 = 16;
 
-// Document 01: a state group. One local state for each of the four processes, 255 where a process has no part.
+// Document 01: a state group. One local state for each of the four processes, 255 where a process has no part. Named fields and no array: it is C's struct, and
+// the definitions go by process (`at`).
 #[repr(C)]
-#[derive(Clone, Copy)]
+#[derive(Clone, Copy, Debug, PartialEq, Eq)]
 pub struct Group {
     pub s0: u8,
     pub s1: u8,
@@ -58,9 +60,16 @@ pub struct Placed {
     pub top: usize,
 }
 
-// What the answer call gives: the verdict with its figures, or a refusal with its number and place.
-#[derive(Clone, Copy)]
-pub enum Answered {
+// Why a call is refused: the number that the documents give the check which does not pass, and the place.
+#[derive(Clone, Copy, Debug, PartialEq, Eq)]
+pub struct Refusal {
+    pub number: u8,
+    pub place: usize,
+}
+
+// What the answer call gives where it is not refused: the verdict with its figures.
+#[derive(Clone, Copy, Debug, PartialEq, Eq)]
+pub enum Verdict {
     Reachable {
         transitions: u32,
         rounds: u32,
@@ -70,44 +79,28 @@ pub enum Answered {
         transitions: u32,
         rounds: u32,
     },
-    Refused {
-        number: u8,
-        place: usize,
-    },
 }
 
-// What the run call gives: the figures of the reachable verdict and the peak, or a refusal.
-#[derive(Clone, Copy)]
-pub enum Ran {
-    Reached {
-        transitions: u32,
-        rounds: u32,
-        steps: u32,
-        peak: u32,
-    },
-    Refused {
-        number: u8,
-        place: usize,
-    },
+// What the run call gives where it is not refused: the figures of the reachable verdict, and the peak.
+#[derive(Clone, Copy, Debug, PartialEq, Eq)]
+pub struct Run {
+    pub transitions: u32,
+    pub rounds: u32,
+    pub steps: u32,
+    pub peak: u32,
 }
 
 // What the answer call and the run call give where one saturation serves both.
-#[derive(Clone, Copy)]
+#[derive(Clone, Copy, Debug, PartialEq, Eq)]
 pub struct AnswerAndRun {
-    pub answered: Answered,
-    pub ran: Ran,
+    pub answered: Result<Verdict, Refusal>,
+    pub ran: Result<Run, Refusal>,
 }
 
-// What the walk call gives: the end states, the length of the pile and whether the situation is watched, or a refusal.
-#[derive(Clone, Copy)]
-pub enum Walked {
-    Ended {
-        states: Group,
-        length: usize,
-        watched: bool,
-    },
-    Refused {
-        number: u8,
-        place: usize,
-    },
+// What the walk call gives where it is not refused: the end states, the length of the pile, and whether the situation is watched.
+#[derive(Clone, Copy, Debug, PartialEq, Eq)]
+pub struct Ending {
+    pub states: Group,
+    pub length: usize,
+    pub watched: bool,
 }

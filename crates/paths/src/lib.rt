@@ -17,7 +17,7 @@ use keys::holds;
 use model::WRITTEN_PLACES;
 use packs::{after_at, merged, number, restricted, unpack};
 use records::{Entry, STEPS_CAP, put_record, steps_at};
-use rings::{first_fresh, first_match, next_match};
+use rings::Rings;
 use scratch::{PASSED, RINGS, SEEN, keys_at};
 use states::numbering::STATES;
 use states::sets;
@@ -49,29 +49,10 @@ pub struct Trail {
     pub steps: u32,
 }
 
-fn letter_of(job: Job, level: usize) -> u8
-    requires { level < written_places }
-    ensures { result ≡ get_or job.letters level 0 }
-{
-    let letters = job.letters;
-    letters[level]
-}
-
-fn mask_of(job: Job, level: usize) -> u32
-    requires { level < written_places }
-    ensures { result ≡ get_or job.masks level 0 }
-{
-    let masks = job.masks;
-    masks[level]
-}
-
 fn capped(x: u32) -> u32
     ensures { result ≡ min x steps_cap }
 {
-    if x < STEPS_CAP {
-        return x;
-    }
-    STEPS_CAP
+    x.min(STEPS_CAP)
 }
 
 // The path with record r behind it.
@@ -91,10 +72,7 @@ fn longer(log: &[u8], trail: Trail, level: usize, r: usize) -> Trail
 fn is_fresh(job: Job, found: bool, r: usize) -> bool
     ensures { result ≡ (found || leb job.lo r) }
 {
-    if found {
-        return true;
-    }
-    job.lo <= r
+    found || job.lo <= r
 }
 
 // The first record to try at a place: of any round where the path has one of the last round or may get one later, else of the last.
@@ -110,23 +88,19 @@ fn first_try(
     requires { RingRoom log.now job.base job.n rings_at scratch.now × Ringed log.now job.base job.n rings_at scratch.now × Freshened log.now job.lo job.base job.n rings_at scratch.now × (job.lo ≤ job.base) }
     ensures { result ≡ first_from (record_reads log.now letter g) (first_tried job level found) (job.base - first_tried job level found) }
 {
-    if found {
-        return first_match(log, scratch, RINGS, job.n, job.base, letter, g);
+    let rings = Rings::new(log, scratch, RINGS, job.n, job.base);
+    if found || level < job.last {
+        rings.first_match(letter, g)
+    } else {
+        rings.first_fresh(job.lo, letter, g)
     }
-    if level < job.last {
-        return first_match(log, scratch, RINGS, job.n, job.base, letter, g);
-    }
-    first_fresh(log, scratch, RINGS, job.n, job.lo, job.base, letter, g)
 }
 
 fn slot(level: usize, found: bool) -> usize
     requires { level < written_places }
     ensures { (result ≡ 8 * passed_at + (2 * level + cond found 1 0) * 4096) × (result + 4096 ≤ 8 * passed_end) }
 {
-    if found {
-        return 8 * PASSED + (2 * level + 1) * STATES;
-    }
-    8 * PASSED + 2 * level * STATES
+    8 * PASSED + (2 * level + usize::from(found)) * STATES
 }
 
 // Whether the search has come by the state at this depth, so that it leads to nothing new.
@@ -134,13 +108,8 @@ fn is_passed(scratch: &[u8], level: usize, found: bool, x: usize) -> bool
     requires { Passable scratch.now level x }
     ensures { result ≡ is_passed scratch.now level found x }
 {
-    if sets::contains(scratch, slot(level, true) + x) {
-        return true;
-    }
-    if found {
-        return false;
-    }
-    sets::contains(scratch, slot(level, found) + x)
+    sets::contains(scratch, slot(level, true) + x)
+        || (!found && sets::contains(scratch, slot(level, false) + x))
 }
 
 // Notes that the search has come by the state.
@@ -151,7 +120,8 @@ fn pass(scratch: &mut [u8], level: usize, found: bool, x: usize)
     sets::insert(scratch, slot(level, found) + x);
 }
 
-// Writes the record of an end as record `count`, if the log has room for it; gives the number of records then, or n + 1.
+// Writes the record of an end as record `count`, if the log has room for it; gives the number of records then, or n + 1. No Option:
+// the search counts on at a full log, and tests for room here alone.
 fn store(log: &mut [u8], job: Job, after: u32, trail: Trail, count: usize) -> usize
     requires { (job.n * record_length ≤ length log.old) × (job.n ≤ 65535) × (count ≤ job.n + 1) }
     ensures { (result ≡ min (count + 1) (job.n + 1)) × (log.new ≡ stored_end log.old job after trail count) }
@@ -168,9 +138,10 @@ fn store(log: &mut [u8], job: Job, after: u32, trail: Trail, count: usize) -> us
             steps: trail.steps,
         };
         put_record(log, count, e);
-        return count + 1;
+        count + 1
+    } else {
+        job.n + 1
     }
-    job.n + 1
 }
 
 // Whether a record has the rule's letter and states before and the end x.
@@ -178,11 +149,17 @@ fn is_held(log: &[u8], scratch: &[u8], job: Job, x: usize) -> bool
     requires { Lookable job log.now scratch.now × (x < state_count) }
     ensures { result ≡ held_by job log.now x }
 {
-    if !job.held {
-        return false;
-    }
-    let at = keys_at(job.n);
-    holds(log, scratch, at, job.n, job.base, job.letter, job.before, x)
+    job.held
+        && holds(
+            log,
+            scratch,
+            keys_at(job.n),
+            job.n,
+            job.base,
+            job.letter,
+            job.before,
+            x,
+        )
 }
 
 // Whether the search came by the end x before, or the log holds it. Notes it.
@@ -260,8 +237,8 @@ pub fn explore(
     ensures { Searched job (held_by job log.old) (offers job (glances log.old job.base) level found (unpacked state) (take level trail.places)) count log.old scratch.old result log.new scratch.new }
 {
     let width = job.count;
-    let letter = letter_of(job, level);
-    let mask = mask_of(job, level);
+    let letter = job.letters[level];
+    let mask = job.masks[level];
     let g = restricted(mask, state);
     let base = job.base;
     let n = job.n;
@@ -280,7 +257,7 @@ pub fn explore(
                 pass(scratch, level + 1, new, x);
             }
         }
-        r = next_match(log, scratch, RINGS, n, base, r, letter, g);
+        r = Rings::new(log, scratch, RINGS, n, base).next_match(r, letter, g);
     }
     total
 }

@@ -7,7 +7,8 @@ use Prim.Native.Nat.{ℕ}
 use lib.IntN.{ℤ}
 use Rattle.plan_model.specs.declared.Window.{Window}
 use Rattle.model.specs.Groups.{Process}
-use Rattle.plan_model.specs.Hours.{PlanMeans, PlannedStep, fits, never_fits, plan_call, planned_place, planned_refusal}
+use Rattle.plan_model.specs.Hours.{PlanMeans, PlannedStep, fits, never_fits, plan_call}
+use Rattle.model.specs.Calls.{refused_at, refused_by}
 use Rattle.plan_model.proofs.Plans.{plan_means}
 use Rattle.plan_model.proofs.Weeks.{never_true, never_where_none}
 
@@ -15,7 +16,7 @@ use Rattle.plan_model.proofs.Weeks.{never_true, never_where_none}
 -- a step fits no minute of any week
 pub plan_holds : (table run : List ℕ) (hours : List (List Window)) (counts lengths : List ℕ) (start : ℤ) (begins : List ℤ)
     → let o = plan_call table run hours counts lengths start begins in
-    PlanMeans table run hours counts lengths start (planned_refusal o.answer) (planned_place o.answer) o.begins
+    PlanMeans table run hours counts lengths start (refused_by o.answer) (refused_at o.answer) o.begins
 plan_holds = plan_means
 
 -- of one step, for every minute of the integers

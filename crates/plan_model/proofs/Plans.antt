@@ -12,11 +12,11 @@ use lib.Dec.{leb, ltb}
 use lib.IntN.{ℤ, pos, ◌+ℤ◌}
 use lib.ListN.{drop, length, length-append, length-drop, length-map}
 use borrow.Author.Tests.{leb-true, ltb-true, ltb-false}
-use Rattle.plan_model.specs.declared.Planned.{Planned}
+use Rattle.model.specs.Calls.{refuse, refused_at, refused_by}
 use Rattle.plan_model.specs.declared.Window.{Window}
 use Rattle.model.specs.Groups.{Process}
 use Rattle.model.specs.Tables.{Item, Reading, accepted, count, read, refused, system_of}
-use Rattle.plan_model.specs.Hours.{BeginsFirst, Exact20, NeverOpen, PlanMeans, PlannedStep, at_start, begins_after, begins_from, ended_at, begin_of, first_never, fits, hours_fit, lengths_fit, never_fits, never_or, plan_begins, plan_call, plan_fits, plan_given, planned_place, planned_refusal, run_fits, start_fits, step_at, step_of, steps_of, week_of}
+use Rattle.plan_model.specs.Hours.{BeginsFirst, Exact20, NeverOpen, PlanMeans, Planned, PlannedStep, at_start, begins_after, begins_from, ended_at, begin_of, first_never, fits, given, hours_fit, lengths_fit, never_fits, never_or, plan_begins, plan_call, plan_fits, plan_given, run_fits, start_fits, step_at, step_of, steps_of, week_of}
 use Rattle.model.proofs.Closing.{refusal_number}
 use Rattle.plan_model.proofs.FirstMinutes.{NoneNever, plan_first}
 use Rattle.model.proofs.Tests.{and_right, by_test}
@@ -83,9 +83,9 @@ begins_count week start ends (s ∷ steps) =
 module _ (table run : List ℕ) (hours : List (List Window)) (counts lengths : List ℕ) (start : ℤ) (begins : List ℤ) where
   -- what the call means, by its answer and its closing list
   abbrev Means : Planned → List ℤ → Type 0
-  Means answer closing = PlanMeans table run hours counts lengths start (planned_refusal answer) (planned_place answer) closing
+  Means answer closing = PlanMeans table run hours counts lengths start (refused_by answer) (refused_at answer) closing
 
-  refused_means : (number place : ℕ) → read table ≡ refused number place → Means (Planned.Refused number place) begins
+  refused_means : (number place : ℕ) → read table ≡ refused number place → Means (refuse number place) begins
   refused_means number place e = record {
     first_minutes = λ z. absurd (omega (arith, z, (refusal_number table number place e).0));
     refused_table = λ n p q. let same : refused number place ≡ refused n p = sym e ∙ q in (cc, cc);
@@ -99,11 +99,11 @@ module _ (table run : List ℕ) (hours : List (List Window)) (counts lengths : L
   -- what 19 and 20 mean, if these are the table's items
   abbrev Means19 : Planned → List ℤ → List Item → Type 0
   Means19 answer closing items = (plan_fits (count 1 items) (count 3 items) run hours counts lengths start (length closing) ≡ false)
-      ↔ ((planned_refusal answer ≡ 19) × (planned_place answer ≡ 0))
+      ↔ ((refused_by answer ≡ 19) × (refused_at answer ≡ 0))
 
   abbrev Means20 : Planned → List ℤ → List Item → Type 0
   Means20 answer closing items = plan_fits (count 1 items) (count 3 items) run hours counts lengths start (length closing) ≡ true
-      → Exact20 (week_of hours counts) (steps_of (system_of items) lengths run) (planned_refusal answer) (planned_place answer)
+      → Exact20 (week_of hours counts) (steps_of (system_of items) lengths run) (refused_by answer) (refused_at answer)
 
   module _ (items : List Item) (e : read table ≡ accepted items) where
     abbrev steps : List PlannedStep
@@ -116,7 +116,7 @@ module _ (table run : List ℕ) (hours : List (List Window)) (counts lengths : L
     planned = begins_from week start (at_start start) steps
 
     -- a table has one reading
-    of_reading : (answer : Planned) (closing : List ℤ) → (planned_refusal answer ≡ 0 → (k : ℕ) → k < length run → BeginsFirst week start steps closing k)
+    of_reading : (answer : Planned) (closing : List ℤ) → (refused_by answer ≡ 0 → (k : ℕ) → k < length run → BeginsFirst week start steps closing k)
         → Means19 answer closing items → Means20 answer closing items → Means answer closing
     of_reading answer closing f m n = record {
       first_minutes = λ z. (items, e, f z);
@@ -148,11 +148,11 @@ module _ (table run : List ℕ) (hours : List (List Window)) (counts lengths : L
     passed y (some k) = ((λ n. absurd (true≢false (sym y ∙ n))), (λ n. absurd (omega (arith, n.0))))
 
     given_means : fit begins ≡ true → (o : Option ℕ) → Checked20 week steps 0 o → Means (never_or o) (begins_after (never_or o) planned begins)
-    given_means y none h = of_reading Planned.Given _
+    given_means y none h = of_reading given _
         (λ z k l. plan_first week start _ steps h k (subst (λ (n : ℕ). k < n) (sym (length-map run _)) l))
         (passed y none)
         (λ g. record { refused_20 = λ k. ((λ n. absurd (never_none week steps h k n)), (λ n. absurd (omega (arith, n.0)))); given = λ n. refl })
-    given_means y (some m) (j, q, n) = of_reading (Planned.Refused 20 m) begins
+    given_means y (some m) (j, q, n) = of_reading (refuse 20 m) begins
         (λ z. absurd (omega (arith, z)))
         (passed y (some m))
         (λ g. record {
@@ -165,7 +165,7 @@ module _ (table run : List ℕ) (hours : List (List Window)) (counts lengths : L
     unfolding plan_given
     accepted_means = by_test (fit begins)
         (λ y. rw y (given_means y (first_never week steps 0) (check_20 week steps 0)))
-        (λ y. rw y (of_reading (Planned.Refused 19 0) begins (λ z. absurd (omega (arith, z))) ((λ n. (refl, refl)), (λ n. y)) (λ g. absurd (true≢false (sym g ∙ y)))))
+        (λ y. rw y (of_reading (refuse 19 0) begins (λ z. absurd (omega (arith, z))) ((λ n. (refl, refl)), (λ n. y)) (λ g. absurd (true≢false (sym g ∙ y)))))
 
   by_reading : (r : Reading) → read table ≡ r
       → let answer = plan_given r run hours counts lengths start (length begins) in
@@ -175,6 +175,6 @@ module _ (table run : List ℕ) (hours : List (List Window)) (counts lengths : L
   by_reading (accepted items) e = accepted_means items e
 
   pub plan_means : let o = plan_call table run hours counts lengths start begins in
-      PlanMeans table run hours counts lengths start (planned_refusal o.answer) (planned_place o.answer) o.begins
+      PlanMeans table run hours counts lengths start (refused_by o.answer) (refused_at o.answer) o.begins
   unfolding plan_call
   plan_means = by_reading (read table) refl

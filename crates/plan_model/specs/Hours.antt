@@ -1,13 +1,14 @@
 -- Request 2.7, opening hours: minutes, when processes are open, the plan of a run on the week, its checks, the call,
 -- and the claim.
-use Rattle.std.specs.Prelude.{Bool, true, false, cond, not, ◌&&◌, ◌||◌, List, [], ◌∷◌, ◌++◌, map, ◌↔◌, ◌≡◌, ℕ, zero, suc, ◌+◌, ◌-◌, ◌%◌, ◌<◌, min, ltb, leb, ℤ, pos, negsuc, ◌+ℤ◌, length, get_or, take, drop}
+use Rattle.std.specs.Prelude.{Bool, true, false, cond, not, ◌&&◌, ◌||◌, List, [], ◌∷◌, ◌++◌, map, ◌↔◌, ◌≡◌, ℕ, zero, suc, ◌+◌, ◌-◌, ◌%◌, ◌<◌, min, ltb, leb, ℤ, pos, negsuc, ◌+ℤ◌, length, get_or, take, drop, Result, Ok, Err, ⊤}
 use Rattle.std.proofs.Math.Option.{Option, none, some}
 use Rattle.std.specs.Int.Signed.{lt_z, le_z}
-use Rattle.plan_model.specs.declared.Planned.{Planned}
 use Rattle.plan_model.specs.declared.Window.{Window}
 use Rattle.model.specs.Lists.{any_of, is_missing, value_or, all_below}
 use Rattle.model.specs.Groups.{Process, Processes, at_each, every, has, processes_of, number_of, fold_each}
 use Rattle.model.specs.Systems.{System}
+use Rattle.model.specs.declared.Refusal.{Refusal}
+use Rattle.model.specs.Calls.{refuse}
 use Rattle.model.specs.Participation.{rule_processes}
 use Rattle.model.specs.Tables.{Item, Reading, accepted, refused, read, system_of, count}
 use Rattle.model.specs.Demands.{Describes}
@@ -160,17 +161,24 @@ step_of sys lengths n = record { processes = rule_processes sys n; minutes = get
 abbrev pub steps_of : System → List ℕ → List ℕ → List PlannedStep
 steps_of sys lengths run = map (step_of sys lengths) run
 
+-- what the plan call gives: that the plan is laid, or why it is refused
+abbrev pub Planned : Type 0
+Planned = Result ⊤ Refusal
+
+abbrev pub given : Planned
+given = Ok tt
+
 abbrev pub never_or : Option ℕ → Planned
-never_or none = Planned.Given
-never_or (some k) = Planned.Refused 20 k
+never_or none = given
+never_or (some k) = refuse 20 k
 
 -- "Checks, after the table's own: 19 ..; 20 comes after 19"
 unfoldable pub plan_given : Reading → List ℕ → List (List Window) → List ℕ → List ℕ → ℤ → ℕ → Planned
-plan_given (refused number place) run hours counts lengths start room = Planned.Refused number place
+plan_given (refused number place) run hours counts lengths start room = refuse number place
 plan_given (accepted items) run hours counts lengths start room =
     cond (plan_fits (count 1 items) (count 3 items) run hours counts lengths start room)
     (never_or (first_never (week_of hours counts) (steps_of (system_of items) lengths run) 0))
-    (Planned.Refused 19 0)
+    (refuse 19 0)
 
 unfoldable pub plan_begins : Reading → List ℕ → List (List Window) → List ℕ → List ℕ → ℤ → List ℤ
 plan_begins (refused number place) run hours counts lengths start = []
@@ -180,8 +188,8 @@ plan_begins (accepted items) run hours counts lengths start =
 -- "A refused plan leaves the lent list .. unchanged; a given one leaves the places after the run's last step
 -- unchanged."
 abbrev pub begins_after : Planned → List ℤ → List ℤ → List ℤ
-begins_after Planned.Given planned begins = planned ++ drop (length planned) begins
-begins_after (Planned.Refused number place) planned begins = begins
+begins_after (Ok x) planned begins = planned ++ drop (length planned) begins
+begins_after (Err r) planned begins = begins
 
 pub record PlanOutcome : Type 0 where
   pub answer : Planned
@@ -189,20 +197,11 @@ pub record PlanOutcome : Type 0 where
 
 unfoldable pub plan_call : List ℕ → List ℕ → List (List Window) → List ℕ → List ℕ → ℤ → List ℤ → PlanOutcome
 plan_call table run hours counts lengths start begins =
-    let given = plan_given (read table) run hours counts lengths start (length begins) in
+    let answer = plan_given (read table) run hours counts lengths start (length begins) in
     record {
-      answer = given;
-      begins = begins_after given (plan_begins (read table) run hours counts lengths start) begins;
+      answer = answer;
+      begins = begins_after answer (plan_begins (read table) run hours counts lengths start) begins;
     }
-
--- document 01's number and place for every case
-abbrev pub planned_refusal : Planned → ℕ
-planned_refusal Planned.Given = 0
-planned_refusal (Planned.Refused number place) = number
-
-abbrev pub planned_place : Planned → ℕ
-planned_place Planned.Given = 0
-planned_place (Planned.Refused number place) = place
 
 -- ---- the claim, in the request's words
 -- t is the minute s, or some minutes later

@@ -2,13 +2,13 @@
 -- processes, rule 1 of process 0, rule 2 of process 1. The list of begins has four places and is used before: all its
 -- minutes are 7.
 use Rattle.std.specs.Prelude.{◌≡◌, refl, List, [], ◌∷◌, map, ℕ, ℤ, pos, negsuc, length, replicate}
-use Rattle.plan_model.specs.declared.Planned.{Planned}
+use Rattle.model.specs.Calls.{refuse}
 use Rattle.plan_model.specs.declared.Window.{Window}
 use Rattle.model.specs.Tables.{is_out_of_turn, group_fits, transition_fits, written_fit, value_fits, cooperates, is_narrow}
 use Rattle.model.specs.Tables.{is_reentry, is_twin, refusal, read_from, read, system_of}
 use Rattle.plan_model.specs.Hours.{PlanOutcome, begin_of, begins_from, bound_of, delay, ended_at, first_among}
 use Rattle.plan_model.specs.Hours.{first_never, fits, hours_fit, lengths_fit, never_fits, plan_begins, plan_call}
-use Rattle.plan_model.specs.Hours.{plan_fits, plan_given, run_fits, start_fits}
+use Rattle.plan_model.specs.Hours.{Planned, given, plan_fits, plan_given, run_fits, start_fits}
 use Rattle.model.specs.SmallTables.{table_T}
 
 -- from the opening minute to the closing one, which is not included
@@ -105,62 +105,62 @@ usual = 6 ∷ 2 ∷ 2 ∷ []
 abbrev pub small_plans : List SmallPlan
 small_plans =
     -- open all week: rules 1 and 2 begin when rule 0 has ended; the fourth place is left as it was
-    on_T (0 ∷ 1 ∷ 2 ∷ []) all_week all_week usual (pos 0) Planned.Given (pos 0 ∷ pos 6 ∷ pos 6 ∷ pos 7 ∷ [])
+    on_T (0 ∷ 1 ∷ 2 ∷ []) all_week all_week usual (pos 0) given (pos 0 ∷ pos 6 ∷ pos 6 ∷ pos 7 ∷ [])
     -- the minute before the plan's Monday
-    ∷ on_T (1 ∷ []) (from_to 10079 10080 ∷ []) [] (6 ∷ 1 ∷ 2 ∷ []) (negsuc 2) Planned.Given (begin (negsuc 0))
+    ∷ on_T (1 ∷ []) (from_to 10079 10080 ∷ []) [] (6 ∷ 1 ∷ 2 ∷ []) (negsuc 2) given (begin (negsuc 0))
     -- both are open from minute 20 of the next week on; the first step just fits, and ends as the window closes
-    ∷ on_T (0 ∷ 2 ∷ []) short (from_to 10 40 ∷ []) usual (pos 10070) Planned.Given (begin_both (pos 10100) (pos 10106))
+    ∷ on_T (0 ∷ 2 ∷ []) short (from_to 10 40 ∷ []) usual (pos 10070) given (begin_both (pos 10100) (pos 10106))
     -- minutes of the week before
-    ∷ on_T (0 ∷ []) short (from_to 10 40 ∷ []) usual (negsuc 10074) Planned.Given (begin (negsuc 10059))
+    ∷ on_T (0 ∷ []) short (from_to 10 40 ∷ []) usual (negsuc 10074) given (begin (negsuc 10059))
     -- windows that touch and that overlap run on, and so do those across Sunday midnight
     ∷ on_T (1 ∷ []) (from_to 110 120 ∷ from_to 100 108 ∷ from_to 105 110 ∷ []) [] (6 ∷ 20 ∷ 2 ∷ []) (pos 95)
-    Planned.Given (begin (pos 100))
+    given (begin (pos 100))
     ∷ on_T (1 ∷ []) (from_to 0 15 ∷ from_to 10075 10080 ∷ []) [] (6 ∷ 20 ∷ 2 ∷ []) (pos 10060)
-    Planned.Given (begin (pos 10075))
+    given (begin (pos 10075))
     -- a step waits for its own process only, and begins may fall
-    ∷ on_T (1 ∷ 2 ∷ []) short all_week usual (pos 0) Planned.Given (begin_both (pos 20) (pos 0))
+    ∷ on_T (1 ∷ 2 ∷ []) short all_week usual (pos 0) given (begin_both (pos 20) (pos 0))
     -- the empty run is given, also where nothing opens
-    ∷ on_T [] [] [] usual (pos 0) Planned.Given unchanged
+    ∷ on_T [] [] [] usual (pos 0) given unchanged
     -- never open: the window of process 1 is a minute too short
-    ∷ on_T (1 ∷ 2 ∷ []) short (from_to 20 21 ∷ []) usual (pos 0) (Planned.Refused 20 1) unchanged
+    ∷ on_T (1 ∷ 2 ∷ []) short (from_to 20 21 ∷ []) usual (pos 0) (refuse 20 1) unchanged
     -- bad hours: a window that closes as it opens, one that closes too late, of a process that no step needs
-    ∷ on_T (1 ∷ []) all_week (from_to 60 60 ∷ []) usual (pos 0) (Planned.Refused 19 0) unchanged
-    ∷ on_T (1 ∷ []) all_week (from_to 60 10081 ∷ []) usual (pos 0) (Planned.Refused 19 0) unchanged
+    ∷ on_T (1 ∷ []) all_week (from_to 60 60 ∷ []) usual (pos 0) (refuse 19 0) unchanged
+    ∷ on_T (1 ∷ []) all_week (from_to 60 10081 ∷ []) usual (pos 0) (refuse 19 0) unchanged
     -- 14 windows, and 15; windows past a count are not looked at, neither for 19 nor for 20
-    ∷ by_count (minutes 14) 14 [] [] (6 ∷ 1 ∷ 2 ∷ []) Planned.Given (begin (pos 0))
-    ∷ by_count (minutes 15) 15 [] [] (6 ∷ 1 ∷ 2 ∷ []) (Planned.Refused 19 0) unchanged
-    ∷ by_count (from_to 0 1 ∷ no_window ∷ []) 1 [] [] (6 ∷ 1 ∷ 2 ∷ []) Planned.Given (begin (pos 0))
-    ∷ by_count (from_to 0 1 ∷ all_week) 1 [] [] usual (Planned.Refused 20 0) unchanged
-    ∷ by_count (from_to 0 1 ∷ all_week) 2 [] [] usual Planned.Given (begin (pos 0))
+    ∷ by_count (minutes 14) 14 [] [] (6 ∷ 1 ∷ 2 ∷ []) given (begin (pos 0))
+    ∷ by_count (minutes 15) 15 [] [] (6 ∷ 1 ∷ 2 ∷ []) (refuse 19 0) unchanged
+    ∷ by_count (from_to 0 1 ∷ no_window ∷ []) 1 [] [] (6 ∷ 1 ∷ 2 ∷ []) given (begin (pos 0))
+    ∷ by_count (from_to 0 1 ∷ all_week) 1 [] [] usual (refuse 20 0) unchanged
+    ∷ by_count (from_to 0 1 ∷ all_week) 2 [] [] usual given (begin (pos 0))
     -- nor are processes and rules that the table lacks; process 1 it has
-    ∷ by_count all_week 1 ([] ∷ (no_window ∷ []) ∷ (no_window ∷ []) ∷ []) (0 ∷ 1 ∷ 99 ∷ []) usual Planned.Given
+    ∷ by_count all_week 1 ([] ∷ (no_window ∷ []) ∷ (no_window ∷ []) ∷ []) (0 ∷ 1 ∷ 99 ∷ []) usual given
     (begin (pos 0))
-    ∷ by_count all_week 1 ((no_window ∷ []) ∷ [] ∷ [] ∷ []) (1 ∷ 0 ∷ 0 ∷ []) usual (Planned.Refused 19 0) unchanged
-    ∷ by_count all_week 1 [] [] (6 ∷ 2 ∷ 2 ∷ 0 ∷ 9999 ∷ []) Planned.Given (begin (pos 0))
+    ∷ by_count all_week 1 ((no_window ∷ []) ∷ [] ∷ [] ∷ []) (1 ∷ 0 ∷ 0 ∷ []) usual (refuse 19 0) unchanged
+    ∷ by_count all_week 1 [] [] (6 ∷ 2 ∷ 2 ∷ 0 ∷ 9999 ∷ []) given (begin (pos 0))
     -- four processes, each with windows and a count of its own: the step waits for the last of them
     ∷ on_four ((from_to 0 99 ∷ []) ∷ (from_to 10 99 ∷ []) ∷ (from_to 20 99 ∷ []) ∷ (from_to 30 99 ∷ []) ∷ [])
-    (1 ∷ 1 ∷ 1 ∷ 1 ∷ []) Planned.Given (begin (pos 30))
+    (1 ∷ 1 ∷ 1 ∷ 1 ∷ []) given (begin (pos 30))
     ∷ on_four (all_week ∷ all_week ∷ all_week ∷ (from_to 0 4 ∷ from_to 50 60 ∷ []) ∷ []) (1 ∷ 1 ∷ 1 ∷ 2 ∷ [])
-    Planned.Given (begin (pos 50))
+    given (begin (pos 50))
     ∷ on_four (all_week ∷ all_week ∷ all_week ∷ (from_to 0 4 ∷ from_to 50 60 ∷ []) ∷ []) (1 ∷ 1 ∷ 1 ∷ 1 ∷ [])
-    (Planned.Refused 20 0) unchanged
+    (refuse 20 0) unchanged
     ∷ on_four (all_week ∷ all_week ∷ all_week ∷ (from_to 0 5 ∷ no_window ∷ []) ∷ []) (1 ∷ 1 ∷ 1 ∷ 2 ∷ [])
-    (Planned.Refused 19 0) unchanged
+    (refuse 19 0) unchanged
     -- a rule of 1,440 minutes, and of one more; a rule without a length, and a length of 0, of a rule that no step has;
     -- before any 20
-    ∷ on_T (1 ∷ []) all_week [] (6 ∷ 1440 ∷ 2 ∷ []) (pos 0) Planned.Given (begin (pos 0))
-    ∷ on_T (0 ∷ []) [] [] (6 ∷ 2 ∷ 1441 ∷ []) (pos 0) (Planned.Refused 19 0) unchanged
-    ∷ on_T (0 ∷ []) [] [] (6 ∷ 2 ∷ []) (pos 0) (Planned.Refused 19 0) unchanged
-    ∷ on_T (0 ∷ []) [] [] (6 ∷ 2 ∷ 0 ∷ []) (pos 0) (Planned.Refused 19 0) unchanged
+    ∷ on_T (1 ∷ []) all_week [] (6 ∷ 1440 ∷ 2 ∷ []) (pos 0) given (begin (pos 0))
+    ∷ on_T (0 ∷ []) [] [] (6 ∷ 2 ∷ 1441 ∷ []) (pos 0) (refuse 19 0) unchanged
+    ∷ on_T (0 ∷ []) [] [] (6 ∷ 2 ∷ []) (pos 0) (refuse 19 0) unchanged
+    ∷ on_T (0 ∷ []) [] [] (6 ∷ 2 ∷ 0 ∷ []) (pos 0) (refuse 19 0) unchanged
     -- the first start and the last one, and one too early and one too late
-    ∷ on_T [] [] [] usual (negsuc 999999) Planned.Given unchanged
-    ∷ on_T [] [] [] usual (pos 1000000) Planned.Given unchanged
-    ∷ on_T [] [] [] usual (negsuc 1000000) (Planned.Refused 19 0) unchanged
-    ∷ on_T [] [] [] usual (pos 1000001) (Planned.Refused 19 0) unchanged
+    ∷ on_T [] [] [] usual (negsuc 999999) given unchanged
+    ∷ on_T [] [] [] usual (pos 1000000) given unchanged
+    ∷ on_T [] [] [] usual (negsuc 1000000) (refuse 19 0) unchanged
+    ∷ on_T [] [] [] usual (pos 1000001) (refuse 19 0) unchanged
     -- a rule that the table lacks; a list as long as the run, and a shorter one
-    ∷ on_T (3 ∷ []) all_week all_week usual (pos 0) (Planned.Refused 19 0) unchanged
-    ∷ on_T (1 ∷ 1 ∷ 1 ∷ 1 ∷ []) all_week all_week usual (pos 0) Planned.Given (pos 0 ∷ pos 2 ∷ pos 4 ∷ pos 6 ∷ [])
-    ∷ on_T (1 ∷ 1 ∷ 1 ∷ 1 ∷ 1 ∷ []) all_week all_week usual (pos 0) (Planned.Refused 19 0) unchanged
+    ∷ on_T (3 ∷ []) all_week all_week usual (pos 0) (refuse 19 0) unchanged
+    ∷ on_T (1 ∷ 1 ∷ 1 ∷ 1 ∷ []) all_week all_week usual (pos 0) given (pos 0 ∷ pos 2 ∷ pos 4 ∷ pos 6 ∷ [])
+    ∷ on_T (1 ∷ 1 ∷ 1 ∷ 1 ∷ 1 ∷ []) all_week all_week usual (pos 0) (refuse 19 0) unchanged
     -- a table that is refused
     ∷ record {
       table = [];
@@ -169,7 +169,7 @@ small_plans =
       counts = [];
       lengths = [];
       start = pos 0;
-      answer = Planned.Refused 1 0;
+      answer = refuse 1 0;
       begins = unchanged;
     }
     ∷ []

@@ -23,10 +23,3 @@ pub struct Window {
     pub opens: u16,
     pub closes: u16,
 }
-
-// What the plan call gives: the plan is laid, or a refusal.
-#[derive(Clone, Copy)]
-pub enum Planned {
-    Given,
-    Refused { number: u8, place: usize },
-}

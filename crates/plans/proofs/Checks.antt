@@ -1,45 +1,35 @@
 -- The loops of check 19, what their answers say, the step of a rule, and the loop of check 20 with the rules it notes.
-use mathlib.Core.Path.{◌≡◌, refl, ap, sym, ◌∙◌}
+use mathlib.Core.Path.{◌≡◌, ap, sym, ◌∙◌}
 use mathlib.Core.Bool.{Bool, true, false, false≢true}
 use mathlib.Core.List.{List}
 use mathlib.Core.Option.{none, some}
 use Prim.Native.Nat.{ℕ, ◌+◌, ◌≤◌, ◌<◌}
 use native.Mathlib.Numerals.{add-one}
 use native.Mathlib.Omega.{arith}
-use lib.Dec.{eqb, leb, ltb}
-use lib.ListN.{length, get_or, drop, set, replicate, drop_of_length-le}
-use lib.Seq.{drop-cons, get_or-set_other}
-use borrow.Author.Tests.{eqb-true, eqb-false, leb-true, ltb-true}
+use lib.Dec.{leb, ltb}
+use lib.ListN.{length, get_or, drop, replicate, drop_of_length-le}
+use lib.Seq.{drop-cons}
+use borrow.Author.Tests.{leb-true, ltb-true}
 use Rattle.plan_model.specs.declared.Window.{Window}
 use Rattle.model.specs.Groups.{Process}
 use Rattle.model.specs.Lists.{all_below}
 use Rattle.plan_model.specs.Hours.{first_never, length_fits, lengths_fit, longest_step, never_fits, run_fits, step_of, steps_of}
 use Rattle.model.specs.Systems.{System}
 use Rattle.model.proofs.Lists.{all_alike}
-use Rattle.model.proofs.Tests.{and_left, and_right, by_test, all_below_at, all_below_fails}
+use Rattle.model.proofs.Tests.{and_left, and_right, all_below_at, all_below_fails, all_below_of}
+use Rattle.std.proofs.Common.{MatchBool}
+use Rattle.std.specs.List.{AllWithin, HoldsAt}
 use Rattle.table.specs.declared.Table.{Table}
 use Rattle.table.specs.Reading.{BitsOf, Holds, rule_in, system_in}
 use Rattle.table.proofs.Layouts.{rule_processes_lem}
-use Rattle.hours.specs.Searching.{Searched, step_by}
-use Rattle.plans.specs.Planning.{Judged, Ready}
+use Rattle.hours.specs.Searching.{step_by}
+use Rattle.plans.specs.Planning.{Judged}
 
--- ---- a loop that tests all numbers below n: those below k have passed
-pub record Passing (n : ℕ) (f : ℕ → Bool) (k : ℕ) : Type 0 where
-  pub within : k ≤ n
-  pub passed : all_below k f ≡ true
-
-module _ {n : ℕ} {f : ℕ → Bool} where
-  pub passing_start : Passing n f 0
-  passing_start = record { within = omega arith; passed = refl }
-
-  pub passing_turn : {k : ℕ} → Passing n f k → k < n → f k ≡ true → Passing n f (k + 1)
-  passing_turn {k} p l e = record { within = omega arith; passed = rw (add-one k, p.passed, e) }
-
-  pub passing_end : {k : ℕ} → Passing n f k → n ≤ k → true ≡ all_below n f
-  passing_end {k} p l = let q : k ≡ n = omega (arith, p.within) in sym (rw q at p.passed)
-
-  pub passing_fails : {k : ℕ} → Passing n f k → k < n → f k ≡ false → false ≡ all_below n f
-  passing_fails {k} p l e = sym (all_below_fails n f k l e)
+-- ---- a test of the first n of a list
+pub all_below_answers : {A : Type 0} (test : A → Bool) (f : ℕ → Bool) (d : A) (r : Bool) (ys : List A) (n : ℕ) → length ys ≡ n → ((k : ℕ) → k < n → test (get_or ys k d) ≡ f k)
+    → MatchBool r (AllWithin (λ x. test x ≡ true) ys 0 (length ys)) ((k : ℕ) × (k < length ys) × HoldsAt (λ x. test x ≡ false) ys k) → r ≡ all_below n f
+all_below_answers test f d true ys n size same h = sym (all_below_of n f (λ k l. sym (same k l) ∙ h k d (omega arith) (omega arith)))
+all_below_answers test f d false ys n size same h = let l : h.0 < n = omega (arith, h.1) in sym (all_below_fails n f h.0 l (sym (same h.0 l) ∙ h.2 d))
 
 -- ---- what the checks say
 module _ (rules : ℕ) (lengths : List ℕ) (e : lengths_fit rules lengths ≡ true) where
@@ -60,12 +50,6 @@ module _ (rules : ℕ) (lengths : List ℕ) (e : lengths_fit rules lengths ≡ t
       let each = and_right (leb rules (length lengths)) (all_below rules (λ n. length_fits (get_or lengths n 0))) e in
       let one = all_below_at rules (λ n. length_fits (get_or lengths n 0)) each n l in
       rw q (leb-true 1 (get_or lengths n 0) (and_left (leb 1 (get_or lengths n 0)) (leb (get_or lengths n 0) longest_step) one))
-
--- what the search for a step of rule n is given
-pub searched : {table : List ℕ} {t : Table} {hours : List (List Window)} {counts : List ℕ} {stays : List (List ℕ)} {lengths : List ℕ}
-    → Ready table t hours counts stays lengths → (n m : ℕ) → n < t.rules → m ≡ get_or lengths n 0 → Searched hours counts stays m
-searched {t = t} {lengths = lengths} r n m l q =
-    record { stay = r.stay; some_minute = length_some t.rules lengths r.lengths_checked n m l q; short = length_short t.rules lengths r.lengths_checked n m l q }
 
 module _ (rules : ℕ) (run : List ℕ) (e : run_fits rules run ≡ true) where
   pub run_short : length run ≤ 1000000
@@ -103,11 +87,3 @@ module _ (week : Process → List Window) (sys : System) (lengths run : List ℕ
 module _ (week : Process → List Window) (sys : System) (lengths : List ℕ) where
   pub judged_none : (m : ℕ) → Judged week sys lengths (replicate m false)
   judged_none m = record { fits = λ n e. absurd (false≢true (sym (all_alike m n false) ∙ e)) }
-
-  pub judged_more : (fitting : List Bool) (n : ℕ) → Judged week sys lengths fitting → never_fits week (step_of sys lengths n) ≡ false
-      → Judged week sys lengths (set fitting n true)
-  judged_more fitting n j e = record {
-    fits = λ m p. by_test (eqb m n)
-        (λ y. rw (eqb-true m n y) e)
-        (λ z. j.fits m (sym (get_or-set_other fitting n m true false (eqb-false m n z)) ∙ p));
-  }

@@ -1,6 +1,5 @@
 -- The begins are written in run order.
-use mathlib.Core.Path.{◌≡◌, refl, ap, subst, sym, ◌∙◌}
-use mathlib.Core.Bool.{true}
+use mathlib.Core.Path.{◌≡◌, ap, subst, sym, ◌∙◌}
 use mathlib.Core.List.{List, ◌∷◌, ◌++◌, append-nil}
 use Prim.Native.Nat.{ℕ, suc, ◌+◌, ◌*◌, ◌≤◌, ◌<◌}
 use native.Mathlib.Numerals.{add-one}
@@ -10,11 +9,10 @@ use lib.ListN.{length, get_or, take, drop, set, drop_of_length-le, length-set, t
 use lib.Seq.{append_snoc, drop-cons, drop-drop, drop-set-lt, take-suc-set}
 use Rattle.plan_model.specs.declared.Window.{Window}
 use Rattle.model.specs.Groups.{Process}
-use Rattle.plan_model.specs.Hours.{PlannedStep, at_start, begin_of, begins_from, end_of, ended_at, longest_step, start_fits, step_of, steps_of}
+use Rattle.plan_model.specs.Hours.{PlannedStep, at_start, begin_of, begins_from, ended_at, longest_step, step_of, steps_of}
 use Rattle.model.specs.Systems.{System}
-use Rattle.model.proofs.Tests.{each_process}
-use Rattle.plans.specs.Planning.{Minute, Near, plan_reach, step_reach}
-use Rattle.plans.proofs.Minutes.{minute_start, near_within, step_near}
+use Rattle.plans.specs.Planning.{Near, plan_reach, step_reach}
+use Rattle.plans.proofs.Minutes.{near_within, step_near}
 
 -- the first k steps are laid
 pub record Laying (week : Process → List Window) (sys : System) (lengths run : List ℕ) (start : ℤ) (begins₀ begins ends : List ℤ) (k : ℕ) : Type 0 where
@@ -25,11 +23,6 @@ pub record Laying (week : Process → List Window) (sys : System) (lengths run :
   pub done : take k begins ++ begins_from week start ends (steps_of sys lengths (drop k run)) ≡ begins_from week start (at_start start) (steps_of sys lengths run)
 
 module _ {week : Process → List Window} {sys : System} {lengths run : List ℕ} {start : ℤ} {begins₀ : List ℤ} where
-  pub laying_start : start_fits start ≡ true → Laying week sys lengths run start begins₀ begins₀ (at_start start) 0
-  laying_start e =
-      let one = minute_start start 0 in
-      record { within = omega arith; size = refl; near = record { start_fits = e; each = each_process (λ i. Minute start (end_of (at_start start) i) 0) one one one one }; rest_same = refl; done = refl }
-
   -- no process has ended too far from the start
   pub laying_near : {begins ends : List ℤ} {k : ℕ} → Laying week sys lengths run start begins₀ begins ends k → length run ≤ 1000000 → Near start ends plan_reach
   laying_near a l = near_within plan_reach (omega (arith, a.within)) a.near

@@ -1,18 +1,20 @@
 -- Bounds, ends and begins, and how near the plan's start they are.
 use mathlib.Core.Path.{◌≡◌, refl, ap, ap₂, sym, ◌∙◌}
-use mathlib.Core.Bool.{Bool, true, false, cond}
+use mathlib.Core.Bool.{Bool, true, false, cond, ◌&&◌}
 use mathlib.Core.List.{List}
 use mathlib.Core.Option.{Option, none, some}
-use Prim.Native.Nat.{ℕ, suc, ◌+◌, ◌^◌, ◌≤◌, ◌<◌}
+use Prim.Native.Nat.{ℕ, zero, suc, ◌+◌, ◌≤◌, ◌<◌}
 use native.Mathlib.Omega.{arith}
 use lib.Dec.{leb, ltb}
 use lib.IntN.{ℤ, pos, negsuc, ◌+ℤ◌, +ℤ_assoc, +ℤ_idr}
+use lib.ListN.{get_or}
+use Rattle.table.specs.Reading.{process_at}
 use lib.Signed.{lt_z, mag}
 use borrow.Author.Tests.{leb-true}
 use mir.Syntax.{w64}
 use mir.Val.{SFits}
 use Rattle.plan_model.specs.declared.Window.{Window}
-use Rattle.model.specs.Groups.{Process, Processes, has, p0, p1, p2, p3}
+use Rattle.model.specs.Groups.{Process, Processes, at_each, fold_each, has, number_of, p0, p1, p2, p3}
 use Rattle.plan_model.specs.Hours.{PlannedStep, begin_of, bound_of, delay, end_of, ended_at, later_of, longest_step, start_fits, week_minutes}
 use Rattle.model.specs.Lists.{value_or}
 use Rattle.model.proofs.Tests.{and_left, by_test, each_process}
@@ -24,16 +26,35 @@ use Rattle.plans.specs.Planning.{Minute, Near, plan_reach, step_reach}
 abbrev pub later_if : Bool → ℤ → ℤ → ℤ
 later_if part s t = cond part (later_of s t) t
 
--- ---- what is read back, where the end of a process is within its bits
-module _ (L : Processes) (ends : List ℤ) (i : Process) (f : mag (end_of ends i) < 2 ^ 63) where
-  end_read : read_back (end_of ends i) ≡ end_of ends i
-  end_read = read_back_lem {z = end_of ends i} (record { sfits = f })
+-- ---- bounds and ends from process to process
+-- the bound by the ends of the processes from i on
+abbrev pub bound_from : ℤ → List ℤ → Processes → ℕ → ℤ
+bound_from start ends L i = fold_each (λ p t. later_if (leb i (number_of p) && has L p) (end_of ends p) t) start
 
-  pub read_later : {s t : ℤ} → SFits w64 s → s ≡ t → later_if (has L i) (read_back (end_of ends i)) (read_back s) ≡ later_if (has L i) (end_of ends i) t
-  read_later g e = ap₂ (later_if (has L i)) end_read (read_back_lem g ∙ e)
+bound_from_turn : (start : ℤ) (ends : List ℤ) (L : Processes) (k : ℕ) → k < 4
+    → bound_from start ends L k ≡ later_if (has L (process_at k)) (get_or ends k (pos 0)) (bound_from start ends L (suc k))
+bound_from_turn start ends L zero l = refl
+bound_from_turn start ends L (suc zero) l = refl
+bound_from_turn start ends L (suc (suc zero)) l = refl
+bound_from_turn start ends L (suc (suc (suc zero))) l = refl
+bound_from_turn start ends L (suc (suc (suc (suc k)))) l = absurd (omega arith)
 
-  pub read_chosen : {t r : ℤ} → SFits w64 t → mag r < 2 ^ 63 → r ≡ cond (has L i) (read_back t) (read_back (end_of ends i)) → read_back r ≡ cond (has L i) t (end_of ends i)
-  read_chosen {r = r} g h e = read_back_lem {z = r} (record { sfits = h }) ∙ e ∙ ap₂ (cond (has L i)) (read_back_lem g) end_read
+module _ (start : ℤ) (ends : List ℤ) (L : Processes) where
+  -- one more process with a part, and one without
+  module _ (i j : ℕ) (next : i ≡ suc j) (l : i ≤ 4) (bound : ℤ) (so_far : bound ≡ bound_from start ends L i) where
+    turn : (b : Bool) → has L (process_at j) ≡ b → bound_from start ends L j ≡ later_if b (get_or ends j (pos 0)) bound
+    turn b y = bound_from_turn start ends L j (omega arith) ∙ ap₂ (λ (c : Bool) (t : ℤ). later_if c (get_or ends j (pos 0)) t) y (sym (so_far ∙ ap (bound_from start ends L) next))
+
+    pub bound_later : (r : ℤ) → SFits w64 (get_or ends j (pos 0)) → SFits w64 r → has L (process_at j) ≡ true → r ≡ later_of (read_back (get_or ends j (pos 0))) bound
+        → read_back r ≡ bound_from start ends L j
+    bound_later r f g y q = read_back_lem g ∙ q ∙ ap (λ (e : ℤ). later_of e bound) (read_back_lem f) ∙ sym (turn true y)
+
+    pub bound_same : has L (process_at j) ≡ false → bound ≡ bound_from start ends L j
+    bound_same n = sym (turn false n)
+
+-- the ends where the processes below i have ended at t
+abbrev pub ended_below : Processes → ℤ → List ℤ → ℕ → List ℤ
+ended_below L t ends i = at_each (λ p. cond (ltb (number_of p) i && has L p) t (end_of ends p))
 
 -- ---- minutes near the start
 start_small : (start : ℤ) → start_fits start ≡ true → mag start ≤ 1000000

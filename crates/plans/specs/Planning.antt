@@ -1,31 +1,14 @@
 -- What the functions of the plan ask and give.
 use Rattle.std.specs.Prelude.{Bool, true, false, List, ◌≡◌, ℕ, ◌+◌, ◌*◌, ◌≤◌, ℤ, pos, ◌+ℤ◌, get_or}
-use Rattle.std.proofs.Math.Option.{Option, none, some}
-use Rattle.plan_model.specs.declared.Planned.{Planned}
 use Rattle.plan_model.specs.declared.Window.{Window}
 use Rattle.model.specs.Groups.{Process}
-use Rattle.plan_model.specs.Hours.{PlanOutcome, end_of, lengths_fit, longest_step, never_fits, start_fits, step_of}
+use Rattle.plan_model.specs.Hours.{PlanOutcome, Planned, end_of, longest_step, never_fits, start_fits, step_of}
 use Rattle.plan_model.specs.Hours.{week_minutes, most_steps}
 use Rattle.model.specs.Systems.{System}
-use Rattle.table.specs.Reading.{Holds}
-use Rattle.table.specs.declared.Table.{Table}
-use Rattle.hours.specs.Searching.{WeekStays}
-use Rattle.plans.specs.declared.Seen.{Seen}
-
--- the table is read, it is known how long processes stay open, and the table's rules have lengths
-pub record Ready (table : List ℕ) (t : Table) (hours : List (List Window)) (counts : List ℕ) (stays : List (List ℕ))
-    (lengths : List ℕ) : Type 0 where
-  pub holds : Holds table t
-  pub stay : WeekStays hours counts stays
-  pub lengths_checked : lengths_fit t.rules lengths ≡ true
 
 -- a step of each noted rule fits some minute
 pub record Judged (week : Process → List Window) (sys : System) (lengths : List ℕ) (fitting : List Bool) : Type 0 where
   pub fits : (n : ℕ) → get_or fitting n false ≡ true → never_fits week (step_of sys lengths n) ≡ false
-
-abbrev pub seen : Option ℕ → Seen
-seen none = Seen.Nowhere
-seen (some k) = Seen.At k
 
 -- a step ends at most so many minutes after its bound, and the steps of a run at most so many after the start
 abbrev pub step_reach : ℕ

@@ -23,13 +23,13 @@ pub none_left : {table : List ℕ} {n : ℕ} {log scratch log₁ scratch₁ log�
 none_left {log = log} {scratch = scratch} {log₁ = log₁} {scratch₁ = scratch₁} full p q =
     record { over = full.over; log_left = p ∙ zeros_same log₁ log full.log_length; scratch_left = q ∙ zeros_same scratch₁ scratch full.scratch_length }
 
-module _ {table : List ℕ} {t : Table} {n : ℕ} {log scratch : List ℕ} (pre : Holds table t × Roomy n log scratch) {count most : ℕ} {log₁ scratch₁ : List ℕ}
+module _ {table : List ℕ} {t : Table} (holds : Holds table t) {n : ℕ} {log scratch : List ℕ} (roomy : Roomy n log scratch) {count most : ℕ} {log₁ scratch₁ : List ℕ}
     (whole : SaturatedLimit table n log scratch count most log₁ scratch₁) where
   abbrev sys : System
   sys = saturated_in table
 
   pub behind_room : count * record_length ≤ length log₁
-  behind_room = omega (arith, whole.fits, whole.log_length, pre.1.log_room)
+  behind_room = omega (arith, whole.fits, whole.log_length, roomy.log_room)
 
   count_is : length (limit sys) ≡ count
   count_is = sym whole.logged.size
@@ -38,24 +38,25 @@ module _ {table : List ℕ} {t : Table} {n : ℕ} {log scratch : List ℕ} (pre 
   bytes_long = length_log (limit sys) ∙ ap (λ (k : ℕ). k * record_length) count_is
 
   few_rounds : saturated_at sys ≤ 65535
-  few_rounds = omega (arith, rounds_short sys, count_is, whole.fits, pre.1.log_room)
+  few_rounds = omega (arith, rounds_short sys, count_is, whole.fits, roomy.log_room)
 
   pub limit_left : {log₂ : List ℕ} → log₂ ≡ take (count * record_length) log₁ ++ replicate (length log₁ - count * record_length) 0
-      → LimitLeft table t n log scratch count most log₂ scratch₁
+      → LimitLeft table t log scratch (record { room = n; count = count; rounds = most }) log₂ scratch₁
   limit_left {log₂} p =
       let is : log₂ ≡ log_bytes (limit sys) ++ replicate (length log₁ - count * record_length) 0 = p ∙ ap (λ (l : List ℕ). l ++ replicate (length log₁ - count * record_length) 0) whole.logged.bytes in
       record {
+        roomy = roomy;
         settled = record {
           log_of = record {
-            holds = pre.0;
+            holds = holds;
             rest = replicate (length log₁ - count * record_length) 0;
             logged = is;
-            fits = log_fits table t pre.0 (saturated_at sys) few_rounds (omega (arith, count_is, whole.fits, pre.1.log_room));
+            fits = log_fits table t holds (saturated_at sys) few_rounds (omega (arith, count_is, whole.fits, roomy.log_room));
             size = count_is;
-            short = omega (arith, whole.fits, pre.1.log_room);
+            short = omega (arith, whole.fits, roomy.log_room);
           };
           linked = linked_cleared p (record { room = whole.linked.0; ringed = whole.linked.1 });
-          room = omega (arith, pre.1.scratch_room, whole.scratch_length);
+          room = omega (arith, roomy.scratch_room, whole.scratch_length);
           highest = whole.last_round;
         };
         log_left = is ∙ ap₂ (λ (a b : ℕ). log_bytes (limit sys) ++ replicate (a - b) 0) whole.log_length (sym bytes_long);
@@ -63,7 +64,6 @@ module _ {table : List ℕ} {t : Table} {n : ℕ} {log scratch : List ℕ} (pre 
         scratch_length = whole.scratch_length;
       }
 
--- the highest round is a number of a record
-pub rounds_few : {table : List ℕ} {t : Table} {n : ℕ} {log scratch : List ℕ} {count most : ℕ} {log' scratch' : List ℕ} → LimitLeft table t n log scratch count most log' scratch' → most ≤ 65535
-rounds_few {table} l =
-    omega (arith, l.settled.highest, rounds_limit (saturated_in table), rounds_short (saturated_in table), l.settled.log_of.size, l.settled.linked.room.fits, l.settled.linked.room.short)
+  -- the highest round is a number of a record
+  pub rounds_few : most ≤ 65535
+  rounds_few = omega (arith, whole.last_round, rounds_limit sys, rounds_short sys, count_is, whole.fits, roomy.log_room)

@@ -1,13 +1,13 @@
 -- The filter of check 8: equal bodies have equal marks, so a body whose bit is not set was not seen; and the filter of one item more.
-use Prim.Native.Nat.{◌*◌, ◌+◌, ◌<◌, ◌≤◌, suc, zero, ℕ}
-use lib.Dec.{eqb, leb, ltb}
+use Prim.Native.Nat.{◌*◌, ◌+◌, ◌<◌, ℕ}
+use lib.Dec.{eqb, ltb}
 use lib.ListN.{get_or, length}
 use mathlib.Core.Bool.{and-false, cond, false, true, true≢false, false≢true}
 use mathlib.Core.List.{List, Memᴰ, [], ◌++◌, ◌∷◌}
 use mathlib.Core.Logic.{⊎_elim}
 use mathlib.Core.Path.{◌∙◌, ◌≡◌, ap, ap₂, refl, sym}
 use native.Mathlib.Omega.{arith}
-use borrow.Author.Tests.{eqb-true, leb-true}
+use borrow.Author.Tests.{eqb-true}
 use Rattle.model.proofs.CheckedItems.{bodies_more}
 use Rattle.model.proofs.Lists.{any_of_lem, any_true}
 use Rattle.model.proofs.Tests.{and_both, and_left, and_right, by_test, or_true_right}
@@ -19,28 +19,17 @@ use Rattle.table.proofs.Steps.{Going, going_start, going_turn, next_admitted, st
 use Rattle.table.specs.Places.{Passed, advanced, bodies_at, body_at, items_before, items_below}
 use Rattle.table.specs.Reading.{Stepped, counts_of}
 use Rattle.table.specs.declared.Cursor.{Cursor}
-use Rattle.table.specs.declared.Parsed.{Parsed}
-use Rattle.table.specs.declared.Step.{Step}
-use Rattle.table.specs.declared.Step.TheVariants.{Done, Next}
+use Rattle.std.proofs.Common.{ControlFlow, Continue, Break, None, Result, Ok, Err, IsErrAnd}
+use Rattle.reading.specs.Marks.{ItemChecked, ItemStepped, Marked, filter_length, has_twins, mark_of, with_mark}
+use Rattle.std.specs.Prelude.{Result}
+use Rattle.model.specs.declared.Refusal.{Refusal}
+use Rattle.table.specs.declared.Table.{Table}
 use Rattle.reading.specs.Marks.{ItemAt, ItemChecked, ItemStepped, Marked, filter_length, has_twins, mark_of, with_mark}
 
 -- ---- marks
 mark_below : (body : List ℕ) → mark_of body < 8 * filter_length
 unfolding mark_of
 mark_below body = by_test (ltb (length body) 8) (λ y. rw y (omega arith)) (λ n. rw n (omega arith))
-
--- a body of these kinds has four bytes or more
-pub twin_size : {bytes seen : List ℕ} {c : Cursor} {k : ℕ} {body : List ℕ} → ItemAt bytes seen c k body → has_twins k ≡ true → 4 ≤ length body
-twin_size {k = k} h e = rw h.whole.size (size k (leb-true 3 k (and_left (leb 3 k) (leb k 5) e)) (leb-true k 5 (and_right (leb 3 k) (leb k 5) e)))
-  where
-    size : (k : ℕ) → 3 ≤ k → k ≤ 5 → 4 ≤ body_length k
-    size zero h l = absurd (omega arith)
-    size (suc zero) h l = absurd (omega arith)
-    size (suc (suc zero)) h l = absurd (omega arith)
-    size (suc (suc (suc zero))) h l = omega arith
-    size (suc (suc (suc (suc zero)))) h l = omega arith
-    size (suc (suc (suc (suc (suc zero))))) h l = omega arith
-    size (suc (suc (suc (suc (suc (suc k)))))) h l = absurd (omega arith)
 
 same_is : (x y : List ℕ) → same_bytes x y ≡ true → x ≡ y
 same_is [] [] e = refl
@@ -108,19 +97,20 @@ module _ {items : List Item} {seen : List ℕ} (f : Marked items seen) where
     marked_turn = record { size = length_after ∙ f.size; each = later }
 
 -- ---- checks
--- an item that is refused needs no mark
-pub refused_with : {checks : List Item → ℕ → List ℕ → ℕ} {items : List Item} {k r : ℕ} {body before after : List ℕ}
-    → r ≡ checks items k body → (r ≡ 0 → ⊥) → ItemChecked checks items k body r before after
-refused_with e h = record { same = e; filter = λ z. absurd (h z) }
+-- the number of the first check that fails
+pub refused_with : {A : Type 0} {checks : List Item → ℕ → List ℕ → ℕ} {items : List Item} {k n : ℕ} {body before after : List ℕ}
+    → n ≡ checks items k body → 0 < n → ItemChecked {A = A} checks items k body (Err n) before after
+refused_with e h = record { same = (e, h); filter = tt }
 
--- checks of which it is known that they give the same
-pub checked_by : {checks others : List Item → ℕ → List ℕ → ℕ} {items : List Item} {k r : ℕ} {body before after : List ℕ}
-    → checks items k body ≡ others items k body → ItemChecked checks items k body r before after → ItemChecked others items k body r before after
-checked_by e h = record { same = h.same ∙ e; filter = h.filter }
+-- the same of a number that `?` hands on
+pub refused_on : {A : Type 0} {checks : List Item → ℕ → List ℕ → ℕ} {items : List Item} {k n : ℕ} {body before after : List ℕ} (r : Result A ℕ)
+    → IsErrAnd r (λ m. m ≡ n) → n ≡ checks items k body → 0 < n → ItemChecked {A = A} checks items k body r before after
+refused_on (Ok x) i e h = absurd i
+refused_on (Err m) i e h = refused_with (i ∙ e) (omega arith)
 
 -- ---- steps
 -- at the end of the reading the filter has served
-pub marked_done : {bytes seen : List ℕ} {c : Cursor} {p : Parsed} → Stepped bytes c (Done p) → ItemStepped bytes c (Done p) seen
+pub marked_done : {bytes seen : List ℕ} {c : Cursor} {p : Result Table Refusal} → Stepped bytes c (Break p) → ItemStepped bytes c (Break p) seen
 marked_done s = record { stepped = s; filter = λ d e. let z : ◌≡◌ {A = ℕ} 0 1 = cc in absurd (omega arith) }
 
 -- an item that passes is in the filter of the items before the next cursor
@@ -131,25 +121,23 @@ module _ {bytes seen : List ℕ} {c : Cursor} (p : Passed bytes c) (f : Marked (
   abbrev whole : List ℕ
   whole = body_at bytes (body_length kind) c.at
 
-  pub marked_next : {r : ℕ} {after : List ℕ} → ItemChecked refusal (items_before bytes c) kind whole r seen after → r ≡ 0 → (kind ≡ 8 → ⊥)
-      → ItemStepped bytes c (Next (advanced c kind (c.at + 1 + body_length kind))) after
-  marked_next h z n =
-      let passes = sym h.same ∙ z in
-      record {
-        stepped = step_next bytes c p inside passes n;
-        filter = λ d e.
-            let same : advanced c kind (c.at + 1 + body_length kind) ≡ d = cc in
-            rw (h.filter z, ← same, ← (items_beyond bytes c kind p (next_admitted bytes c p inside passes n))) (marked_turn f kind whole);
-      }
+  pub marked_next : {after : List ℕ} → refusal (items_before bytes c) kind whole ≡ 0 → after ≡ with_mark seen kind whole → (kind ≡ 8 → ⊥)
+      → ItemStepped bytes c (Continue (advanced c kind (c.at + 1 + body_length kind))) after
+  marked_next z h n = record {
+    stepped = step_next bytes c p inside z n;
+    filter = λ d e.
+        let same : advanced c kind (c.at + 1 + body_length kind) ≡ d = cc in
+        rw (h, ← same, ← (items_beyond bytes c kind p (next_admitted bytes c p inside z n))) (marked_turn f kind whole);
+  }
 
 -- ---- the loop over the items: what is read from the cursor on, and the filter of the items before it
 pub record Filtering (bytes : List ℕ) (c : Cursor) (seen : List ℕ) : Type 0 where
   pub going : Going bytes c
   pub filter : Marked (items_before bytes c) seen
 
-pub filtering_start : (bytes : List ℕ) (c : Cursor) {seen : List ℕ} → c ≡ record { at = 0; last = 0; starts = 0; table = counts_of [] } → length seen ≡ filter_length → Filtering bytes c seen
+pub filtering_start : (bytes : List ℕ) (c : Cursor) {seen : List ℕ} → c ≡ record { at = 0; last = None; starts = 0; table = counts_of [] } → length seen ≡ filter_length → Filtering bytes c seen
 unfolding items_below bodies_at
 filtering_start bytes c e h = record { going = going_start bytes c e; filter = rw e (marked_start h) }
 
-pub filtering_turn : {bytes : List ℕ} {c d : Cursor} {r : Step} {seen after : List ℕ} → Filtering bytes c seen → ItemStepped bytes c r after → r ≡ Next d → Filtering bytes d after
+pub filtering_turn : {bytes : List ℕ} {c d : Cursor} {r : ControlFlow (Result Table Refusal) Cursor} {seen after : List ℕ} → Filtering bytes c seen → ItemStepped bytes c r after → r ≡ Continue d → Filtering bytes d after
 filtering_turn {d = d} g s e = record { going = going_turn _ _ g.going d (s.stepped.next d e); filter = s.filter d e }

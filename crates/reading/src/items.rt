@@ -1,129 +1,106 @@
 // The checks of one item, in their order, and the cursor behind it.
-ghost use Rattle.std.specs.Prelude.{◌≡◌, true, cond, ◌+◌, ◌-◌, ◌*◌, ◌≤◌, ◌<◌, eqb, leb, length, take, drop};
+ghost use Rattle.std.specs.Prelude.{◌≡◌, ◌+◌, ◌-◌, ◌*◌, ◌≤◌, ◌<◌, ltb, length, IfOk};
 ghost use Rattle.model.specs.Lists.{any_of};
-ghost use Rattle.model.specs.Tables.{body_length, ceiling, is_stranger, same_bytes, is_twin, refusal};
+ghost use Rattle.model.specs.Tables.{body_length, same_bytes, is_twin, refusal};
+ghost use Rattle.table.specs.Kinds.{kind_number, last_number};
 ghost use Rattle.table.specs.Places.{body_at, bodies_at, counts_at, items_before, Modest, advanced, Passed};
 ghost use Rattle.table.specs.Reading.{out_of_turn, body_refusal};
-ghost use Rattle.reading.specs.Marks.{filter_length, has_twins, mark_of, with_mark, Marked, ItemAt, ItemChecked};
+ghost use Rattle.reading.specs.Marks.{filter_length, has_twins, mark_of, with_mark, Marked, ItemAt, place_refusal, Checked, ItemChecked};
 
 use crate::checks::{is_reentry, is_stray, value_fits};
-use model::{CROWD, CUT, REENTRY, STRANGER, STRAY, TURN, TWIN, VALUE};
-use numbers::{eight_at, four_at, wide, wide_four};
+use model::{CROWD, CUT, REENTRY, STRAY, TURN, TWIN, VALUE};
+use numbers::{eight_at, four_at};
 use states::sets::{contains, insert};
-use table::{Cursor, RULE_BODY, Table, body_at, ceiling_of};
+use table::{Cursor, Kind, body_at};
 
 // How many bytes the filter of check 8 has.
 pub const FILTER: usize = 512;
 
-// ---- kinds
-// How many bytes follow the kind.
-pub fn body_length(kind: u8) -> usize
-    requires { kind < 9 }
-    ensures { result ≡ body_length kind }
-{
-    let lengths: [usize; 9] = [0, 2, 1, RULE_BODY, 9, 4, 4, 1, 0];
-    lengths[wide(kind)]
-}
-
+// ---- the cursor
 // How many items of a kind stand before the cursor.
-pub fn count_of(c: Cursor, kind: u8) -> usize
-    requires { kind < 9 }
-    ensures { result ≡ counts_at c kind }
+pub fn count_of(c: Cursor, kind: Kind) -> usize
+    ensures { result ≡ counts_at c (kind_number kind) }
 {
-    let t = c.table;
-    let numbers: [usize; 9] = [
-        0,
-        t.processes,
-        t.letters,
-        t.rules,
-        t.transitions,
-        t.accepting,
-        c.starts,
-        t.pile,
-        0,
-    ];
-    numbers[wide(kind)]
+    match kind {
+        Kind::Process => c.table.processes,
+        Kind::Letter => c.table.letters,
+        Kind::Rule => c.table.rules,
+        Kind::Transition => c.table.transitions,
+        Kind::Accepting => c.table.accepting,
+        Kind::Start => c.starts,
+        Kind::Pile => c.table.pile,
+        Kind::End => 0,
+    }
 }
 
-// Check 2: no kind of item.
-pub fn is_stranger(kind: u8) -> bool
-    ensures { result ≡ is_stranger kind }
+// The cursor behind an item of the kind.
+#[tactic(auto, unfolding(table::specs::Places::advanced))]
+pub fn advance(c: Cursor, kind: Kind, next: usize) -> Cursor
+    requires { Modest c.table × (c.starts ≤ 1) }
+    ensures { result ≡ advanced c (kind_number kind) next }
 {
-    (kind == 0) | (8 < kind)
+    let mut after = Cursor {
+        at: next,
+        last: Some(kind),
+        ..c
+    };
+    match kind {
+        Kind::Process => after.table.processes += 1,
+        Kind::Letter => after.table.letters += 1,
+        Kind::Rule => after.table.rules += 1,
+        Kind::Transition => after.table.transitions += 1,
+        Kind::Accepting => after.table.accepting += 1,
+        Kind::Start => after.starts += 1,
+        Kind::Pile => after.table.pile += 1,
+        Kind::End => {}
+    }
+    after
 }
 
-// Check 3: the kind falls, no process before another kind, a second start, or no start before kinds 7 and 8.
-pub fn is_out_of_turn(c: Cursor, kind: u8) -> bool
-    ensures { result ≡ out_of_turn c kind }
+// The kind is below the last one.
+fn falls(c: Cursor, kind: Kind) -> bool
+    ensures { result ≡ ltb (kind_number kind) (last_number c.last) }
 {
-    let t = c.table;
-    (kind < c.last)
-        | ((kind == 6) & (0 < c.starts))
-        | ((t.processes == 0) & (1 < kind))
-        | ((6 < kind) & (c.starts == 0))
+    Some(kind) < c.last
+}
+
+// Check 3: the kind falls, a second start, no process before another kind, or no start before the kinds behind it.
+#[tactic(auto, unfolding(table::specs::Reading::out_of_turn))]
+pub fn is_out_of_turn(c: Cursor, kind: Kind) -> bool
+    ensures { result ≡ out_of_turn c (kind_number kind) }
+{
+    falls(c, kind)
+        || (kind == Kind::Start && 0 < c.starts)
+        || (c.table.processes == 0 && Kind::Process < kind)
+        || (Kind::Start < kind && c.starts == 0)
 }
 
 // ---- check 8
-// The n bytes from a on are the n bytes from b on; the first `from` of them are known to be.
-pub fn same_from(bytes: &[u8], a: usize, b: usize, n: usize, from: usize) -> bool
-    requires { (a + n ≤ length bytes.now) × (b + n ≤ length bytes.now) × (from ≤ n) × (same_bytes (take from (drop a bytes.now)) (take from (drop b bytes.now)) ≡ true) }
-    ensures { result ≡ same_bytes (take n (drop a bytes.now)) (take n (drop b bytes.now)) }
+// The body is one of the bodies of the `count` items right before `at`, which are as long.
+pub fn is_seen(bytes: &[u8], body: &[u8], count: usize, at: usize) -> bool
+    requires { (count * (1 + length body.now) ≤ at) × (at + length body.now < length bytes.now) }
+    ensures { result ≡ any_of (same_bytes body.now) (bodies_at bytes.now (length body.now) (at - count * (1 + length body.now)) count) }
 {
-    let mut j = from;
-    while j < n {
-        if bytes[a + j] == bytes[b + j] {} else {
-            return false;
-        }
-        j += 1;
-    }
-    true
-}
-
-// The n bytes from a on are the n bytes from b on: the first eight at once.
-pub fn same_bytes(bytes: &[u8], a: usize, b: usize, n: usize) -> bool
-    requires { (a + n ≤ length bytes.now) × (b + n ≤ length bytes.now) }
-    ensures { result ≡ same_bytes (take n (drop a bytes.now)) (take n (drop b bytes.now)) }
-{
-    if n < 8 {
-        return same_from(bytes, a, b, n, 0);
-    }
-    if eight_at(bytes, a) != eight_at(bytes, b) {
-        return false;
-    }
-    same_from(bytes, a, b, n, 8)
-}
-
-// The body of the item at `at` is one of the bodies of the `count` items right before it.
-pub fn is_seen(bytes: &[u8], size: usize, count: usize, at: usize) -> bool
-    requires { (count * (1 + size) ≤ at) × (at + 1 + size ≤ length bytes.now) }
-    ensures { result ≡ any_of (same_bytes (body_at bytes.now size at)) (bodies_at bytes.now size (at - count * (1 + size)) count) }
-{
-    let mut place = at - count * (1 + size);
-    let mut left = count;
-    while 0 < left {
-        if same_bytes(bytes, at + 1, place + 1, size) {
-            return true;
-        }
-        place = place + 1 + size;
-        left -= 1;
-    }
-    false
+    let size = 1 + body.len();
+    let before = &bytes[at - count * size..at];
+    before.chunks_exact(size).any(|item| item.ends_with(body))
 }
 
 // Check 8 asks of this kind.
-pub fn has_twins(kind: u8) -> bool
-    ensures { result ≡ has_twins kind }
+pub fn has_twins(kind: Kind) -> bool
+    ensures { result ≡ has_twins (kind_number kind) }
 {
-    (3 <= kind) & (kind <= 5)
+    matches!(kind, Kind::Rule | Kind::Transition | Kind::Accepting)
 }
 
 // The mark of a body: equal bodies have equal marks, and others seldom.
+#[tactic(auto, unfolding(crate::specs::Marks::mark_of))]
 pub fn mark_of(body: &[u8]) -> usize
     requires { 4 ≤ length body.now }
     ensures { (result ≡ mark_of body.now) × (result < 8 * filter_length) }
 {
     if body.len() < 8 {
-        return wide_four(four_at(body, 0)) % 4021;
+        return four_at(body, 0) as usize % 4021;
     }
     let first = eight_at(body, 0) % 4021;
     let last = eight_at(body, body.len() - 8) % 4001;
@@ -131,9 +108,10 @@ pub fn mark_of(body: &[u8]) -> usize
 }
 
 // Check 8: the body stands before in kinds 3, 4, 5. It is looked for only where its bit in the filter was set, and the bit is set.
-pub fn is_twin(bytes: &[u8], seen: &mut [u8], c: Cursor, kind: u8, body: &[u8]) -> bool
-    requires { ItemAt bytes.now seen.old c kind body.now }
-    ensures { (result ≡ is_twin (items_before bytes.now c) kind body.now) × (seen.new ≡ with_mark seen.old kind body.now) }
+#[tactic(auto, using(crate::proofs::Marks::unmarked, crate::proofs::Twins::seen_of), unfolding(model::specs::Tables::is_twin, crate::specs::Marks::with_mark))]
+pub fn is_twin(bytes: &[u8], seen: &mut [u8], c: Cursor, kind: Kind, body: &[u8]) -> bool
+    requires { ItemAt bytes.now seen.old c (kind_number kind) body.now }
+    ensures { (result ≡ is_twin (items_before bytes.now c) (kind_number kind) body.now) × (seen.new ≡ with_mark seen.old (kind_number kind) body.now) }
 {
     if !has_twins(kind) {
         return false;
@@ -141,96 +119,69 @@ pub fn is_twin(bytes: &[u8], seen: &mut [u8], c: Cursor, kind: u8, body: &[u8]) 
     let mark = mark_of(body);
     let was_set = contains(seen, mark);
     insert(seen, mark);
-    if was_set {
-        return is_seen(bytes, body_length(kind), count_of(c, kind), c.at);
-    }
-    false
+    was_set && is_seen(bytes, body, count_of(c, kind), c.at)
 }
 
 // ---- one item
-// The checks 5 to 8, of an item that is whole: the number of the first that it does not pass, or 0.
-pub fn check_body(bytes: &[u8], seen: &mut [u8], c: Cursor, kind: u8, body: &[u8]) -> u8
-    requires { ItemAt bytes.now seen.old c kind body.now }
-    ensures { ItemChecked body_refusal (items_before bytes.now c) kind body.now result seen.old seen.new }
+// The checks 5 to 8, of an item that is whole.
+#[tactic(auto, using(crate::proofs::Marks::refused_with, table::proofs::Cursors::processes_before, table::proofs::Cursors::letters_before), unfolding(table::specs::Reading::body_refusal))]
+pub fn check_body(
+    bytes: &[u8],
+    seen: &mut [u8],
+    c: Cursor,
+    kind: Kind,
+    body: &[u8],
+) -> Result<(), u8>
+    requires { ItemAt bytes.now seen.old c (kind_number kind) body.now }
+    ensures { ItemChecked body_refusal (items_before bytes.now c) (kind_number kind) body.now result seen.old seen.new }
 {
     let t = c.table;
-    if value_fits(bytes, t, kind, body) {} else {
-        return VALUE;
+    if !value_fits(bytes, t, kind, body) {
+        return Err(VALUE);
     }
     if is_stray(bytes, t, kind, body) {
-        return STRAY;
+        return Err(STRAY);
     }
     if is_reentry(bytes, t, kind, body) {
-        return REENTRY;
+        return Err(REENTRY);
     }
     if is_twin(bytes, seen, c, kind, body) {
-        return TWIN;
+        return Err(TWIN);
     }
-    0
+    Ok(())
 }
 
-// The number of the first of the checks 3, 4 and 1 that fails, or 0; `left` is the number of bytes from the item on.
-pub fn early_refusal(c: Cursor, kind: u8, left: usize) -> u8
-    requires { kind < 9 }
-    ensures { result ≡ cond (out_of_turn c kind) 3 (cond (leb (ceiling kind) (counts_at c kind)) 4 (cond (leb left (body_length kind)) 1 0)) }
+// The checks 3, 4 and 1; `left` is the number of bytes from the item on.
+pub fn check_place(c: Cursor, kind: Kind, left: usize) -> Result<(), u8>
+    ensures { Checked (place_refusal c (kind_number kind) left) result }
 {
     if is_out_of_turn(c, kind) {
-        return TURN;
+        return Err(TURN);
     }
-    let crowd = ceiling_of(kind) <= count_of(c, kind);
-    if crowd {
-        return CROWD;
+    if kind.ceiling() <= count_of(c, kind) {
+        return Err(CROWD);
     }
-    let cut = left <= body_length(kind);
-    if cut {
-        return CUT;
+    if left <= kind.body_length() {
+        return Err(CUT);
     }
-    0
+    Ok(())
 }
 
-// The number of the first check that the item at the cursor does not pass, in the order 2, 3, 4, 1, 5, 6, 7, 8, or 0.
-pub fn check_item(bytes: &[u8], seen: &mut [u8], c: Cursor, kind: u8) -> u8
+// The checks of the item at the cursor, in the order 2, 3, 4, 1, 5, 6, 7, 8: the item's kind, or the number of the first that it does not pass.
+#[tactic(auto, using(crate::proofs::Marks::refused_on, table::proofs::Steps::early_of), unfolding(model::specs::Tables::refusal))]
+pub fn check_item(bytes: &[u8], seen: &mut [u8], c: Cursor, number: u8) -> Result<Kind, u8>
     requires { Passed bytes.now c × (c.at < length bytes.now) × Marked (items_before bytes.now c) seen.old }
-    ensures { ItemChecked refusal (items_before bytes.now c) kind (body_at bytes.now (body_length kind) c.at) result seen.old seen.new }
+    ensures kind { IfOk result (λ kind. kind_number kind ≡ number) }
+    ensures checked { ItemChecked refusal (items_before bytes.now c) number (body_at bytes.now (body_length number) c.at) result seen.old seen.new }
 {
-    let at = c.at;
-    if is_stranger(kind) {
-        return STRANGER;
-    }
-    let number = early_refusal(c, kind, bytes.len() - at);
-    if number != 0 {
-        return number;
-    }
-    check_body(bytes, seen, c, kind, body_at(bytes, at, body_length(kind)))
-}
-
-// 1 where the kinds are equal, else 0.
-pub fn one_if(kind: u8, other: u8) -> usize
-    ensures { (result ≡ cond (eqb kind other) 1 0) × (result ≤ 1) }
-{
-    if kind != other {
-        return 0;
-    }
-    1
-}
-
-// The cursor behind an item of the kind.
-pub fn advance(c: Cursor, kind: u8, next: usize) -> Cursor
-    requires { Modest c.table × (c.starts ≤ 1) }
-    ensures { result ≡ advanced c kind next }
-{
-    let t = c.table;
-    Cursor {
-        at: next,
-        last: kind,
-        starts: c.starts + one_if(kind, 6),
-        table: Table {
-            processes: t.processes + one_if(kind, 1),
-            letters: t.letters + one_if(kind, 2),
-            rules: t.rules + one_if(kind, 3),
-            transitions: t.transitions + one_if(kind, 4),
-            accepting: t.accepting + one_if(kind, 5),
-            pile: t.pile + one_if(kind, 7),
-        },
-    }
+    let kind = Kind::try_from(number)?;
+    check_place(c, kind, bytes.len() - c.at)?;
+    check_body(
+        bytes,
+        seen,
+        c,
+        kind,
+        body_at(bytes, c.at, kind.body_length()),
+    )?;
+    Ok(kind)
 }

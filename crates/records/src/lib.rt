@@ -6,7 +6,6 @@ ghost use Rattle.model.specs.Tables.{written_places};
 ghost use Rattle.model.specs.Records.{record_length, group_bytes, path_bytes, letter_at, after_at, round_at, rule_at, place_at, steps_at};
 ghost use Rattle.records.specs.Entries.{entry_bytes, HasRecord, with_entry};
 
-use buffers::clear;
 use model::{Group, LONGEST_RUN, WRITTEN_PLACES};
 use numbers::{group_at, put_three, put_two, three_at, two_at};
 
@@ -47,25 +46,15 @@ fn put_key(out: &mut [u8], letter: u8, b: Group, a: Group)
     requires { length out.old ≡ 9 }
     ensures { out.new ≡ letter ∷ group_bytes b ++ group_bytes a }
 {
-    out[0] = letter;
-    out[1] = b.s0;
-    out[2] = b.s1;
-    out[3] = b.s2;
-    out[4] = b.s3;
-    out[5] = a.s0;
-    out[6] = a.s1;
-    out[7] = a.s2;
-    out[8] = a.s3;
+    out.copy_from_slice(&[letter, b.s0, b.s1, b.s2, b.s3, a.s0, a.s1, a.s2, a.s3]);
 }
 
 fn put_places(out: &mut [u8], path: [u16; WRITTEN_PLACES])
     requires { length out.old ≡ 2 * written_places }
     ensures { out.new ≡ path_bytes written_places path }
 {
-    let mut j = 0;
-    while j < WRITTEN_PLACES {
+    for j in 0..WRITTEN_PLACES {
         put_two(out, 2 * j, path[j]);
-        j += 1;
     }
 }
 
@@ -74,13 +63,10 @@ pub fn write_record(out: &mut [u8], e: Entry)
     requires { record_length ≤ length out.old }
     ensures { out.new ≡ entry_bytes e ++ drop record_length out.old }
 {
-    let b = e.before;
-    let a = e.after;
-    let path = e.path;
-    put_key(&mut out[0..ROUND], e.letter, b, a);
+    put_key(&mut out[..ROUND], e.letter, e.before, e.after);
     put_two(out, ROUND, e.round);
     put_two(out, RULE, e.rule);
-    put_places(&mut out[PATH..STEPS], path);
+    put_places(&mut out[PATH..STEPS], e.path);
     put_three(out, STEPS, e.steps);
 }
 
@@ -89,10 +75,10 @@ pub fn put_record(log: &mut [u8], n: usize, e: Entry)
     requires { HasRecord log.old n }
     ensures { log.new ≡ with_entry log.old n e }
 {
-    let at = n * RECORD_LENGTH;
-    write_record(&mut log[at..], e);
+    write_record(&mut log[n * RECORD_LENGTH..], e);
 }
 
+#[tactic(auto, unfolding(model::specs::Records::letter_at))]
 pub fn letter_at(log: &[u8], n: usize) -> u8
     requires { HasRecord log.now n }
     ensures { result ≡ letter_at log.now n }
@@ -100,6 +86,7 @@ pub fn letter_at(log: &[u8], n: usize) -> u8
     log[n * RECORD_LENGTH]
 }
 
+#[tactic(auto, unfolding(model::specs::Records::after_at, model::specs::Records::group_at))]
 pub fn after_at(log: &[u8], n: usize) -> Group
     requires { HasRecord log.now n }
     ensures { result ≡ after_at log.now n }
@@ -107,6 +94,7 @@ pub fn after_at(log: &[u8], n: usize) -> Group
     group_at(log, n * RECORD_LENGTH + AFTER)
 }
 
+#[tactic(auto, unfolding(model::specs::Records::round_at))]
 pub fn round_at(log: &[u8], n: usize) -> u16
     requires { HasRecord log.now n }
     ensures { result ≡ round_at log.now n }
@@ -114,6 +102,7 @@ pub fn round_at(log: &[u8], n: usize) -> u16
     two_at(log, n * RECORD_LENGTH + ROUND)
 }
 
+#[tactic(auto, unfolding(model::specs::Records::rule_at))]
 pub fn rule_at(log: &[u8], n: usize) -> u16
     requires { HasRecord log.now n }
     ensures { result ≡ rule_at log.now n }
@@ -122,6 +111,7 @@ pub fn rule_at(log: &[u8], n: usize) -> u16
 }
 
 // Path place j.
+#[tactic(auto, unfolding(model::specs::Records::place_at))]
 pub fn place_at(log: &[u8], n: usize, j: usize) -> u16
     requires { HasRecord log.now n × (j < written_places) }
     ensures { result ≡ place_at log.now n j }
@@ -129,6 +119,7 @@ pub fn place_at(log: &[u8], n: usize, j: usize) -> u16
     two_at(log, n * RECORD_LENGTH + (PATH + 2 * j))
 }
 
+#[tactic(auto, unfolding(model::specs::Records::steps_at))]
 pub fn steps_at(log: &[u8], n: usize) -> u32
     requires { HasRecord log.now n }
     ensures { result ≡ steps_at log.now n }
@@ -142,6 +133,5 @@ pub fn clear_behind(log: &mut [u8], count: usize)
     requires { count * record_length ≤ length log.old }
     ensures { log.new ≡ take (count * record_length) log.old ++ replicate (length log.old - count * record_length) 0 }
 {
-    let at = count * RECORD_LENGTH;
-    clear(&mut log[at..]);
+    log[count * RECORD_LENGTH..].fill(0);
 }

@@ -7,9 +7,8 @@ ghost use Rattle.table.specs.Reading.{Holds};
 ghost use Rattle.rests.specs.Rests.{processes_of_table, zeroed_group, LetterAt};
 
 use model::Group;
-use numbers::wide;
 use states::groups::chosen;
-use table::{Table, letter_bits, pile_letter};
+use table::{Accepted, Table};
 
 // A letter with its processes as bits.
 #[derive(Clone, Copy)]
@@ -39,11 +38,11 @@ pub fn zeroed(t: Table, g: Group) -> Group
 }
 
 // Letter i of the start word.
-pub fn letter_at(table: &[u8], t: Table, i: usize) -> Letter
-    requires { Holds table.now t × (i < t.pile) }
-    ensures { LetterAt table.now i result }
+pub fn letter_at(table: &Accepted, i: usize) -> Letter
+    requires { i < table.now.counts.pile }
+    ensures { LetterAt table.now.bytes.now i result }
 {
-    let number = pile_letter(table, t, i);
-    let bits = letter_bits(table, t, wide(number));
+    let number = table.pile_letter(i);
+    let bits = table.letter_bits(usize::from(number));
     Letter { number, bits }
 }

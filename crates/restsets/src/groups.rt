@@ -15,7 +15,7 @@ use leaders::{first_leader, next_leader};
 use model::Group;
 use packs::{after_at, before_at, mask_of};
 use rests::{Letter, Scope};
-use rings::next_match;
+use rings::Rings;
 use scratch::{RINGS, SET_BYTES};
 use states::sets::contains;
 use wordsets::{add_record, rest_bits};
@@ -26,12 +26,12 @@ fn last_state(copied: bool, states: u8) -> u8
     ensures { result ≡ last_of copied states }
 {
     if states == 0 {
-        return 0;
+        0
+    } else if copied {
+        states + states - 1
+    } else {
+        states - 1
     }
-    if copied {
-        return states + states - 1;
-    }
-    states - 1
 }
 
 // The highest state of each process, 0 where the table lacks it.
@@ -39,12 +39,11 @@ pub fn last_states(c: Copying) -> Group
     requires { (i : Process) → at c.states i ≤ 8 }
     ensures { result ≡ build (λ i. last_of c.made (at c.states i)) }
 {
-    let states = c.states;
     Group {
-        s0: last_state(c.made, states.s0),
-        s1: last_state(c.made, states.s1),
-        s2: last_state(c.made, states.s2),
-        s3: last_state(c.made, states.s3),
+        s0: last_state(c.made, c.states.s0),
+        s1: last_state(c.made, c.states.s1),
+        s2: last_state(c.made, c.states.s2),
+        s3: last_state(c.made, c.states.s3),
     }
 }
 
@@ -81,13 +80,7 @@ fn own_number(mask: u32, g: u32) -> usize
 fn is_single(f: Frame) -> bool
     ensures { result ≡ true → Single f }
 {
-    if f.rest != 1 {
-        return false;
-    }
-    if f.rows != 1 {
-        return false;
-    }
-    f.words == 1
+    f.rest == 1 && f.rows == 1 && f.words == 1
 }
 
 // Whether the state with an own number is in the set at a byte.
@@ -98,7 +91,8 @@ fn holds(scratch: &[u8], at: usize, x: usize) -> bool
     contains(&scratch[at..at + SET_BYTES], x)
 }
 
-// Puts the single state with the leader's states before it into the set at `to`, if a record of the letter leads from there into the set at `next`.
+// Puts the single state with the leader's states before it into the set at `to`, if a record of the letter leads from there into the set at `next`. Apart from
+// `add_states`, since one state asks one bit where that goes over words.
 fn add_state(
     log: &[u8],
     scratch: &mut [u8],
@@ -113,13 +107,14 @@ fn add_state(
     ensures { GroupAdded log.now c a f next to leader scratch.old scratch.new }
 {
     let before = before_at(log, leader);
+    let rings = Rings::new(log, scratch, RINGS, c.n, c.count);
     let mut r = leader;
     while r < c.limit {
         if holds(scratch, next, own_number(f.mask, after_at(log, r))) {
             insert_state(scratch, to, own_number(f.mask, before));
             return;
         }
-        r = next_match(log, scratch, RINGS, c.n, c.count, r, a.number, before);
+        r = rings.next_match(r, a.number, before);
     }
 }
 
@@ -147,7 +142,7 @@ fn add_states(
         if common == f.rest {
             return;
         }
-        r = next_match(log, scratch, RINGS, c.n, c.count, r, a.number, before);
+        r = Rings::new(log, scratch, RINGS, c.n, c.count).next_match(r, a.number, before);
     }
 }
 

@@ -13,7 +13,7 @@ ghost use Rattle.restsets.specs.Filling.{LettersIn, WordChained};
 
 use leaders::chain_leaders;
 use rests::letter_at;
-use table::Table;
+use table::Accepted;
 
 // What is gone through for a letter: its processes as a mask, and the states of the other processes: so many of process 0, so many of process 1, and those
 // of processes 2 and 3 as bits.
@@ -26,25 +26,22 @@ pub struct Frame {
 }
 
 // The letters of the start word as bits, of 32.
-fn word_letters(table: &[u8], t: Table) -> u32
-    requires { Holds table.now t }
-    ensures { LettersIn table.now t.pile result }
+fn word_letters(table: &Accepted) -> u32
+    ensures { LettersIn table.now.bytes.now table.now.counts.pile result }
 {
     let mut letters: u32 = 0;
-    let mut i = 0;
-    while i < t.pile {
-        let a = letter_at(table, t, i);
+    for i in 0..table.counts.pile {
+        let a = letter_at(table, i);
         letters = letters | (1 << (a.number % 32));
-        i += 1;
     }
     letters
 }
 
 // Chains the leaders of the start word's letters, which the sets are made from.
-pub fn chain_word(table: &[u8], t: Table, log: &[u8], scratch: &mut [u8], n: usize, count: usize)
-    requires { Holds table.now t × Linked log.now count n scratch.old × (links_end n ≤ length scratch.old) }
-    ensures { WordChained table.now t log.now count n scratch.old scratch.new }
+pub fn chain_word(table: &Accepted, log: &[u8], scratch: &mut [u8], n: usize, count: usize)
+    requires { Linked log.now count n scratch.old × (links_end n ≤ length scratch.old) }
+    ensures { WordChained table.now.bytes.now table.now.counts log.now count n scratch.old scratch.new }
 {
-    let letters = word_letters(table, t);
+    let letters = word_letters(table);
     chain_leaders(log, scratch, n, count, letters);
 }

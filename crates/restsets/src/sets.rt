@@ -18,7 +18,7 @@ use rests::{Scope, letter_at, zeroed};
 use scratch::SET_BYTES;
 use states::numbering::number;
 use states::sets::insert;
-use table::{Table, accepting_group, is_within, present};
+use table::{Accepted, Table, is_within, present};
 
 fn clear_set(scratch: &mut [u8], at: usize)
     requires { at + set_length ≤ length scratch.old }
@@ -36,8 +36,7 @@ pub fn insert_state(scratch: &mut [u8], at: usize, x: usize)
 
 // The set of the rest from letter i on, at `to`, from that of the next rest, at `next`.
 pub fn fill_set(
-    table: &[u8],
-    t: Table,
+    table: &Accepted,
     log: &[u8],
     scratch: &mut [u8],
     c: Scope,
@@ -46,10 +45,10 @@ pub fn fill_set(
     to: usize,
     last: Group,
 )
-    requires { Fillable table.now t log.now c i next to last scratch.old }
-    ensures { Filled table.now t log.now c.limit i to scratch.old scratch.new }
+    requires { Fillable table.now.bytes.now table.now.counts log.now c i next to last scratch.old }
+    ensures { Filled table.now.bytes.now table.now.counts log.now c.limit i to scratch.old scratch.new }
 {
-    let a = letter_at(table, t, i);
+    let a = letter_at(table, i);
     clear_set(scratch, to);
     let f = frame_of(a.bits, last);
     add_groups(log, scratch, c, next, to, a, f);
@@ -67,29 +66,25 @@ fn add_mixture(t: Table, scratch: &mut [u8], at: usize, x: Mixed, m: u8)
 }
 
 // Puts accepting group j into the set, in every mixture where the automaton is copied.
-fn add_accepting(table: &[u8], t: Table, c: Copying, scratch: &mut [u8], at: usize, j: usize)
-    requires { Holds table.now t × CopyingOf table.now t c × (j < t.accepting) × (at + set_length ≤ length scratch.old) }
-    ensures { scratch.new ≡ with_states scratch.old at (map (own_number (processes_of_table t)) (mixtures_in table.now (processes_of_table t) (accepting_in table.now j))) }
+fn add_accepting(table: &Accepted, c: Copying, scratch: &mut [u8], at: usize, j: usize)
+    requires { CopyingOf table.now.bytes.now table.now.counts c × (j < table.now.counts.accepting) × (at + set_length ≤ length scratch.old) }
+    ensures { scratch.new ≡ with_states scratch.old at (map (own_number (processes_of_table table.now.counts)) (mixtures_in table.now.bytes.now (processes_of_table table.now.counts) (accepting_in table.now.bytes.now j))) }
 {
-    let g = accepting_group(table, t, j);
-    let x = mixed_of(c, present(t), g);
+    let g = table.accepting_group(j);
+    let x = mixed_of(c, present(table.counts), g);
     let sets = set_count(c);
-    let mut m = 0;
-    while m < sets {
-        add_mixture(t, scratch, at, x, m);
-        m += 1;
+    for m in 0..sets {
+        add_mixture(table.counts, scratch, at, x, m);
     }
 }
 
 // The set of the empty rest: the accepting groups.
-pub fn fill_accepting(table: &[u8], t: Table, c: Copying, scratch: &mut [u8], at: usize)
-    requires { Holds table.now t × CopyingOf table.now t c × (at + set_length ≤ length scratch.old) }
-    ensures { OnlySet at scratch.old scratch.new × ((round : ℕ) → SetRight table.now t round (set_at scratch.new at) t.pile) }
+pub fn fill_accepting(table: &Accepted, c: Copying, scratch: &mut [u8], at: usize)
+    requires { CopyingOf table.now.bytes.now table.now.counts c × (at + set_length ≤ length scratch.old) }
+    ensures { OnlySet at scratch.old scratch.new × ((round : ℕ) → SetRight table.now.bytes.now table.now.counts round (set_at scratch.new at) table.now.counts.pile) }
 {
     clear_set(scratch, at);
-    let mut j = t.accepting;
-    while 0 < j {
-        j -= 1;
-        add_accepting(table, t, c, scratch, at, j);
+    for j in (0..table.counts.accepting).rev() {
+        add_accepting(table, c, scratch, at, j);
     }
 }

@@ -9,7 +9,7 @@ use lib.ListN.{length}
 use borrow.Author.Tests.{eq-eqb, ne_eqb, lt-ltb, le-ltb}
 use Rattle.numbers.proofs.NumberBytes.{length_number}
 use Rattle.rings.specs.Rings.{record_bucket, in_bucket, no_link, link_place, link_at, RingRoom, NoTail, Greatest, Ringed, Freshened, OutsideSame, with_link, started, lengthened, appended}
-use Rattle.rings.proofs.Links.{link_other, link_same, next_below, outside_join, outside_link, outside_none, own_below}
+use Rattle.rings.proofs.Links.{link_other, link_same, next_below, outside_join, outside_link, own_below}
 use Rattle.rings.proofs.NewRecord.{alone, behind, fresh_begun, fresh_lengthened, fresh_started, ring_lengthened, ring_started}
 use Rattle.rings.proofs.Keeping.{ringed_kept}
 
@@ -19,9 +19,6 @@ pub record Appending (log : List ℕ) (n at lo r : ℕ) (s t : List ℕ) : Type 
   pub same : OutsideSame (6 * n) at s t
   pub ringed : Ringed log r n at t
   pub fresh : Freshened log lo r n at t
-
-pub appending_start : (log : List ℕ) (n at lo : ℕ) (s : List ℕ) → Ringed log lo n at s → Appending log n at lo lo s s
-appending_start log n at lo s w = record { low = omega arith; same = outside_none (6 * n) at s; ringed = w; fresh = λ h l p q. absurd (omega arith) }
 
 module _ (log : List ℕ) (n at lo r : ℕ) (s t : List ℕ) (short : n ≤ no_link) (room : at + 6 * n ≤ length t) (lr : r < n) (w : Appending log n at lo r s t) where
   -- its bucket and the tail there

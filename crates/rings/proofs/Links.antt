@@ -84,7 +84,3 @@ in_true log n h r t = eqb-true (record_bucket log n r) h t
 -- every link of a ring is below base
 pub next_below : {log : List ℕ} {base n at : ℕ} {s : List ℕ} (r : ℕ) → r < base → Ringed log base n at s → link_at s at (n + r) < base
 next_below r l w = ⊎_elim (λ x. x.below) (λ x. omega (arith, x.earlier)) (w.next r l)
-
--- the tail of a record's bucket, unless it is none, is a record below
-pub tail_below : {log : List ℕ} {r n at : ℕ} {s : List ℕ} {h t : ℕ} → Ringed log r n at s → h < n → t ≡ link_at s at h → (t ≡ no_link → ⊥) → t < r
-tail_below w l e ne = ⊎_elim (λ x. absurd (ne (e ∙ x.is))) (λ x. omega (arith, x.below)) (w.tail _ l)

@@ -27,9 +27,6 @@ pub record Walks (log : List ℕ) (base n letter : ℕ) (g : ℕ) (from r : ℕ)
   pub skips : NoneIn (record_reads log letter g) from r
   pub bucket : record_bucket log n r ≡ bucket_of n letter g
 
-pub walks_start : (log : List ℕ) (base n letter : ℕ) (g : ℕ) (r : ℕ) → r < base → record_bucket log n r ≡ bucket_of n letter g → Walks log base n letter g r r
-walks_start log base n letter g r l b = record { low = omega arith; below = l; skips = λ j p q. absurd (omega arith); bucket = b }
-
 -- no record of the bucket: the first is base
 pub none_first : (log : List ℕ) (base n letter : ℕ) (g : ℕ) (h from : ℕ) → from ≤ base → h ≡ bucket_of n letter g → NoneIn (in_bucket log n h) from base → base ≡ first_from (record_reads log letter g) from (base - from)
 none_first log base n letter g h from l b f = first_is (record_reads log letter g) from (base - from) base (record { low = l; high = omega arith; passes = λ q. absurd (omega arith); fails = none_reads log n letter g h from base b f })

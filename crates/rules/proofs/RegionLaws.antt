@@ -14,7 +14,6 @@ use lib.ListN.{drop, get_or, length, length-drop, length-set, set}
 use lib.Seq.{drop-set-add, get_or-drop, get_or-set_other, get_or-set_same}
 use borrow.Author.Tests.{eq-eqb, eqb-false, eqb-true, le-ltb, lt-ltb, ne_eqb}
 use Rattle.model.proofs.Tests.{by_test}
-use Rattle.buffers.specs.Buffers.{Cleared}
 use Rattle.states.specs.StateSets.{inserted, member}
 use Rattle.states.proofs.StateSets.{member_byte, member_inserted}
 use Rattle.rules.specs.Regions.{BytesWritten, KeptOutside, SetAdded, has_position, position_ceiling, position_bytes, with_position}
@@ -33,9 +32,6 @@ kept_set : (at n i v : ℕ) (s : List ℕ) → at ≤ i → i < at + n → KeptO
 kept_set at n i v s a b = record { size = length-set s i v; outside = λ j d. get_or-set_other s i j v 0 (λ e. ⊎_elim (λ h. omega arith) (λ h. omega arith) d) }
 
 -- ---- bytes one after the other
-pub bytes_none : {at : ℕ} {byte : ℕ → ℕ} {s : List ℕ} → BytesWritten at byte 0 s s
-bytes_none = record { kept = kept_none; bytes = λ j l. absurd (omega arith) }
-
 pub bytes_more : {at : ℕ} {byte : ℕ → ℕ} {n : ℕ} {s t : List ℕ} → BytesWritten at byte n s t → at + n < length t → {v : ℕ} → v ≡ byte n → BytesWritten at byte (n + 1) s (set t (at + n) v)
 bytes_more {at} {byte} {n} {s} {t} w room {v} is = record {
   kept = kept_trans (kept_wider (omega arith) (omega arith) w.kept) (kept_set at (n + 1) (at + n) v t (omega arith) (omega arith));
@@ -45,13 +41,6 @@ bytes_more {at} {byte} {n} {s} {t} w room {v} is = record {
         let e : j ≡ n = omega arith in
         subst (λ (m : ℕ). get_or (set t (at + n) v) (at + m) 0 ≡ byte m) (sym e) (get_or-set_same t (at + n) v 0 room ∙ is)
   ];
-}
-
--- bytes that are cleared are written with zeros
-pub bytes_cleared : {at n : ℕ} {s t : List ℕ} → Cleared at (at + n) s t → BytesWritten at (λ _. 0) n s t
-bytes_cleared {at} w = record {
-  kept = record { size = w.size; outside = λ i d. ⊎_elim (λ h. w.before i h) (λ h. w.behind i h) d };
-  bytes = λ j l. w.zero (at + j) (omega arith) (omega arith);
 }
 
 -- the last one
@@ -114,10 +103,6 @@ bit_or_lem a b j =
 -- byte j of both sets together
 abbrev pub sum_byte : List ℕ → ℕ → ℕ → ℕ → ℕ
 sum_byte s from to j = bit_or (get_or s (to + j) 0) (get_or s (from + j) 0)
-
--- it is as it was until it is written
-pub sum_kept : (from to i : ℕ) (s t : List ℕ) → to + position_bytes ≤ from → BytesWritten to (sum_byte s from to) i s t → i < position_bytes → sum_byte t from to i ≡ sum_byte s from to i
-sum_kept from to i s t apart w l = ap₂ bit_or (w.kept.outside (to + i) (inr (omega arith))) (w.kept.outside (from + i) (inr (omega arith)))
 
 pub set_added : {from to : ℕ} {s t : List ℕ} → BytesWritten to (sum_byte s from to) position_bytes s t → SetAdded from to s t
 set_added {from} {to} {s} {t} w = record {

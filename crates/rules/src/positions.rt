@@ -22,7 +22,7 @@ pub fn insert(s: &mut [u8], at: usize, p: usize)
     ensures { s.new ≡ with_position s.old at p }
 {
     let i = at + p / 8;
-    s[i] = s[i] | (1 << (p % 8));
+    s[i] |= 1 << (p % 8);
 }
 
 // Clears n bytes from `at` on.
@@ -38,9 +38,7 @@ pub fn add(s: &mut [u8], from: usize, to: usize)
     requires { (to + position_bytes ≤ from) × (from + position_bytes ≤ length s.old) }
     ensures { SetAdded from to s.old s.new }
 {
-    let mut i = 0;
-    while i < POSITION_BYTES {
-        s[to + i] = s[to + i] | s[from + i];
-        i += 1;
+    for i in 0..POSITION_BYTES {
+        s[to + i] |= s[from + i];
     }
 }

@@ -1,6 +1,6 @@
 -- What a round tells and leaves when no head is left.
 use mathlib.Core.Path.{◌≡◌, ap, refl, subst, sym, ◌∙◌}
-use mathlib.Core.Bool.{cond, false}
+use mathlib.Core.Bool.{false}
 use mathlib.Core.List.{List}
 use Prim.Native.Nat.{ℕ, suc, ◌+◌, ◌<◌, ◌≤◌}
 use native.Mathlib.Decide.{dec_lt}
@@ -17,9 +17,8 @@ use Rattle.model.proofs.Lists.{is_empty_false, is_empty_true}
 use Rattle.model.proofs.Tests.{by_test}
 use Rattle.table.specs.declared.Table.{Table}
 use Rattle.table.specs.Reading.{saturated_in}
-use Rattle.saturate.specs.declared.rounds.Added.{Added}
-use Rattle.saturate.specs.declared.rounds.Added.TheVariants.{Records, Nothing, NoRoom}
-use Rattle.saturate.specs.Adding.{CanHold, RoundAdded, round_told}
+use Rattle.std.specs.Prelude.{Some, None, Ok, Err}
+use Rattle.saturate.specs.Adding.{CanHold, RoundAdded, Telling, round_told, told}
 use Rattle.saturate.specs.Rounds.{RoundBegins, RoundScratch}
 use Rattle.saturate.proofs.RoundSteps.{HeadsDone}
 use Rattle.saturate.proofs.ScratchParts.{logged_rounds, rounds_long}
@@ -29,12 +28,12 @@ round_length sys k = let e : k + 1 ≡ suc k = omega arith in ap (λ (j : ℕ). 
 
 -- ---- what it tells
 -- what a round that tells this has found
-abbrev pub Finding : System → ℕ → ℕ → Added → Type 0
-Finding sys k size NoRoom = capacity size < length (log_at sys (k + 1))
-Finding sys k size Nothing = length (additions sys (log_at sys k)) ≡ 0
-Finding sys k size (Records count) = (count ≡ length (log_at sys (k + 1))) × (length (log_at sys (k + 1)) ≤ capacity size) × (0 < length (additions sys (log_at sys k)))
+abbrev pub Finding : System → ℕ → ℕ → Telling → Type 0
+Finding sys k size (Err e) = capacity size < length (log_at sys (k + 1))
+Finding sys k size (Ok None) = length (additions sys (log_at sys k)) ≡ 0
+Finding sys k size (Ok (Some count)) = (count ≡ length (log_at sys (k + 1))) × (length (log_at sys (k + 1)) ≤ capacity size) × (0 < length (additions sys (log_at sys k)))
 
-pub told_finding : (sys : System) (k size : ℕ) {r : Added} → r ≡ round_told sys k size → Finding sys k size r
+pub told_finding : (sys : System) (k size : ℕ) {r : Telling} → r ≡ round_told sys k size → Finding sys k size r
 unfolding round_told
 told_finding sys k size e =
     let news = additions sys (log_at sys k) in
@@ -70,7 +69,7 @@ module _ {table : List ℕ} {t : Table} {lo base n k : ℕ} {log s : List ℕ} (
         (λ y. y ∙ sym (eq-eqb count base (omega (arith, grown, counted, ap length (is_empty_true (additions sys (log_at sys k)) y)))))
         (λ m. m ∙ sym (ne_eqb count base (λ e. omega (arith, grown, counted, is_empty_false (additions sys (log_at sys k)) m))))
 
-  told_is : cond (ltb n count) NoRoom (cond (eqb count base) Nothing (Records count)) ≡ round_told sys k (length log)
+  told_is : told base count n ≡ round_told sys k (length log)
   unfolding round_told
   told_is = elim (dec_lt n count) [
     | yes l ↦ rw (lt-ltb n count l, lt-ltb (capacity (length log)) (length (log_at sys (k + 1))) (omega (arith, d.over l, b.room)))
@@ -79,7 +78,7 @@ module _ {table : List ℕ} {t : Table} {lo base n k : ℕ} {log s : List ℕ} (
         rw (le-ltb n count fits, has_room fits, empty_is fits, ← counted fits)
   ]
 
-  pub round_ends : {r : Added} → r ≡ cond (ltb n count) NoRoom (cond (eqb count base) Nothing (Records count)) → RoundAdded sys k log r log' × RoundScratch table t base n k log' s s'
+  pub round_ends : {r : Telling} → r ≡ told base count n → RoundAdded sys k log r log' × RoundScratch table t base n k log' s s'
   round_ends is = (
     record {
       left = λ l. logged_rounds sys (k + 1) count log' (d.within (held l));

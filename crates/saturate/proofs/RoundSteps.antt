@@ -38,7 +38,7 @@ use Rattle.rules.specs.Rules.{Ordered, has_letter, ordered_rule}
 use Rattle.rules.proofs.RuleOrder.{heads_rise, same_between}
 use Rattle.heads.specs.declared.Progress.{Progress}
 use Rattle.heads.specs.declared.Round.{Round}
-use Rattle.heads.specs.Heads.{HeadAdded, Leading, NextHead, before_of, letter_of}
+use Rattle.heads.specs.Heads.{HeadAdded, NextHead, before_of, letter_of}
 use Rattle.heads.specs.Rounds.{InRound, Prepared, earlier_log, head_additions, head_at, is_active}
 use Rattle.heads.proofs.InRounds.{Keeps, active_kept, order_kept, round_kept}
 use Rattle.saturate.specs.Rounds.{Logged}
@@ -275,10 +275,6 @@ module _ {table : List ℕ} {t : Table} {round : Round} {log₀ s₀ : List ℕ}
     pub head_active : has_position s active_at position ≡ true
     head_active = h.passed.active below
 
-    -- it is the first position of its head
-    pub head_leading : Leading table s position
-    head_leading q l y e = true≢false (sym (h.passed.behind position (omega arith) below head_active) ∙ ap (lex_less h.last) (sym e) ∙ h.passed.before q l (omega (arith, below)) y)
-
     abbrev news : List Candidate
     news = head_additions table round (letter_of table s position) (before_of table s position)
 
@@ -332,6 +328,3 @@ module _ {table : List ℕ} {t : Table} {round : Round} {log₀ s₀ : List ℕ}
         scratch_length = d.scratch_length ∙ h.scratch_length;
         indexed = λ l. standing_next.indexed position below (active_kept table t S.holds s s' d.kept position (omega (arith, below, (table_modest table t S.holds).rules)) ∙ head_active);
       }
-
-      pub rules_fewer : t.rules - r.position < t.rules - position
-      rules_fewer = omega (arith, d.next.later, below)

@@ -1,10 +1,9 @@
 -- Rounds until one adds nothing: the limit.
-use mathlib.Core.Path.{◌∙◌, ◌≡◌, ap, ap₂, refl, subst, sym}
+use mathlib.Core.Path.{◌∙◌, ◌≡◌, ap, ap₂, subst, sym}
 use mathlib.Core.List.{List, ◌++◌}
 use Prim.Native.Nat.{◌*◌, ◌+◌, ◌-◌, ◌<◌, ◌≤◌, ℕ}
 use native.Mathlib.Decide.{dec_lt}
 use native.Mathlib.Omega.{arith}
-use native.Mathlib.Nat.{not-suc-le-zero}
 use lib.ListN.{drop, length, length-append, length-drop, take}
 use lib.Seq.{take_at}
 use borrow.Author.Tests.{le-ltb, lt-ltb}
@@ -23,12 +22,10 @@ use Rattle.table.proofs.Readings.{holds_complete}
 use Rattle.logs.proofs.Rules.{saturated_distinct}
 use Rattle.initial.specs.Initial.{initial_count, initial_log}
 use Rattle.initial.proofs.RoundZero.{initial_length}
-use Rattle.saturate.specs.declared.Saturated.{Saturated}
-use Rattle.saturate.specs.declared.Saturated.TheVariants.{Limit, Full}
-use Rattle.saturate.specs.declared.rounds.Added.{Added}
-use Rattle.saturate.specs.declared.rounds.Added.TheVariants.{Records, Nothing, NoRoom}
-use Rattle.saturate.specs.Adding.{CanHold, HoldsRounds, RoundAdded}
-use Rattle.saturate.specs.Limits.{SaturatedDone, SaturatedFull, SaturatedLimit}
+use Rattle.std.specs.Prelude.{Some, None, Ok, Err}
+use Rattle.saturate.specs.declared.Full.{Full}
+use Rattle.saturate.specs.Adding.{CanHold, HoldsRounds, RoundAdded, Telling}
+use Rattle.saturate.specs.Limits.{SaturatedFull, SaturatedLimit}
 use Rattle.saturate.specs.Rounds.{Logged, RoundBegins, RoundScratch, ScratchReady}
 use Rattle.saturate.proofs.RoundEnds.{Finding, round_length, told_finding}
 use Rattle.saturate.proofs.ScratchParts.{rounds_logged}
@@ -44,12 +41,9 @@ pub record Saturating (table : List ℕ) (t : Table) (n : ℕ) (log₀ s₀ log 
   pub log_length : length log ≡ length log₀
   pub scratch_length : length s ≡ length s₀
 
-pub saturating_start : {table : List ℕ} {t : Table} {n base : ℕ} {log s : List ℕ} → RoundBegins table t 0 base n 0 log s → Saturating table t n log s log s 0 base 0
-saturating_start b = record { begins = b; growing = λ j h. absurd (not-suc-le-zero h); log_length = refl; scratch_length = refl }
-
 -- a round more
 module _ {table : List ℕ} {t : Table} {n : ℕ} {log₀ s₀ log s : List ℕ} {lo base k : ℕ} (h : Saturating table t n log₀ s₀ log s lo base k)
-    {r : Added} {log' s' : List ℕ} (a : RoundAdded (saturated_in table) k log r log') (c : RoundScratch table t base n k log' s s') where
+    {r : Telling} {log' s' : List ℕ} (a : RoundAdded (saturated_in table) k log r log') (c : RoundScratch table t base n k log' s s') where
   abbrev sys : System
   sys = saturated_in table
 
@@ -59,20 +53,20 @@ module _ {table : List ℕ} {t : Table} {n : ℕ} {log₀ s₀ log s : List ℕ}
   grown : length (log_at sys (k + 1)) ≡ base + news
   grown = omega (arith, round_length sys k, h.begins.size)
 
-  finding : (x : Added) → r ≡ x → Finding sys k (length log) x
+  finding : (x : Telling) → r ≡ x → Finding sys k (length log) x
   finding x e = told_finding sys k (length log) (sym e ∙ a.told)
 
-  pub saturating_full : r ≡ NoRoom → SaturatedFull table n log₀ s₀ log' s'
-  saturating_full e = record {
-    over = omega (arith, finding NoRoom e, h.begins.room, limit_longest sys (holds_bytes table t h.begins.holds) (k + 1));
+  pub saturating_full : {e : Full} → r ≡ Err e → SaturatedFull table n log₀ s₀ log' s'
+  saturating_full {e = x} e = record {
+    over = omega (arith, finding (Err x) e, h.begins.room, limit_longest sys (holds_bytes table t h.begins.holds) (k + 1));
     log_length = a.log_length ∙ h.log_length;
     scratch_length = c.size ∙ h.scratch_length;
   }
 
   -- it added records
-  module _ {count : ℕ} (e : r ≡ Records count) where
+  module _ {count : ℕ} (e : r ≡ Ok (Some count)) where
     told : (count ≡ length (log_at sys (k + 1))) × CanHold sys (k + 1) log × (0 < news)
-    told = finding (Records count) e
+    told = finding (Ok (Some count)) e
 
     pub measure_falls : n - count < n - base
     measure_falls = omega (arith, told.0, told.1, told.2, grown, h.begins.room)
@@ -102,10 +96,10 @@ module _ {table : List ℕ} {t : Table} {n : ℕ} {log₀ s₀ log s : List ℕ}
     }
 
   -- it added nothing, so all records are in rings
-  module _ (e : r ≡ Nothing) where
+  module _ (e : r ≡ Ok None) where
     last_is : saturated_at sys ≡ k
     last_is = elim (dec_lt k (saturated_at sys)) [
-      | yes l ↦ absurd (omega (arith, before_saturated sys k l, finding Nothing e))
+      | yes l ↦ absurd (omega (arith, before_saturated sys k l, finding (Ok None) e))
       | no l ↦ elim (dec_lt (saturated_at sys) k) [
         | yes m ↦ absurd (omega (arith, h.growing (saturated_at sys) m, ap length (limit_saturated sys (holds_bytes table t h.begins.holds))))
         | no m ↦ omega arith
@@ -180,15 +174,3 @@ module _ {table : List ℕ} {t : Table} {n : ℕ} (log s log' s' : List ℕ) (p 
         indexed = ready.indexed;
         prepared = ready.prepared;
       }
-
-      -- what a call that goes on from these buffers leaves
-      pub saturated_all : (x : Saturated) (log₁ s₁ : List ℕ) → SaturatedDone table n log' s'' x log₁ s₁ → SaturatedDone table n log s x log₁ s₁
-      saturated_all (Limit c k) log₁ s₁ d = record {
-        logged = d.logged;
-        last_round = d.last_round;
-        fits = d.fits;
-        linked = d.linked;
-        log_length = d.log_length ∙ log_kept;
-        scratch_length = d.scratch_length ∙ ready.size ∙ w.1.1;
-      }
-      saturated_all Full log₁ s₁ d = record { over = d.over; log_length = d.log_length ∙ log_kept; scratch_length = d.scratch_length ∙ ready.size ∙ w.1.1 }

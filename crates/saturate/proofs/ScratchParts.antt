@@ -24,7 +24,6 @@ use Rattle.states.proofs.StateSets.{first_at}
 use Rattle.scratch.specs.Regions.{active_at, keys_at, order_at, passed_at, rings_at, writers_at}
 use Rattle.rings.specs.Rings.{Freshened, OutsideSame, Ringed}
 use Rattle.rings.proofs.Keeping.{freshened_scratch, ringed_scratch}
-use Rattle.rings.proofs.Links.{outside_none}
 use Rattle.keys.specs.Keys.{Indexed, KeyRoom}
 use Rattle.keys.proofs.Keeping.{indexed_scratch}
 use Rattle.table.specs.declared.Table.{Table}
@@ -89,9 +88,6 @@ scratch_ready {table} {t} holds {n} {log} {s₁ = s₁} {s₂ = s₂} {s₄ = s�
     same i l = x.before i (omega arith) ∙ k.before i (omega arith) ∙ c.before i l
 
 -- ---- the index
-pub keys_skipped : {t : Table} {base n position : ℕ} {log s : List ℕ} → t.rules ≤ position → KeysIndexed t base n position log s s
-keys_skipped {n = n} {s = s} l = record { outside = outside_none (4 * n) (keys_at n) s; indexed = λ h. absurd (omega arith) }
-
 -- ---- letters
 power_bit : (k : ℕ) → has_letter (2 ^ k) k ≡ true
 power_bit k = rw (div_self (pow_pos k))

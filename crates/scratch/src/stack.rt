@@ -5,13 +5,13 @@ ghost use Rattle.numbers.specs.NumberBytes.{with_number};
 ghost use Rattle.scratch.specs.StackNumbers.{stack_place};
 
 use crate::STACK;
-use numbers::{put_two, two_at, wide_two};
+use numbers::{put_two, two_at};
 
 pub fn number_at(scratch: &[u8], k: usize) -> usize
     requires { stack_place k + 2 ≤ length scratch.now }
     ensures { result ≡ number_at 2 scratch.now (stack_place k) }
 {
-    wide_two(two_at(scratch, STACK + 2 * k))
+    usize::from(two_at(scratch, STACK + 2 * k))
 }
 
 pub fn put_number(scratch: &mut [u8], k: usize, x: u16)

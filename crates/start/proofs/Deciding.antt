@@ -37,7 +37,7 @@ use Rattle.restsets.specs.Sets.{OnlySet}
 use Rattle.restsets.specs.Filling.{WordChained}
 use Rattle.attempts.specs.declared.Tried.TheVariants.{Found, Nothing}
 use Rattle.attempts.specs.Attempts.{Leading, Attempted, Ready, state_along, trail}
-use Rattle.start.specs.declared.StartPath.{StartPath}
+use Rattle.std.specs.Prelude.{Some, None}
 use Rattle.start.specs.Search.{set_place, whole_word, RightAt, Begun, BegunLed, SetsReady, start_in, round_path, PathOn, start_found, Sought}
 use Rattle.start.proofs.Tracing.{start_right, path_whole}
 
@@ -159,9 +159,9 @@ module _ {table : List ℕ} {t : Table} {round : ℕ} {log : List ℕ} {count : 
   steps_same [] e = refl
   steps_same (n ∷ ns) e = ap₂ (λ (a b : ℕ). a + b) (round_reads lent n e.0).steps (steps_same ns e.1)
 
-  pub sought_path : {steps : ℕ} → steps ≡ min (sum_over (steps_at log) (stack_of s t.pile)) steps_cap → Sought table t round (StartPath.Found steps) s
+  pub sought_path : {steps : ℕ} → steps ≡ min (sum_over (steps_at log) (stack_of s t.pile)) steps_cap → Sought table t round (Some steps) s
   sought_path e = record {
-    given = ap StartPath.Found (e ∙ ap (λ (k : ℕ). min k steps_cap) (steps_same (stack_of s t.pile) numbers_inside) ∙ ap (path_steps (log_at (saturated_in table) round)) w.stack)
+    given = ap Some (e ∙ ap (λ (k : ℕ). min k steps_cap) (steps_same (stack_of s t.pile) numbers_inside) ∙ ap (path_steps (log_at (saturated_in table) round)) w.stack)
         ∙ sym (ap (start_found (log_at (saturated_in table) round)) w.is);
     stack = λ p is. let same : w.path ≡ p = one w.path p (sym w.is ∙ is) in w.stack ∙ ap (λ (q : Path). q.numbers) same;
   }
@@ -169,7 +169,7 @@ module _ {table : List ℕ} {t : Table} {round : ℕ} {log : List ℕ} {count : 
       one : (p q : Path) → some p ≡ some q → p ≡ q
       one p q e = cc
 
-pub sought_none : {table : List ℕ} {t : Table} {round : ℕ} {s : List ℕ} → round_path table round ≡ none → Sought table t round StartPath.NoPath s
+pub sought_none : {table : List ℕ} {t : Table} {round : ℕ} {s : List ℕ} → round_path table round ≡ none → Sought table t round None s
 sought_none {table} {t} {round} e = record { given = sym (ap (start_found (log_at (saturated_in table) round)) e); stack = λ p is. absurd (clash p (sym e ∙ is)) }
   where
     clash : (p : Path) → none ≡ some p → ⊥

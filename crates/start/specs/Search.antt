@@ -17,8 +17,7 @@ use Rattle.rests.specs.declared.Scope.{Scope}
 use Rattle.rests.specs.Rests.{processes_of_table, own_number, set_at, Scoped, accepts_from, path_from, RightForLog}
 use Rattle.restsets.specs.Filling.{Led}
 use Rattle.attempts.specs.declared.Span.{Span}
-use Rattle.start.specs.declared.StartPath.{StartPath}
-use Rattle.start.specs.declared.StartPath.TheVariants.{NoPath, Found}
+use Rattle.std.specs.Prelude.{Option as Optional, Some, None}
 
 -- ---- where the sets stand
 -- the set of the rest from letter k on
@@ -92,11 +91,11 @@ abbrev pub PathIf : List ℕ → Table → ℕ → List ℕ → Bool → Type 0
 PathIf table t round s true = PathOn table t round s
 PathIf table t round s false = round_path table round ≡ none
 
-abbrev pub start_found : List Record → Option Path → StartPath
-start_found log none = NoPath
-start_found log (some p) = Found (path_steps log p.numbers)
+abbrev pub start_found : List Record → Option Path → Optional ℕ
+start_found log none = None
+start_found log (some p) = Some (path_steps log p.numbers)
 
 -- the answer, and where there is a path its record numbers as a stack in the scratch, the first letter's record on top
-pub record Sought (table : List ℕ) (t : Table) (round : ℕ) (answer : StartPath) (scratch : List ℕ) : Type 0 where
+pub record Sought (table : List ℕ) (t : Table) (round : ℕ) (answer : Optional ℕ) (scratch : List ℕ) : Type 0 where
   pub given : answer ≡ start_found (log_at (saturated_in table) round) (round_path table round)
   pub stack : (p : Path) → round_path table round ≡ some p → stack_of scratch t.pile ≡ p.numbers

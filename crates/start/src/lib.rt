@@ -27,14 +27,7 @@ use restsets::sets::fill_accepting;
 use scratch::SET_BYTES;
 use states::numbering::number;
 use states::sets::contains;
-use table::{Table, start_group};
-
-// Whether the start has an accepting path, and its steps.
-#[derive(Clone, Copy)]
-pub enum StartPath {
-    NoPath,
-    Found { steps: u32 },
-}
+use table::Accepted;
 
 // How many records an attempt may try: a number that any log can spare.
 fn tries(count: usize) -> usize {
@@ -42,96 +35,75 @@ fn tries(count: usize) -> usize {
 }
 
 // Whether the start's state is in the first set.
-fn is_accepted(table: &[u8], t: Table, scratch: &[u8]) -> bool
-    requires { Holds table.now t × (leaders_at ≤ length scratch.now) }
-    ensures { result ≡ start_in table.now t scratch.now }
+fn is_accepted(table: &Accepted, scratch: &[u8]) -> bool
+    requires { leaders_at ≤ length scratch.now }
+    ensures { result ≡ start_in table.now.bytes.now table.now.counts scratch.now }
 {
-    let g = start_group(table, t);
-    contains(&scratch[0..SET_BYTES], number(zeroed(t, g)))
+    let g = table.start_group();
+    contains(&scratch[0..SET_BYTES], number(zeroed(table.counts, g)))
 }
 
 // The attempt at the start's path. For the empty word the first set tells.
-fn attempt_start(table: &[u8], t: Table, log: &[u8], scratch: &mut [u8], c: Scope) -> Tried
-    requires { Begun table.now t log.now c scratch.old }
-    ensures { Attempted table.now t log.now c (whole_word t) (system_in table.now).start.states scratch.old scratch.new result }
+fn attempt_start(table: &Accepted, log: &[u8], scratch: &mut [u8], c: Scope) -> Tried
+    requires { Begun table.now.bytes.now table.now.counts log.now c scratch.old }
+    ensures { Attempted table.now.bytes.now table.now.counts log.now c (whole_word table.now.counts) (system_in table.now.bytes.now).start.states scratch.old scratch.new result }
 {
-    if t.pile == 0 {
-        if is_accepted(table, t, scratch) {
+    if table.counts.pile == 0 {
+        if is_accepted(table, scratch) {
             return Tried::Found;
         }
         return Tried::Nothing;
     }
     let span = Span {
         low: 0,
-        high: t.pile,
-        goal: SET_BYTES * t.pile,
+        high: table.counts.pile,
+        goal: SET_BYTES * table.counts.pile,
     };
-    let g = start_group(table, t);
-    attempt(table, t, log, scratch, c, span, g, tries(c.count))
+    let g = table.start_group();
+    attempt(table, log, scratch, c, span, g, tries(c.count))
 }
 
 // Whether there is a path, by the sets; it is then on the stack.
-fn has_path_by_sets(
-    table: &[u8],
-    t: Table,
-    log: &[u8],
-    scratch: &mut [u8],
-    c: Scope,
-    last: Group,
-) -> bool
-    requires { Begun table.now t log.now c scratch.old × (last ≡ last_states table.now t) }
-    ensures { EachRound table.now t log.now c.limit (λ (round : ℕ). PathIf table.now t round scratch.new result) }
+fn has_path_by_sets(table: &Accepted, log: &[u8], scratch: &mut [u8], c: Scope, last: Group) -> bool
+    requires { Begun table.now.bytes.now table.now.counts log.now c scratch.old × (last ≡ last_states table.now.bytes.now table.now.counts) }
+    ensures { EachRound table.now.bytes.now table.now.counts log.now c.limit (λ (round : ℕ). PathIf table.now.bytes.now table.now.counts round scratch.new result) }
 {
-    chain_word(table, t, log, scratch, c.n, c.count);
-    fill_sets(table, t, log, scratch, c, last);
-    if is_accepted(table, t, scratch) {
-        write_path(table, t, log, scratch, c);
+    chain_word(table, log, scratch, c.n, c.count);
+    fill_sets(table, log, scratch, c, last);
+    if is_accepted(table, scratch) {
+        write_path(table, log, scratch, c);
         return true;
     }
     false
 }
 
 // Whether there is a path; it is then on the stack.
-fn has_path(table: &[u8], t: Table, log: &[u8], scratch: &mut [u8], c: Scope, last: Group) -> bool
-    requires { Begun table.now t log.now c scratch.old × (last ≡ last_states table.now t) }
-    ensures { EachRound table.now t log.now c.limit (λ (round : ℕ). PathIf table.now t round scratch.new result) }
+fn has_path(table: &Accepted, log: &[u8], scratch: &mut [u8], c: Scope, last: Group) -> bool
+    requires { Begun table.now.bytes.now table.now.counts log.now c scratch.old × (last ≡ last_states table.now.bytes.now table.now.counts) }
+    ensures { EachRound table.now.bytes.now table.now.counts log.now c.limit (λ (round : ℕ). PathIf table.now.bytes.now table.now.counts round scratch.new result) }
 {
-    match attempt_start(table, t, log, scratch, c) {
-        Tried::Found => {
-            return true;
-        }
-        Tried::Nothing => {
-            return false;
-        }
-        Tried::GivenUp => {
-            return has_path_by_sets(table, t, log, scratch, c, last);
-        }
+    match attempt_start(table, log, scratch, c) {
+        Tried::Found => true,
+        Tried::Nothing => false,
+        Tried::GivenUp => has_path_by_sets(table, log, scratch, c, last),
     }
 }
 
-// Finds the start's path and leaves it on the stack; what the rest of the scratch holds is not decided. n is the number of records that the scratch has room
+// Finds the start's path, leaves it on the stack and gives its steps; what the rest of the scratch holds is not decided. n is the number of records that the scratch has room
 // for, count that of the log's records, which are in their rings.
-pub fn find(
-    table: &[u8],
-    t: Table,
-    log: &[u8],
-    scratch: &mut [u8],
-    n: usize,
-    count: usize,
-) -> StartPath
-    requires { SomeRound table.now t log.now count × Linked log.now count n scratch.old × (links_end n ≤ length scratch.old) }
-    ensures { EachRound table.now t log.now count (λ (round : ℕ). Sought table.now t round result scratch.new) }
+pub fn find(table: &Accepted, log: &[u8], scratch: &mut [u8], n: usize, count: usize) -> Option<u32>
+    requires { SomeRound table.now.bytes.now table.now.counts log.now count × Linked log.now count n scratch.old × (links_end n ≤ length scratch.old) }
+    ensures { EachRound table.now.bytes.now table.now.counts log.now count (λ (round : ℕ). Sought table.now.bytes.now table.now.counts round result scratch.new) }
 {
-    let copying = copying_of(table, t);
-    fill_accepting(table, t, copying, scratch, SET_BYTES * t.pile);
+    let copying = copying_of(table);
+    fill_accepting(table, copying, scratch, SET_BYTES * table.counts.pile);
     let c = Scope {
         n,
         count,
         limit: count,
     };
-    if has_path(table, t, log, scratch, c, last_states(copying)) {
-        let steps = path_steps(log, scratch, t.pile);
-        return StartPath::Found { steps };
+    if has_path(table, log, scratch, c, last_states(copying)) {
+        return Some(path_steps(log, scratch, table.counts.pile));
     }
-    StartPath::NoPath
+    None
 }

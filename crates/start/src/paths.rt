@@ -17,13 +17,13 @@ use model::Group;
 use packs::pack;
 use records::{STEPS_CAP, after_at, steps_at};
 use rests::{Letter, Scope, letter_at, zeroed};
-use rings::{first_match, next_match};
+use rings::Rings;
 use scratch::stack::{number_at, put_number};
 use scratch::{RINGS, SET_BYTES};
 use states::groups::{merged, restricted};
 use states::numbering::number;
 use states::sets::contains;
-use table::{Table, start_group};
+use table::Accepted;
 
 // Whether record r leads from the state g into the set at a byte, where it reads a letter of the processes in bits.
 fn enters(log: &[u8], scratch: &[u8], at: usize, bits: u8, g: Group, r: usize) -> bool
@@ -41,46 +41,44 @@ fn first_lead(log: &[u8], scratch: &[u8], c: Scope, at: usize, a: Letter, g: Gro
     ensures { result ≡ first_lead log.now c.limit (set_at scratch.now at) a g }
 {
     let before = pack(restricted(a.bits, g));
-    let mut r = first_match(log, scratch, RINGS, c.n, c.count, a.number, before);
+    let rings = Rings::new(log, scratch, RINGS, c.n, c.count);
+    let mut r = rings.first_match(a.number, before);
     while r < c.limit {
         if enters(log, scratch, at, a.bits, g, r) {
             return r;
         }
-        r = next_match(log, scratch, RINGS, c.n, c.count, r, a.number, before);
+        r = rings.next_match(r, a.number, before);
     }
     c.limit
 }
 
 // The record for letter i, which goes to its place on the stack; gives the state behind it.
-fn advance(
-    table: &[u8],
-    t: Table,
-    log: &[u8],
-    scratch: &mut [u8],
-    c: Scope,
-    i: usize,
-    g: Group,
-) -> Group
-    requires { Underway table.now t log.now c scratch.old i g }
-    ensures { Advanced table.now t log.now c i g scratch.old scratch.new result }
+fn advance(table: &Accepted, log: &[u8], scratch: &mut [u8], c: Scope, i: usize, g: Group) -> Group
+    requires { Underway table.now.bytes.now table.now.counts log.now c scratch.old i g }
+    ensures { Advanced table.now.bytes.now table.now.counts log.now c i g scratch.old scratch.new result }
 {
-    let a = letter_at(table, t, i);
-    let r = first_lead(log, scratch, c, SET_BYTES * (i + 1), a, zeroed(t, g));
-    put_number(scratch, t.pile - 1 - i, r as u16);
+    let a = letter_at(table, i);
+    let r = first_lead(
+        log,
+        scratch,
+        c,
+        SET_BYTES * (i + 1),
+        a,
+        zeroed(table.counts, g),
+    );
+    put_number(scratch, table.counts.pile - 1 - i, r as u16);
     let after = after_at(log, r);
     merged(a.bits, after, g)
 }
 
 // Writes the record numbers of the start's path to the stack, the first letter's on top.
-pub fn write_path(table: &[u8], t: Table, log: &[u8], scratch: &mut [u8], c: Scope)
-    requires { SetsReady table.now t log.now c scratch.old × (start_in table.now t scratch.old ≡ true) }
-    ensures { EachRound table.now t log.now c.limit (λ (round : ℕ). PathOn table.now t round scratch.new) }
+pub fn write_path(table: &Accepted, log: &[u8], scratch: &mut [u8], c: Scope)
+    requires { SetsReady table.now.bytes.now table.now.counts log.now c scratch.old × (start_in table.now.bytes.now table.now.counts scratch.old ≡ true) }
+    ensures { EachRound table.now.bytes.now table.now.counts log.now c.limit (λ (round : ℕ). PathOn table.now.bytes.now table.now.counts round scratch.new) }
 {
-    let mut g = start_group(table, t);
-    let mut i = 0;
-    while i < t.pile {
-        g = advance(table, t, log, scratch, c, i, g);
-        i += 1;
+    let mut g = table.start_group();
+    for i in 0..table.counts.pile {
+        g = advance(table, log, scratch, c, i, g);
     }
 }
 
@@ -88,8 +86,7 @@ fn add_steps(a: u32, b: u32) -> u32
     requires { (a ≤ steps_cap) × (b < 2 ^ 24) }
     ensures { result ≡ min (a + b) steps_cap }
 {
-    let sum = a + b;
-    if sum < STEPS_CAP { sum } else { STEPS_CAP }
+    (a + b).min(STEPS_CAP)
 }
 
 // The steps of the records on the stack, so many of them, up to the cap.
@@ -98,10 +95,8 @@ pub fn path_steps(log: &[u8], scratch: &[u8], size: usize) -> u32
     ensures { result ≡ min (sum_over (steps_at log.now) (stack_of scratch.now size)) steps_cap }
 {
     let mut steps = 0;
-    let mut k = 0;
-    while k < size {
+    for k in 0..size {
         steps = add_steps(steps, steps_at(log, number_at(scratch, k)));
-        k += 1;
     }
     steps
 }

@@ -7,19 +7,16 @@ use model::Group;
 use rests::Scope;
 use restsets::sets::fill_set;
 use scratch::SET_BYTES;
-use table::Table;
+use table::Accepted;
 
 // Each set from the one behind it; the last is there.
-pub fn fill_sets(table: &[u8], t: Table, log: &[u8], scratch: &mut [u8], c: Scope, last: Group)
-    requires { BegunLed table.now t log.now c scratch.old × (last ≡ last_states table.now t) }
-    ensures { SetsReady table.now t log.now c scratch.new }
+pub fn fill_sets(table: &Accepted, log: &[u8], scratch: &mut [u8], c: Scope, last: Group)
+    requires { BegunLed table.now.bytes.now table.now.counts log.now c scratch.old × (last ≡ last_states table.now.bytes.now table.now.counts) }
+    ensures { SetsReady table.now.bytes.now table.now.counts log.now c scratch.new }
 {
-    let mut i = t.pile;
-    while 0 < i {
-        i -= 1;
+    for i in (0..table.counts.pile).rev() {
         fill_set(
             table,
-            t,
             log,
             scratch,
             c,

@@ -1,2 +1,3 @@
 pub mod StateNumbers
 pub mod StateSets
+pub mod Equality

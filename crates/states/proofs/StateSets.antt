@@ -3,19 +3,22 @@ use mathlib.Core.Path.{◌≡◌, refl, ap, ap₂, sym, subst, ◌∙◌}
 use mathlib.Core.Bool.{Bool, true, false, ◌||◌, true≢false, cond}
 use mathlib.Core.List.{List}
 use Prim.Native.Nat.{ℕ, zero, suc, ◌+◌, ◌-◌, ◌*◌, ◌/◌, ◌%◌, ◌^◌, ◌<◌, ◌≤◌, max}
-use native.Mathlib.Nat.{div_self, div-eq_of_lt, mod-eq_of_lt, one-mul, mul-mod_left, pow-suc, max-le, max-eq_right, max-zero, zero-div}
+use native.Mathlib.Nat.{pow-le-pow_right, div_self, div-eq_of_lt, mod-eq_of_lt, one-mul, mul-mod_left, pow-suc, max-le, max-eq_right, max-zero, zero-div}
 use native.Mathlib.Decide.{ℕ_discrete, dec_lt}
 use native.Mathlib.Numerals.{add-one}
 use native.Mathlib.Omega.{arith}
 use lib.Dec.{eqb}
 use lib.Bits.{bit_or, or_shr, or_step}
+use Rattle.std.specs.Int.{w8, trailing_zeros}
+use Rattle.std.proofs.lemmas.Nat.{le_or_l, le_or_r, shr-shr, shr_le}
+use Rattle.std.proofs.lemmas.Nat.Bits.{bit_at-trailing_zeros}
 use lib.Pow.{pow_pos, pow-lt, pow-add, shl-shr}
 use lib.ListN.{length, get_or, set, length-set, replicate}
 use lib.Seq.{get_or-set_same, get_or-set_other}
 use borrow.Author.Tests.{eqb-true, eqb-false}
 use Rattle.model.proofs.Tests.{by_test}
 use Rattle.states.specs.StateNumbers.{state_count}
-use Rattle.states.specs.StateSets.{NoneFrom, set_block, member, inserted, one_if_equal, count_equal, first_from, next_member}
+use Rattle.states.specs.StateSets.{NoneFrom, set_block, member, inserted, first_from, next_member}
 
 -- ---- a number put in
 -- a one shifted within a byte
@@ -160,62 +163,56 @@ pub next_is : (l : List ℕ) (from r : ℕ) → First (member l) from (state_cou
 unfolding next_member
 next_is l from r w = first_is (member l) from (state_count - from) r w
 
--- no number of a zero byte is in
-pub fails_byte : (l : List ℕ) (n : ℕ) → get_or l (n / 8) 0 ≡ 0 → Fails (member l) n (n - n % 8 + 8)
-fails_byte l n e j h q =
+-- ---- within a byte
+-- the byte of n, shifted to n: its bits are the numbers from n on
+abbrev pub byte_from : List ℕ → ℕ → ℕ
+byte_from l n = get_or l (n / 8) 0 / 2 ^ (n % 8)
+
+shifted_bit : (l : List ℕ) (n j : ℕ) → n ≤ j → j < n - n % 8 + 8 → member l j ≡ eqb (byte_from l n / 2 ^ (j - n) % 2) 1
+unfolding member
+shifted_bit l n j h q =
     let same : j / 8 ≡ n / 8 = omega arith in
-    member_byte l j (ap (λ (i : ℕ). get_or l i 0) same ∙ e)
+    let bit : j % 8 ≡ n % 8 + (j - n) = omega arith in
+    ap₂ (λ (i k : ℕ). eqb (get_or l i 0 / 2 ^ k % 2) 1) same bit ∙ ap (λ (x : ℕ). eqb (x % 2) 1) (sym (shr-shr (get_or l (n / 8) 0) (n % 8) (j - n)))
 
--- ---- bytes that are counted
--- n bytes are counted
-pub record Counting (l : List ℕ) (at n x m i : ℕ) : Type 0 where
-  pub within : i ≤ n
-  pub few : m ≤ i
-  pub count : m ≡ count_equal l at i x
+-- where it is zero, no number is in
+pub fails_byte : (l : List ℕ) (n : ℕ) → byte_from l n ≡ 0 → Fails (member l) n (n - n % 8 + 8)
+fails_byte l n z j h q = shifted_bit l n j h q ∙ ap (λ (x : ℕ). eqb (x / 2 ^ (j - n) % 2) 1) z ∙ ap (λ (x : ℕ). eqb (x % 2) 1) (zero-div (2 ^ (j - n)))
 
-pub counting_start : (l : List ℕ) (at n x : ℕ) → Counting l at n x 0 0
-unfolding count_equal
-counting_start l at n x = record { within = omega arith; few = omega arith; count = refl }
-
-pub counting_turn : (l : List ℕ) (at n x m i one : ℕ) → i < n → one ≡ one_if_equal (get_or l (at + i) 0) x → one ≤ 1 → Counting l at n x m i → Counting l at n x (m + one) (i + 1)
-unfolding count_equal
-counting_turn l at n x m i one h e o w = record {
-  within = omega arith;
-  few = omega (arith, w.few);
-  count = ap₂ (λ (a b : ℕ). a + b) w.count e ∙ ap (λ (k : ℕ). count_equal l at k x) (sym (add-one i));
-}
-
-pub counting_end : (l : List ℕ) (at n x m i : ℕ) → n ≤ i → Counting l at n x m i → m ≡ count_equal l at n x
-counting_end l at n x m i h w =
-    let e : i ≡ n = omega (arith, w.within) in
-    w.count ∙ ap (λ (k : ℕ). count_equal l at k x) e
-
-one_at_most : (x y : ℕ) → one_if_equal x y ≤ 1
-one_at_most x y = by_test (eqb x y) (λ t. rw t (omega arith)) (λ f. rw f (omega arith))
-
-pub count_most : (l : List ℕ) (at n x : ℕ) → count_equal l at n x ≤ n
-unfolding count_equal
-count_most l at zero x = omega arith
-count_most l at (suc n) x = omega (arith, count_most l at n x, one_at_most (get_or l (at + n) 0) x)
-
--- where all are counted each byte is x
-pub count_all : (l : List ℕ) (at n x : ℕ) → count_equal l at n x ≡ n → (i : ℕ) → at ≤ i → i < at + n → get_or l i 0 ≡ x
-unfolding count_equal
-count_all l at zero x e i h q = absurd (omega arith)
-count_all l at (suc n) x e i h q = by_test (eqb (get_or l (at + n) 0) x)
-    (λ t. let before : count_equal l at n x ≡ n = (let one : one_if_equal (get_or l (at + n) 0) x ≡ 1 = rw t in omega arith) in
-    by_test (eqb i (at + n))
-    (λ y. ap (λ (j : ℕ). get_or l j 0) (eqb-true i (at + n) y) ∙ eqb-true (get_or l (at + n) 0) x t)
-    (λ d. let ne : i ≡ at + n → ⊥ = eqb-false i (at + n) d in count_all l at n x before i h (omega arith)))
-    (λ f. let none : one_if_equal (get_or l (at + n) 0) x ≡ 0 = rw f in absurd (omega (arith, count_most l at n x)))
+-- else its lowest 1 is the next member
+pub found_bit : (l : List ℕ) (from n : ℕ) → from ≤ n → n < state_count → Fails (member l) from n → get_or l (n / 8) 0 < 256 → 0 < byte_from l n
+    → n + trailing_zeros w8 (byte_from l n) ≡ next_member l from
+found_bit l from n a u f s h =
+    let x = get_or l (n / 8) 0 in
+    let b = byte_from l n in
+    let d = trailing_zeros w8 b in
+    let t = bit_at-trailing_zeros w8 b h (omega (arith, shr_le x (n % 8))) in
+    let room : n % 8 + d < 8 = elim (dec_lt (n % 8 + d) 8) [
+      | yes r ↦ r
+      | no r ↦
+          let k : 8 ≤ n % 8 + d = omega arith in
+          let p : 2 ^ 8 ≤ 2 ^ (n % 8 + d) = pow-le-pow_right (pow_pos 1) k in
+          let none : b / 2 ^ d ≡ 0 = shr-shr x (n % 8) d ∙ div-eq_of_lt (omega arith) in
+          absurd (omega (arith, t.1))
+    ] in
+    let back : n + d - n ≡ d = omega arith in
+    let here : member l (n + d) ≡ true = shifted_bit l n (n + d) (omega arith) (omega arith) ∙ ap (λ (k : ℕ). eqb (b / 2 ^ k % 2) 1) back ∙ ap (λ (k : ℕ). eqb k 1) t.1 in
+    let before : Fails (member l) n (n + d) = λ j p q. shifted_bit l n j p (omega arith) ∙ ap (λ (k : ℕ). eqb k 1) (t.2 (j - n) (omega arith)) in
+    next_is l from (n + d) (record { low = omega arith; high = omega arith; passes = λ q. here; fails = fails_join (member l) from n (n + d) f before })
 
 -- ---- a block of zero bytes
-pub none_here : (l : List ℕ) (n : ℕ) → n < state_count → NoneFrom l n n
-none_here l n h = record { later = omega arith; within = omega arith; none = fails_none (member l) n }
+pub or_zero : (a b : ℕ) → bit_or a b ≡ 0 → (a ≡ 0) × (b ≡ 0)
+or_zero a b e = (omega (arith, le_or_l a b), omega (arith, le_or_r a b))
 
 -- no number of it is in
-pub zero_block : (l : List ℕ) (n m : ℕ) → n < state_count → n % (8 * set_block) ≡ 0 → m ≡ count_equal l (n / 8) set_block 0 → m ≡ set_block → NoneFrom l n (n + 8 * set_block)
-zero_block l n m h d e f = record { later = omega arith; within = omega arith; none = λ j a b. member_byte l j (count_all l (n / 8) set_block 0 (sym e ∙ f) (j / 8) (omega arith) (omega arith)) }
+pub zero_block : (l : List ℕ) (n : ℕ) → n < state_count → n % (8 * set_block) ≡ 0 → ((i : ℕ) → i < set_block → get_or l (n / 8 + i) 0 ≡ 0) → NoneFrom l n (n + 8 * set_block)
+zero_block l n h d e = record {
+  later = omega arith;
+  within = omega arith;
+  none = λ j a b.
+      let at : n / 8 + (j / 8 - n / 8) ≡ j / 8 = omega arith in
+      member_byte l j (rw at at (e (j / 8 - n / 8) (omega arith)));
+}
 
 pub first_cong : (f h : ℕ → Bool) (m k : ℕ) → ((i : ℕ) → m ≤ i → i < m + k → f i ≡ h i) → first_from f m k ≡ first_from h m k
 unfolding first_from

@@ -1,5 +1,5 @@
 -- Sets of state numbers as bits of a list of bytes: the number n is bit n % 8 of byte n / 8.
-use Rattle.std.specs.Prelude.{◌≡◌, Bool, false, cond, List, ℕ, zero, suc, ◌+◌, ◌-◌, ◌/◌, ◌%◌, ◌^◌, ◌<◌, ◌≤◌, eqb, get_or, set}
+use Rattle.std.specs.Prelude.{◌≡◌, Bool, false, cond, List, ℕ, zero, suc, ◌-◌, ◌/◌, ◌%◌, ◌^◌, ◌<◌, ◌≤◌, eqb, get_or, set}
 use Rattle.std.specs.Int.Bits.{bit_or}
 use Rattle.states.specs.StateNumbers.{state_count}
 
@@ -17,14 +17,6 @@ inserted l n = set l (n / 8) (bit_or (get_or l (n / 8) 0) (2 ^ (n % 8)))
 -- the bytes that are looked at at a time
 abbrev pub set_block : ℕ
 set_block = 64
-
-abbrev pub one_if_equal : ℕ → ℕ → ℕ
-one_if_equal x y = cond (eqb x y) 1 0
-
--- how many of the n bytes from `at` on are x
-unfoldable pub count_equal : List ℕ → ℕ → ℕ → ℕ → ℕ
-count_equal l at zero x = 0
-count_equal l at (suc n) x = count_equal l at n x + one_if_equal (get_or l (at + n) 0) x
 
 -- r is n or later, with no member between
 pub record NoneFrom (l : List ℕ) (n r : ℕ) : Type 0 where

@@ -22,7 +22,8 @@ use Rattle.table.specs.Present.{present_in}
 use Rattle.table.proofs.Configurations.{fired_over, fired_lettered}
 use Rattle.firing.specs.declared.Fired.{Fired}
 use Rattle.model.specs.declared.Placed.{Placed}
-use Rattle.firing.specs.declared.Firing.TheVariants.{Idle, Full, Done}
+use Rattle.std.specs.Prelude.{Ok, Err}
+use Rattle.firing.specs.declared.Stuck.TheVariants.{Idle, Full}
 use Rattle.firing.specs.Piles.{configuration, Fires, fired_pile}
 use Rattle.firing.proofs.Firings.{idle_of, full_of, overfull, fires_fit}
 use Rattle.steps.specs.Stepping.{InShape, StepRefused, StepTaken}
@@ -63,14 +64,14 @@ module _ (table : List ℕ) (t : Table) (h : Holds table t) (n : ℕ) (pile : Li
         ∙ ap (step_to (after step ns) (length pile) step (n ∷ ns) before) e
 
     -- 12: it does not fire
-    pub step_idle : (pile' : List ℕ) → Fires ((system_in table).loc (rule_in table n).letter) (fire (system_in table).loc (rule_in table n) (configuration pile c)) pile pile' Idle → StepRefused (system_in table) n c pile pile' 12
+    pub step_idle : (pile' : List ℕ) → Fires ((system_in table).loc (rule_in table n).letter) (fire (system_in table).loc (rule_in table n) (configuration pile c)) pile pile' (Err Idle) → StepRefused (system_in table) n c pile pile' 12
     unfolding fired_pile
     step_idle pile' f =
         let e : fire (system_in table).loc (rule_in table n) (configuration pile c) ≡ none = idle_of (length pile) ((system_in table).loc (rule_in table n).letter) (fire (system_in table).loc (rule_in table n) (configuration pile c)) f.answer in
         record { numbered = refl; late = refl; leaves = f.leaves ∙ ap (fired_pile pile) e; halt = λ step ns. by_rule step ns none e }
 
     -- 14: the word after it is longer than the buffer
-    pub step_full : (pile' : List ℕ) → Fires ((system_in table).loc (rule_in table n).letter) (fire (system_in table).loc (rule_in table n) (configuration pile c)) pile pile' Full → StepRefused (system_in table) n c pile pile' 14
+    pub step_full : (pile' : List ℕ) → Fires ((system_in table).loc (rule_in table n).letter) (fire (system_in table).loc (rule_in table n) (configuration pile c)) pile pile' (Err Full) → StepRefused (system_in table) n c pile pile' 14
     step_full pile' f = go (full_of (length pile) ((system_in table).loc (rule_in table n).letter) (fire (system_in table).loc (rule_in table n) (configuration pile c)) f.answer)
       where
         go : ((d : Configuration) × (fire (system_in table).loc (rule_in table n) (configuration pile c) ≡ some d) × (length pile < length d.word)) → StepRefused (system_in table) n c pile pile' 14
@@ -82,7 +83,7 @@ module _ (table : List ℕ) (t : Table) (h : Holds table t) (n : ℕ) (pile : Li
         }
 
     -- it fires, and the word fits
-    pub step_done : (pile' : List ℕ) (f : Fired) → InShape t pile c → Fires ((system_in table).loc (rule_in table n).letter) (fire (system_in table).loc (rule_in table n) (configuration pile c)) pile pile' (Done f) → StepTaken table t n c f pile pile'
+    pub step_done : (pile' : List ℕ) (f : Fired) → InShape t pile c → Fires ((system_in table).loc (rule_in table n).letter) (fire (system_in table).loc (rule_in table n) (configuration pile c)) pile pile' (Ok f) → StepTaken table t n c f pile pile'
     step_done pile' f s z =
         let x = fires_fit ((system_in table).loc (rule_in table n).letter) (fire (system_in table).loc (rule_in table n) (configuration pile c)) pile pile' f z in
         let is : fired (system_in table).loc (rule_in table n) (configuration pile c) ≡ configuration pile' f.placed = (fire_inv (system_in table).loc (rule_in table n) (configuration pile c) (configuration pile' f.placed) x.gives).gives in

@@ -1,5 +1,5 @@
 -- What one step of a walk comes to, as the definition of the whole call has it.
-use Rattle.std.specs.Prelude.{◌≡◌, false, List, ◌++◌, ◌∷◌, ℕ, ◌+◌, ◌-◌, ◌≤◌, eqb, length, take}
+use Rattle.std.specs.Prelude.{◌≡◌, false, List, ◌++◌, ◌∷◌, ℕ, ◌+◌, ◌-◌, ◌≤◌, eqb, length, take, Result, Ok, Err}
 use Rattle.model.specs.Calls.{changes_nothing, halt_at, walk_from}
 use Rattle.model.specs.Groups.{process_bits, processes_of}
 use Rattle.model.specs.Participation.{rule_processes, with_step}
@@ -11,8 +11,6 @@ use Rattle.table.specs.Present.{present_in}
 use Rattle.firing.specs.declared.Fired.{Fired}
 use Rattle.model.specs.declared.Placed.{Placed}
 use Rattle.firing.specs.Piles.{Stands, configuration, fired_pile}
-use Rattle.steps.specs.declared.Taken.{Taken}
-use Rattle.steps.specs.declared.Taken.TheVariants.{Refused, Onward}
 
 -- a configuration that stands in the pile, of the table's letters and processes
 pub record InShape (t : Table) (pile : List ℕ) (c : Placed) : Type 0 where
@@ -47,11 +45,11 @@ pub record StepTaken (table : List ℕ) (t : Table) (n : ℕ) (c : Placed) (f : 
   pub leaves : pile' ≡ fired_pile pile (fire (system_in table).loc (rule_in table n) (configuration pile c))
   pub tells : f.processes ≡ process_bits (rule_processes (system_in table) n)
 
-abbrev pub StepTo : List ℕ → Table → ℕ → Placed → List ℕ → List ℕ → Taken → Type 0
-StepTo table t n c pile pile' (Refused number) = StepRefused (system_in table) n c pile pile' number
-StepTo table t n c pile pile' (Onward f) = StepTaken table t n c f pile pile'
+abbrev pub StepTo : List ℕ → Table → ℕ → Placed → List ℕ → List ℕ → Result Fired ℕ → Type 0
+StepTo table t n c pile pile' (Err number) = StepRefused (system_in table) n c pile pile' number
+StepTo table t n c pile pile' (Ok f) = StepTaken table t n c f pile pile'
 
 -- the counts after it: a step more for each process that took part, and as they were where it is refused
-abbrev pub counts_by : Taken → ℕ → List ℕ → List ℕ
-counts_by (Refused number) ceiling counts = counts
-counts_by (Onward f) ceiling counts = with_step ceiling (processes_of f.processes) counts
+abbrev pub counts_by : Result Fired ℕ → ℕ → List ℕ → List ℕ
+counts_by (Err number) ceiling counts = counts
+counts_by (Ok f) ceiling counts = with_step ceiling (processes_of f.processes) counts

@@ -2,51 +2,42 @@
 // front.
 #![tactic(auto)]
 
-ghost use Rattle.std.specs.Prelude.{◌≡◌, ◌+◌, ◌≤◌, min, length, drop};
+ghost use Rattle.std.specs.Prelude.{◌≡◌, ◌+◌, ◌<◌, ◌≤◌, min, length, drop};
 ghost use Rattle.std.proofs.Math.Seq.{paste};
 ghost use Rattle.model.specs.Calls.{filled};
-ghost use Rattle.model.specs.Groups.{bit, processes_of};
+ghost use Rattle.model.specs.Groups.{Process, bit, has, number_of, processes_of};
 ghost use Rattle.model.specs.Participation.{with_step};
 ghost use Rattle.table.specs.Reading.{Holds, system_in};
 ghost use Rattle.steps.specs.Stepping.{InShape, StartPlaced, StepTo, counts_by};
 
 use buffers::{clear, move_front};
-use firing::{Fired, Firing, fire};
+use firing::{Fired, Stuck, fire};
 use model::{FULL_PILE, IDLE_RULE, NO_RULE, Placed};
-use numbers::as_bit;
-use table::{Table, pile_letter, start_group};
-
-// What one step comes to: the number of its refusal, or the rule that fired.
-#[derive(Clone, Copy)]
-pub enum Taken {
-    Refused(u8),
-    Onward(Fired),
-}
+use table::{Accepted, Table, has_process};
 
 // ---- the start
 // Writes the start's word from a place on.
-fn write_start(table: &[u8], t: Table, pile: &mut [u8], at: usize)
-    requires { Holds table.now t × (at + t.pile ≤ length pile.old) }
-    ensures { pile.new ≡ paste pile.old at (system_in table.now).start.word t.pile }
+fn write_start(table: &Accepted, pile: &mut [u8], at: usize)
+    requires { at + table.now.counts.pile ≤ length pile.old }
+    ensures { pile.new ≡ paste pile.old at (system_in table.now.bytes.now).start.word table.now.counts.pile }
 {
-    let count = t.pile;
-    let mut j = 0;
-    while j < count {
-        pile[at + j] = pile_letter(table, t, j);
-        j += 1;
+    // in the table's bytes a mark stands before each letter, so they are no slice
+    for j in 0..table.counts.pile {
+        pile[at + j] = table.pile_letter(j);
     }
 }
 
 // Puts the start's word at the end of the buffer.
-pub fn place_start(table: &[u8], t: Table, pile: &mut [u8]) -> Placed
-    requires { Holds table.now t × (t.pile ≤ length pile.old) }
-    ensures { StartPlaced table.now t pile.old pile.new result }
+pub fn place_start(table: &Accepted, pile: &mut [u8]) -> Placed
+    requires { table.now.counts.pile ≤ length pile.old }
+    ensures { StartPlaced table.now.bytes.now table.now.counts pile.old pile.new result }
 {
-    let states = start_group(table, t);
-    let count = t.pile;
-    let top = pile.len() - count;
-    write_start(table, t, pile, top);
-    Placed { states, top }
+    let top = pile.len() - table.counts.pile;
+    write_start(table, pile, top);
+    Placed {
+        states: table.start_group(),
+        top,
+    }
 }
 
 // ---- who took part
@@ -54,54 +45,41 @@ pub fn place_start(table: &[u8], t: Table, pile: &mut [u8]) -> Placed
 fn one_more(count: u64, part: bool, ceiling: u64) -> u64
     ensures { result ≡ min ceiling (count + bit part) }
 {
-    if count < ceiling {
-        return count + as_bit(part);
-    }
-    ceiling
+    count.saturating_add(u64::from(part)).min(ceiling)
 }
 
-// The counts with one step more at each process in bits. A count stops at the ceiling.
-fn with_step(counts: [u64; Table::PROCESSES], bits: u8, ceiling: u64) -> [u64; Table::PROCESSES]
-    requires { length counts ≡ 4 }
-    ensures { result ≡ with_step ceiling (processes_of bits) counts }
+// One step more at each process in bits. A count stops at the ceiling.
+fn count_step(counts: &mut [u64; Table::PROCESSES], bits: u8, ceiling: u64)
+    ensures { counts.new ≡ with_step ceiling (processes_of bits) counts.old }
 {
-    let c0 = one_more(counts[0], bits % 2 == 1, ceiling);
-    let c1 = one_more(counts[1], bits / 2 % 2 == 1, ceiling);
-    let c2 = one_more(counts[2], bits / 4 % 2 == 1, ceiling);
-    let c3 = one_more(counts[3], bits / 8 % 2 == 1, ceiling);
-    [c0, c1, c2, c3]
+    for i in 0..Table::PROCESSES {
+        counts[i] = one_more(counts[i], has_process(bits, i), ceiling);
+    }
 }
 
 // ---- a step
-// Fires the rule n, and counts the step for each process that takes part. The order of the refusals: 13, 12, 14.
+// Fires the rule n, and counts the step for each process that takes part; or the number of its refusal. The order of the refusals: 13, 12, 14.
 pub fn take_step(
-    table: &[u8],
-    t: Table,
+    table: &Accepted,
     n: usize,
     pile: &mut [u8],
     c: Placed,
     counts: &mut [u64; Table::PROCESSES],
     ceiling: u64,
-) -> Taken
-    requires { Holds table.now t × InShape t pile.old c × (length counts.old ≡ 4) }
-    ensures { StepTo table.now t n c pile.old pile.new result × (counts.new ≡ counts_by result ceiling counts.old) }
+) -> Result<Fired, u8>
+    requires { InShape table.now.counts pile.old c }
+    ensures { StepTo table.now.bytes.now table.now.counts n c pile.old pile.new result × (counts.new ≡ counts_by result ceiling counts.old) }
 {
-    let rules = t.rules;
-    if rules <= n {
-        return Taken::Refused(NO_RULE);
+    if table.counts.rules <= n {
+        return Err(NO_RULE);
     }
-    match fire(table, t, n, pile, c) {
-        Firing::Idle => {
-            return Taken::Refused(IDLE_RULE);
+    match fire(table, n, pile, c) {
+        Ok(fired) => {
+            count_step(counts, fired.processes, ceiling);
+            Ok(fired)
         }
-        Firing::Full => {
-            return Taken::Refused(FULL_PILE);
-        }
-        Firing::Done(f) => {
-            let next = with_step(*counts, f.processes, ceiling);
-            *counts = next;
-            return Taken::Onward(f);
-        }
+        Err(Stuck::Idle) => Err(IDLE_RULE),
+        Err(Stuck::Full) => Err(FULL_PILE),
     }
 }
 

@@ -11,6 +11,7 @@ use borrow.Author.Tests.{eq-eqb, ne_eqb}
 use Rattle.model.specs.Tables.{body_length, ceiling, bodies, count, is_out_of_turn}
 use Rattle.table.specs.Places.{body_at, bodies_at, offset, counts_at, items_before, processes_in, letters_in, Modest, advanced, Heads, Passed}
 use Rattle.table.specs.Reading.{counts_of, out_of_turn}
+use Rattle.table.specs.Kinds.{kind_of, last_number}
 use Rattle.table.specs.declared.Cursor.{Cursor}
 use Rattle.table.proofs.Bodies.{bodies_length}
 use Rattle.table.proofs.Places.{bodies_above, bodies_below, offset_snoc, items_snoc, offset_still, first_item, second_item}
@@ -61,10 +62,21 @@ module _ (bytes : List ℕ) (c : Cursor) where
   turn_before p k = rw (p.last, count_before 1 (omega arith), count_before 6 (omega arith))
 
   -- the items of the cursor's kind stand right before it
-  pub kind_place : Passed bytes c → (k : ℕ) → k < 8 → c.last ≤ k → offset (counts_at c) k + counts_at c k * (1 + body_length k) ≡ c.at
+  pub kind_place : Passed bytes c → (k : ℕ) → k < 8 → last_number c.last ≤ k → offset (counts_at c) k + counts_at c k * (1 + body_length k) ≡ c.at
   kind_place p k h l = sym (p.place ∙ offset_still (counts_at c) k 8 h (λ j m. p.above j (omega arith)))
 
 -- ---- the cursor behind one item more
+number_kind : (k : ℕ) → 0 < k → k < 8 → last_number (kind_of k) ≡ k
+number_kind zero h l = absurd (omega arith)
+number_kind (suc zero) h l = refl
+number_kind (suc (suc zero)) h l = refl
+number_kind (suc (suc (suc zero))) h l = refl
+number_kind (suc (suc (suc (suc zero)))) h l = refl
+number_kind (suc (suc (suc (suc (suc zero))))) h l = refl
+number_kind (suc (suc (suc (suc (suc (suc zero)))))) h l = refl
+number_kind (suc (suc (suc (suc (suc (suc (suc zero))))))) h l = refl
+number_kind (suc (suc (suc (suc (suc (suc (suc (suc k)))))))) h l = absurd (omega arith)
+
 module _ (c : Cursor) (k next : ℕ) (h : 0 < k) (l : k < 8) where
   count_advanced : (j : ℕ) → counts_at (advanced c k next) j ≡ counts_at c j + cond (eqb k j) 1 0
   unfolding advanced
@@ -83,7 +95,7 @@ module _ (c : Cursor) (k next : ℕ) (h : 0 < k) (l : k < 8) where
 pub record Admitted (bytes : List ℕ) (c : Cursor) (k : ℕ) : Type 0 where
   pub some : 0 < k
   pub known : k < 8
-  pub turn : c.last ≤ k
+  pub turn : last_number c.last ≤ k
   pub room : counts_at c k < ceiling k
   pub whole : c.at + 1 + body_length k ≤ length bytes
 
@@ -110,8 +122,8 @@ module _ (bytes : List ℕ) (c : Cursor) (k : ℕ) (p : Passed bytes c) (a : Adm
   passed_beyond = record {
     place = ap (λ (q : ℕ). q + 1 + body_length k) p.place ∙ sym (offset_snoc bytes (counts_at c) (counts_at beyond) k count_same count_other 8 (omega (arith, a.known)) above_kind);
     within = a.whole;
-    last = rw (← items_beyond) (last_kind_snoc (items_before bytes c) (record { kind = k; body = body_at bytes (body_length k) c.at }));
-    above = λ j h. count_other j (λ e. omega arith) ∙ above_kind j h;
+    last = rw (← items_beyond) (last_kind_snoc (items_before bytes c) (record { kind = k; body = body_at bytes (body_length k) c.at })) ∙ sym (number_kind k a.some a.known);
+    above = λ j h. let above : k < j = rw (number_kind k a.some a.known) at h in count_other j (λ e. omega arith) ∙ above_kind j above;
     ceilings = λ j. elim (ℕ_discrete j k) [
       | yes e ↦ rw (e, count_same) (omega (arith, a.room))
       | no n ↦ rw (count_other j n) (p.ceilings j)

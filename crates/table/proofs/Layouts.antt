@@ -20,7 +20,7 @@ use Rattle.model.specs.Tables.{loc_of, controls_of, states_of, written_places, b
 use Rattle.table.specs.Places.{bound_in, body_at, bodies_at, offset, place_of, body_of, counts, processes_in, letters_in, Modest, Heads}
 use Rattle.table.specs.Reading.{Holds, items_in, system_in, rule_in, transition_in, accepting_in, pile_in, process_at}
 use Rattle.table.specs.declared.Table.{Table}
-use Rattle.table.proofs.Accepted.{Fit, layout}
+use Rattle.table.proofs.Accepting.{Fit, layout}
 use Rattle.table.proofs.Bodies.{body_length_lem, bodies_length, bodies_at_lem}
 use Rattle.table.proofs.Places.{bodies_below, first_item, second_item}
 use Rattle.table.proofs.Scans.{all_at}

@@ -4,7 +4,7 @@ pub mod Values
 pub mod Places
 pub mod Cursors
 pub mod Steps
-pub mod Accepted
+pub mod Accepting
 pub mod Layouts
 pub mod Readings
 pub mod Configurations

@@ -13,10 +13,14 @@ use Rattle.model.proofs.Tests.{by_test, or_left, or_right}
 use Rattle.model.specs.Tables.{Item, body_length, ceiling, bodies, count, loc_of, rule_of, is_stranger, is_out_of_turn, value_fits, cooperates, is_reentry, refusal, Reading, accepted, ending, unless_refused, read_from, read}
 use Rattle.table.specs.Places.{body_at, bodies_at, offset, items_below, counts_at, items_before, advanced, Whole, Passed}
 use Rattle.table.specs.Reading.{counts_of, parsed, out_of_turn, body_refusal, read_on, Onward, Stepped}
+use Rattle.table.specs.Kinds.{last_number}
+use Rattle.std.proofs.Common.{None}
 use Rattle.table.specs.declared.Cursor.{Cursor}
-use Rattle.table.specs.declared.Parsed.{Parsed}
-use Rattle.table.specs.declared.Parsed.TheVariants.{Accepted, Refused}
-use Rattle.table.specs.declared.Step.TheVariants.{Next, Done}
+use Rattle.std.proofs.Common.{Continue, Break}
+use Rattle.std.specs.Prelude.{Result, Ok}
+use Rattle.table.specs.declared.Table.{Table}
+use Rattle.model.specs.Calls.{refuse}
+use Rattle.model.specs.declared.Refusal.{Refusal}
 use Rattle.table.proofs.Bodies.{body_length_lem}
 use Rattle.table.proofs.Cursors.{count_before, count_known, counts_before, turn_before, heads_of, Admitted, items_beyond, passed_beyond}
 
@@ -71,13 +75,13 @@ kind_of_lem k e =
     (omega arith, omega arith)
 
 -- the kind does not fall
-pub turn_of : (c : Cursor) (k : ℕ) → out_of_turn c k ≡ false → c.last ≤ k
+pub turn_of : (c : Cursor) (k : ℕ) → out_of_turn c k ≡ false → last_number c.last ≤ k
 unfolding out_of_turn
 turn_of c k e =
-    ltb-false k c.last
-    (or_left (ltb k c.last) (eqb k 6 && ltb 0 c.starts)
-    (or_left (ltb k c.last || (eqb k 6 && ltb 0 c.starts)) (eqb c.table.processes 0 && ltb 1 k)
-    (or_left (ltb k c.last || (eqb k 6 && ltb 0 c.starts) || (eqb c.table.processes 0 && ltb 1 k)) (ltb 6 k && eqb c.starts 0) e)))
+    ltb-false k (last_number c.last)
+    (or_left (ltb k (last_number c.last)) (eqb k 6 && ltb 0 c.starts)
+    (or_left (ltb k (last_number c.last) || (eqb k 6 && ltb 0 c.starts)) (eqb c.table.processes 0 && ltb 1 k)
+    (or_left (ltb k (last_number c.last) || (eqb k 6 && ltb 0 c.starts) || (eqb c.table.processes 0 && ltb 1 k)) (ltb 6 k && eqb c.starts 0) e)))
 
 -- the length of a body that may be cut
 pub cut_length : (bytes : List ℕ) (size place : ℕ) → length (body_at bytes size place) ≡ min size (length bytes - (place + 1))
@@ -91,7 +95,7 @@ cut_test bytes size place h = by_test (leb (length bytes - place) size)
 
 -- an item that passed the checks 2, 3, 4 and 1
 pub record Early (bytes : List ℕ) (c : Cursor) (k : ℕ) : Type 0 where
-  pub turn : c.last ≤ k
+  pub turn : last_number c.last ≤ k
   pub inside : c.at + 1 + body_length k ≤ length bytes
   pub whole : Whole bytes c.table k (body_at bytes (body_length k) c.at)
   pub same : body_refusal (items_before bytes c) k (body_at bytes (body_length k) c.at) ≡ refusal (items_before bytes c) k (body_at bytes (body_length k) c.at)
@@ -118,19 +122,19 @@ module _ (bytes : List ℕ) (c : Cursor) (k : ℕ) (p : Passed bytes c) (inside 
       }
 
 -- ---- how an item ends the reading
-done_with : (bytes : List ℕ) (c : Cursor) (p : Parsed) → ((fuel : ℕ) → parsed (read_on bytes c (suc fuel)) ≡ p) → Stepped bytes c (Done p)
+done_with : (bytes : List ℕ) (c : Cursor) (p : Result Table Refusal) → ((fuel : ℕ) → parsed (read_on bytes c (suc fuel)) ≡ p) → Stepped bytes c (Break p)
 done_with bytes c p f = record { next = λ d e. let z : ◌≡◌ {A = ℕ} 0 1 = cc in absurd (omega arith); done = λ q e fuel. f fuel ∙ (let s : p ≡ q = cc in s) }
 
-next_with : (bytes : List ℕ) (c d : Cursor) → Onward bytes c d → Stepped bytes c (Next d)
+next_with : (bytes : List ℕ) (c d : Cursor) → Onward bytes c d → Stepped bytes c (Continue d)
 next_with bytes c d o = record {
   next = λ d' e. subst (Onward bytes c) (let s : d ≡ d' = cc in s) o;
   done = λ q e fuel. let z : ◌≡◌ {A = ℕ} 0 1 = cc in absurd (omega arith);
 }
 
 -- the file ends before kind 8
-pub step_end : (bytes : List ℕ) (c : Cursor) → length bytes ≤ c.at → Stepped bytes c (Done (Refused 1 c.at))
+pub step_end : (bytes : List ℕ) (c : Cursor) → length bytes ≤ c.at → Stepped bytes c (Break (refuse 1 c.at))
 unfolding read_from
-step_end bytes c h = done_with bytes c (Refused 1 c.at) (λ fuel. ap (λ (l : List ℕ). parsed (read_from (suc fuel) (items_before bytes c) l c.at)) (drop_of_length-le bytes {i = c.at} h))
+step_end bytes c h = done_with bytes c (refuse 1 c.at) (λ fuel. ap (λ (l : List ℕ). parsed (read_from (suc fuel) (items_before bytes c) l c.at)) (drop_of_length-le bytes {i = c.at} h))
 
 module _ (bytes : List ℕ) (c : Cursor) (p : Passed bytes c) (inside : c.at < length bytes) where
   abbrev kind : ℕ
@@ -153,12 +157,12 @@ module _ (bytes : List ℕ) (c : Cursor) (p : Passed bytes c) (inside : c.at < l
   read_item fuel = ap (λ (l : List ℕ). read_from (suc fuel) (items_before bytes c) l c.at) (drop-cons bytes c.at 0 inside ∙ ap (λ (i : ℕ). kind ∷ drop i bytes) (sym (add-one c.at)))
 
   -- a check that the item does not pass
-  unless_parsed : (n place : ℕ) (r : Reading) → (n ≡ 0 → ⊥) → parsed (unless_refused n place r) ≡ Refused n place
+  unless_parsed : (n place : ℕ) (r : Reading) → (n ≡ 0 → ⊥) → parsed (unless_refused n place r) ≡ refuse n place
   unless_parsed zero place r h = absurd (h refl)
   unless_parsed (suc n) place r h = refl
 
-  pub step_refused : (r : ℕ) → r ≡ number → (r ≡ 0 → ⊥) → Stepped bytes c (Done (Refused r c.at))
-  step_refused r e h = done_with bytes c (Refused r c.at) (λ fuel. ap parsed (read_item fuel) ∙ unless_parsed number c.at (behind fuel) (λ z. h (e ∙ z)) ∙ ap (λ (i : ℕ). Refused i c.at) (sym e))
+  pub step_refused : (r : ℕ) → r ≡ number → (r ≡ 0 → ⊥) → Stepped bytes c (Break (refuse r c.at))
+  step_refused r e h = done_with bytes c (refuse r c.at) (λ fuel. ap parsed (read_item fuel) ∙ unless_parsed number c.at (behind fuel) (λ z. h (e ∙ z)) ∙ ap (λ (i : ℕ). refuse i c.at) (sym e))
 
   passing : number ≡ 0 → (fuel : ℕ) → read_on bytes c (suc fuel) ≡ behind fuel
   passing z fuel = read_item fuel ∙ ap (λ (n : ℕ). unless_refused n c.at (behind fuel)) z
@@ -178,7 +182,7 @@ module _ (bytes : List ℕ) (c : Cursor) (p : Passed bytes c) (inside : c.at < l
         whole = omega (arith, cut_length bytes (body_length kind) c.at);
       }
 
-  pub step_next : number ≡ 0 → (kind ≡ 8 → ⊥) → Stepped bytes c (Next (advanced c kind (c.at + 1 + body_length kind)))
+  pub step_next : number ≡ 0 → (kind ≡ 8 → ⊥) → Stepped bytes c (Continue (advanced c kind (c.at + 1 + body_length kind)))
   unfolding advanced
   step_next z h =
       let a = next_admitted z h in
@@ -189,15 +193,15 @@ module _ (bytes : List ℕ) (c : Cursor) (p : Passed bytes c) (inside : c.at < l
       })
 
   -- bytes behind kind 8
-  pub step_leftover : number ≡ 0 → kind ≡ 8 → c.at + 1 < length bytes → Stepped bytes c (Done (Refused 9 (c.at + 1)))
-  step_leftover z e h = done_with bytes c (Refused 9 (c.at + 1)) (λ fuel. ap parsed (passing z fuel) ∙ rw (eq-eqb kind 8 e, drop-cons bytes (c.at + 1) 0 h))
+  pub step_leftover : number ≡ 0 → kind ≡ 8 → c.at + 1 < length bytes → Stepped bytes c (Break (refuse 9 (c.at + 1)))
+  step_leftover z e h = done_with bytes c (refuse 9 (c.at + 1)) (λ fuel. ap parsed (passing z fuel) ∙ rw (eq-eqb kind 8 e, drop-cons bytes (c.at + 1) 0 h))
 
   -- nothing behind kind 8
   pub end_accepted : number ≡ 0 → kind ≡ 8 → length bytes ≤ c.at + 1 → (fuel : ℕ) → read_on bytes c (suc fuel) ≡ accepted (items_before bytes c)
   end_accepted z e h fuel = passing z fuel ∙ rw (eq-eqb kind 8 e, drop_of_length-le bytes {i = c.at + 1} h)
 
-  pub step_accepted : number ≡ 0 → kind ≡ 8 → length bytes ≤ c.at + 1 → Stepped bytes c (Done (Accepted c.table))
-  step_accepted z e h = done_with bytes c (Accepted c.table) (λ fuel. ap parsed (end_accepted z e h fuel) ∙ ap Accepted (counts_before bytes c))
+  pub step_accepted : number ≡ 0 → kind ≡ 8 → length bytes ≤ c.at + 1 → Stepped bytes c (Break (Ok c.table))
+  step_accepted z e h = done_with bytes c (Ok c.table) (λ fuel. ap parsed (end_accepted z e h fuel) ∙ ap Ok (counts_before bytes c))
 
 -- ---- the loop over the items: any fuel above the number of bytes left serves
 pub record Going (bytes : List ℕ) (c : Cursor) : Type 0 where
@@ -206,7 +210,7 @@ pub record Going (bytes : List ℕ) (c : Cursor) : Type 0 where
   pub enough : length bytes - c.at < fuel
   pub same : read bytes ≡ read_on bytes c fuel
 
-pub going_start : (bytes : List ℕ) (c : Cursor) → c ≡ record { at = 0; last = 0; starts = 0; table = counts_of [] } → Going bytes c
+pub going_start : (bytes : List ℕ) (c : Cursor) → c ≡ record { at = 0; last = None; starts = 0; table = counts_of [] } → Going bytes c
 unfolding read items_below bodies_at offset
 going_start bytes c e = rw e (record {
   passed = record { place = refl; within = omega arith; last = refl; above = λ k h. zeros 9 k; ceilings = λ k. rw (zeros 9 k) (omega arith) };
@@ -230,5 +234,5 @@ module _ (bytes : List ℕ) (c : Cursor) (g : Going bytes c) where
   pub going_turn : (d : Cursor) → Onward bytes c d → Going bytes d
   going_turn d o = record { passed = o.passed; fuel = g.fuel - 1; enough = omega (arith, g.enough, o.ahead, o.passed.within); same = same_spent ∙ o.same (g.fuel - 1) }
 
-  pub going_end : (p : Parsed) → ((fuel : ℕ) → parsed (read_on bytes c (suc fuel)) ≡ p) → p ≡ parsed (read bytes)
+  pub going_end : (p : Result Table Refusal) → ((fuel : ℕ) → parsed (read_on bytes c (suc fuel)) ≡ p) → p ≡ parsed (read bytes)
   going_end p f = sym (ap parsed same_spent ∙ f (g.fuel - 1))

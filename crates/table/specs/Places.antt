@@ -3,6 +3,7 @@
 use Rattle.std.specs.Prelude.{cond, List, [], ◌∷◌, ◌++◌, map, ◌≡◌, ℕ, zero, suc, ◌+◌, ◌*◌, ◌≤◌, ◌<◌, eqb, length, get_or, take, drop}
 use Rattle.model.specs.Groups.{Process, number_of}
 use Rattle.model.specs.Tables.{Item, body_length, ceiling, last_kind, absent, byte_of}
+use Rattle.table.specs.Kinds.{kind_of, last_number}
 use Rattle.table.specs.declared.Cursor.{Cursor}
 use Rattle.table.specs.declared.Table.{Table}
 
@@ -72,7 +73,7 @@ unfoldable pub advanced : Cursor → ℕ → ℕ → Cursor
 advanced c k next =
     record {
       at = next;
-      last = k;
+      last = kind_of k;
       starts = c.starts + cond (eqb k 6) 1 0;
       table = record {
         processes = c.table.processes + cond (eqb k 1) 1 0;
@@ -101,6 +102,6 @@ pub record Whole (bytes : List ℕ) (t : Table) (k : ℕ) (body : List ℕ) : Ty
 pub record Passed (bytes : List ℕ) (c : Cursor) : Type 0 where
   pub place : c.at ≡ offset (counts_at c) 8
   pub within : c.at ≤ length bytes
-  pub last : last_kind (items_before bytes c) ≡ c.last
-  pub above : (k : ℕ) → c.last < k → counts_at c k ≡ 0
+  pub last : last_kind (items_before bytes c) ≡ last_number c.last
+  pub above : (k : ℕ) → last_number c.last < k → counts_at c k ≡ 0
   pub ceilings : (k : ℕ) → counts_at c k ≤ ceiling k

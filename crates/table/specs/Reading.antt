@@ -1,18 +1,19 @@
 -- What reading a table gives, and the system that an accepted table describes.
-use Rattle.std.specs.Prelude.{Bool, cond, not, ◌&&◌, ◌||◌, List, [], ◌≡◌, ℕ, zero, suc, ◌<◌, ◌≤◌, eqb, ltb, get_or, drop}
+use Rattle.std.specs.declared.ops.ControlFlow.{ControlFlow}
+use Rattle.std.specs.declared.ops.ControlFlow.TheVariants.{Continue, Break}
+use Rattle.std.specs.Prelude.{Bool, cond, not, ◌&&◌, ◌||◌, List, [], ◌≡◌, ℕ, zero, suc, ◌<◌, ◌≤◌, eqb, ltb, get_or, drop, Result, Ok}
 use Rattle.model.specs.Automata.{Transition}
+use Rattle.model.specs.Calls.{refuse}
 use Rattle.model.specs.Copies.{with_copy}
 use Rattle.model.specs.Groups.{Process, p0, p1, p2, p3, Processes, processes_of}
 use Rattle.model.specs.Systems.{Rule, System}
 use Rattle.model.specs.Tables.{Item, bodies, count, group_of, loc_of, rule_of, transition_of, value_fits, cooperates}
 use Rattle.model.specs.Tables.{is_reentry, is_twin, Reading, accepted, refused, read_from, read, system_of}
 use Rattle.model.specs.declared.Group.{Group}
+use Rattle.table.specs.Kinds.{last_number}
 use Rattle.table.specs.Places.{items_before, Passed}
 use Rattle.table.specs.declared.Cursor.{Cursor}
-use Rattle.table.specs.declared.Parsed.{Parsed}
-use Rattle.table.specs.declared.Parsed.TheVariants.{Accepted, Refused}
-use Rattle.table.specs.declared.Step.{Step}
-use Rattle.table.specs.declared.Step.TheVariants.{Next, Done}
+use Rattle.model.specs.declared.Refusal.{Refusal}
 use Rattle.table.specs.declared.Table.{Table}
 
 -- ---- what `read` gives
@@ -27,13 +28,14 @@ counts_of items = record {
   pile = count 7 items;
 }
 
-abbrev pub parsed : Reading → Parsed
-parsed (accepted items) = Accepted (counts_of items)
-parsed (refused number place) = Refused number place
+-- the counts of an accepted table, or why it is refused
+abbrev pub parsed : Reading → Result Table Refusal
+parsed (accepted items) = Ok (counts_of items)
+parsed (refused number place) = refuse number place
 
 -- the bytes are an accepted table, and t has its counts: what `read` gave
 pub record Holds (bytes : List ℕ) (t : Table) : Type 0 where
-  pub reading : parsed (read bytes) ≡ Accepted t
+  pub reading : parsed (read bytes) ≡ Ok t
 
 -- ---- what an accepted table describes
 abbrev pub items_of : Reading → List Item
@@ -79,7 +81,7 @@ pub record BitsOf (L : Processes) (bits : ℕ) : Type 0 where
 -- check 3 by what a cursor carries
 unfoldable pub out_of_turn : Cursor → ℕ → Bool
 out_of_turn c k =
-    ltb k c.last || (eqb k 6 && ltb 0 c.starts) || (eqb c.table.processes 0 && ltb 1 k)
+    ltb k (last_number c.last) || (eqb k 6 && ltb 0 c.starts) || (eqb c.table.processes 0 && ltb 1 k)
     || (ltb 6 k && eqb c.starts 0)
 
 -- the checks 5 to 8
@@ -101,6 +103,6 @@ pub record Onward (bytes : List ℕ) (c d : Cursor) : Type 0 where
   pub same : (fuel : ℕ) → read_on bytes c (suc fuel) ≡ read_on bytes d fuel
 
 -- what one item leads to: the next cursor, or the end
-pub record Stepped (bytes : List ℕ) (c : Cursor) (r : Step) : Type 0 where
-  pub next : (d : Cursor) → r ≡ Next d → Onward bytes c d
-  pub done : (p : Parsed) → r ≡ Done p → (fuel : ℕ) → parsed (read_on bytes c (suc fuel)) ≡ p
+pub record Stepped (bytes : List ℕ) (c : Cursor) (r : ControlFlow (Result Table Refusal) Cursor) : Type 0 where
+  pub next : (d : Cursor) → r ≡ Continue d → Onward bytes c d
+  pub done : (p : Result Table Refusal) → r ≡ Break p → (fuel : ℕ) → parsed (read_on bytes c (suc fuel)) ≡ p

@@ -4,9 +4,9 @@ ghost use Rattle.model.specs.Tables.{written_places, absent, body_length, byte_o
 ghost use Rattle.table.specs.Places.{body_at, processes_in, letters_in, Heads, Modest};
 ghost use Rattle.table.specs.Reading.{Holds, system_in, rule_in, transition_in, accepting_in, pile_in, process_at, BitsOf};
 
-use crate::Table;
+use crate::{Accepted, Table};
 use model::{Group, WRITTEN_PLACES};
-use numbers::{group_at, wide};
+use numbers::group_at;
 
 // The bytes of a rule's body, and those of a whole rule.
 pub const RULE_BODY: usize = 10 + WRITTEN_PLACES;
@@ -81,7 +81,7 @@ pub fn bound_of(bytes: &[u8], t: Table, field: usize, i: usize) -> usize
     ensures { result ≡ byte_of (get_or (processes_in bytes.now t) i absent) field }
 {
     if i < t.processes {
-        return wide(bytes[3 * i + 1 + field]);
+        return usize::from(bytes[3 * i + 1 + field]);
     }
     256
 }
@@ -94,135 +94,146 @@ pub fn bits_of(bytes: &[u8], t: Table, a: usize) -> u8
     bytes[letters_at(t) + 2 * a + 1]
 }
 
-// ---- processes and letters
-// How many states process i has; 256 where the table lacks the process.
-pub fn local_states(bytes: &[u8], t: Table, i: usize) -> usize
-    requires { Holds bytes.now t × (i < 4) }
-    ensures { result ≡ (system_in bytes.now).states (process_at i) }
-{
-    bound_of(bytes, t, 1, i)
-}
+impl Accepted<'_> {
+    // ---- processes and letters
+    // How many states process i has; 256 where the table lacks the process.
+    pub fn local_states(&self, i: usize) -> usize
+        requires { i < 4 }
+        ensures { result ≡ (system_in self.now.bytes.now).states (process_at i) }
+    {
+        bound_of(self.bytes, self.counts, 1, i)
+    }
 
-// The processes of letter a, as bits.
-pub fn letter_bits(bytes: &[u8], t: Table, a: usize) -> u8
-    requires { Holds bytes.now t × (a < t.letters) }
-    ensures { BitsOf ((system_in bytes.now).loc a) result }
-{
-    bits_of(bytes, t, a)
-}
+    // The processes of letter a, as bits.
+    pub fn letter_bits(&self, a: usize) -> u8
+        requires { a < self.now.counts.letters }
+        ensures { BitsOf ((system_in self.now.bytes.now).loc a) result }
+    {
+        bits_of(self.bytes, self.counts, a)
+    }
 
-// ---- rules
-// The body of rule k.
-pub fn rule_body(bytes: &[u8], t: Table, k: usize) -> &[u8]
-    requires { Holds bytes.now t × (k < t.rules) }
-    ensures { (byte_of result.now 0 ≡ (rule_in bytes.now k).letter) × (group_of result.now 1 ≡ (rule_in bytes.now k).before) × (group_of result.now 5 ≡ (rule_in bytes.now k).after) × (byte_of result.now 9 ≡ length (rule_in bytes.now k).written) × (take (byte_of result.now 9) (drop 10 result.now) ≡ (rule_in bytes.now k).written) × (byte_of result.now 9 ≤ written_places) × (length result.now ≡ body_length 3) }
-{
-    item_body(bytes, rules_at(t), RULE_BODY, k)
-}
+    // ---- rules
+    // The body of rule k.
+    pub fn rule_body(&self, k: usize) -> &[u8]
+        requires { k < self.now.counts.rules }
+        ensures { (byte_of result.now 0 ≡ (rule_in self.now.bytes.now k).letter) × (group_of result.now 1 ≡ (rule_in self.now.bytes.now k).before) × (group_of result.now 5 ≡ (rule_in self.now.bytes.now k).after) × (byte_of result.now 9 ≡ length (rule_in self.now.bytes.now k).written) × (take (byte_of result.now 9) (drop 10 result.now) ≡ (rule_in self.now.bytes.now k).written) × (byte_of result.now 9 ≤ written_places) × (length result.now ≡ body_length 3) }
+    {
+        item_body(self.bytes, rules_at(self.counts), RULE_BODY, k)
+    }
 
-// Its letter, and its groups before and after.
-pub fn rule_letter(bytes: &[u8], t: Table, k: usize) -> u8
-    requires { Holds bytes.now t × (k < t.rules) }
-    ensures { result ≡ (rule_in bytes.now k).letter }
-{
-    let body = rule_body(bytes, t, k);
-    body[0]
-}
+    // Its letter, and its groups before and after.
+    pub fn rule_letter(&self, k: usize) -> u8
+        requires { k < self.now.counts.rules }
+        ensures { result ≡ (rule_in self.now.bytes.now k).letter }
+    {
+        let body = self.rule_body(k);
+        body[0]
+    }
 
-// The processes of the letter of rule k, as bits.
-pub fn rule_bits(bytes: &[u8], t: Table, k: usize) -> u8
-    requires { Holds bytes.now t × (k < t.rules) }
-    ensures { BitsOf ((system_in bytes.now).loc (rule_in bytes.now k).letter) result }
-{
-    let a = rule_letter(bytes, t, k);
-    letter_bits(bytes, t, wide(a))
-}
+    // The processes of the letter of rule k, as bits.
+    pub fn rule_bits(&self, k: usize) -> u8
+        requires { k < self.now.counts.rules }
+        ensures { BitsOf ((system_in self.now.bytes.now).loc (rule_in self.now.bytes.now k).letter) result }
+    {
+        let a = self.rule_letter(k);
+        self.letter_bits(usize::from(a))
+    }
 
-pub fn rule_before(bytes: &[u8], t: Table, k: usize) -> Group
-    requires { Holds bytes.now t × (k < t.rules) }
-    ensures { result ≡ (rule_in bytes.now k).before }
-{
-    group_at(rule_body(bytes, t, k), 1)
-}
+    pub fn rule_before(&self, k: usize) -> Group
+        requires { k < self.now.counts.rules }
+        ensures { result ≡ (rule_in self.now.bytes.now k).before }
+    {
+        group_at(self.rule_body(k), 1)
+    }
 
-pub fn rule_after(bytes: &[u8], t: Table, k: usize) -> Group
-    requires { Holds bytes.now t × (k < t.rules) }
-    ensures { result ≡ (rule_in bytes.now k).after }
-{
-    group_at(rule_body(bytes, t, k), 5)
-}
+    pub fn rule_after(&self, k: usize) -> Group
+        requires { k < self.now.counts.rules }
+        ensures { result ≡ (rule_in self.now.bytes.now k).after }
+    {
+        group_at(self.rule_body(k), 5)
+    }
 
-// How many letters rule k writes.
-pub fn written_count(bytes: &[u8], t: Table, k: usize) -> usize
-    requires { Holds bytes.now t × (k < t.rules) }
-    ensures { result ≡ length (rule_in bytes.now k).written }
-{
-    let body = rule_body(bytes, t, k);
-    wide(body[9])
-}
+    // The letters that rule k writes, top first.
+    pub fn written(&self, k: usize) -> &[u8]
+        requires { k < self.now.counts.rules }
+        ensures { result.now ≡ (rule_in self.now.bytes.now k).written }
+    {
+        let body = self.rule_body(k);
+        let count = usize::from(body[9]);
+        &body[10..10 + count]
+    }
 
-// Letter j of those that rule k writes, top first.
-pub fn written_letter(bytes: &[u8], t: Table, k: usize, j: usize) -> u8
-    requires { Holds bytes.now t × (k < t.rules) × (j < length (rule_in bytes.now k).written) }
-    ensures { result ≡ get_or (rule_in bytes.now k).written j 0 }
-{
-    let body = rule_body(bytes, t, k);
-    body[10 + j]
-}
+    // How many letters rule k writes.
+    pub fn written_count(&self, k: usize) -> usize
+        requires { k < self.now.counts.rules }
+        ensures { result ≡ length (rule_in self.now.bytes.now k).written }
+    {
+        let body = self.rule_body(k);
+        usize::from(body[9])
+    }
 
-// ---- transitions, accepting groups, start
-// The body of transition k.
-pub fn transition_body(bytes: &[u8], t: Table, k: usize) -> &[u8]
-    requires { Holds bytes.now t × (k < t.transitions) }
-    ensures { (byte_of result.now 0 ≡ (transition_in bytes.now k).letter) × (group_of result.now 1 ≡ (transition_in bytes.now k).before) × (group_of result.now 5 ≡ (transition_in bytes.now k).after) × (length result.now ≡ 9) }
-{
-    item_body(bytes, transitions_at(t), 9, k)
-}
+    // Letter j of those that rule k writes, top first.
+    pub fn written_letter(&self, k: usize, j: usize) -> u8
+        requires { (k < self.now.counts.rules) × (j < length (rule_in self.now.bytes.now k).written) }
+        ensures { result ≡ get_or (rule_in self.now.bytes.now k).written j 0 }
+    {
+        let body = self.rule_body(k);
+        body[10 + j]
+    }
 
-// Its letter, and its groups before and after.
-pub fn transition_letter(bytes: &[u8], t: Table, k: usize) -> u8
-    requires { Holds bytes.now t × (k < t.transitions) }
-    ensures { result ≡ (transition_in bytes.now k).letter }
-{
-    let body = transition_body(bytes, t, k);
-    body[0]
-}
+    // ---- transitions, accepting groups, start
+    // The body of transition k.
+    pub fn transition_body(&self, k: usize) -> &[u8]
+        requires { k < self.now.counts.transitions }
+        ensures { (byte_of result.now 0 ≡ (transition_in self.now.bytes.now k).letter) × (group_of result.now 1 ≡ (transition_in self.now.bytes.now k).before) × (group_of result.now 5 ≡ (transition_in self.now.bytes.now k).after) × (length result.now ≡ 9) }
+    {
+        item_body(self.bytes, transitions_at(self.counts), 9, k)
+    }
 
-pub fn transition_before(bytes: &[u8], t: Table, k: usize) -> Group
-    requires { Holds bytes.now t × (k < t.transitions) }
-    ensures { result ≡ (transition_in bytes.now k).before }
-{
-    group_at(transition_body(bytes, t, k), 1)
-}
+    // Its letter, and its groups before and after.
+    pub fn transition_letter(&self, k: usize) -> u8
+        requires { k < self.now.counts.transitions }
+        ensures { result ≡ (transition_in self.now.bytes.now k).letter }
+    {
+        let body = self.transition_body(k);
+        body[0]
+    }
 
-pub fn transition_after(bytes: &[u8], t: Table, k: usize) -> Group
-    requires { Holds bytes.now t × (k < t.transitions) }
-    ensures { result ≡ (transition_in bytes.now k).after }
-{
-    group_at(transition_body(bytes, t, k), 5)
-}
+    pub fn transition_before(&self, k: usize) -> Group
+        requires { k < self.now.counts.transitions }
+        ensures { result ≡ (transition_in self.now.bytes.now k).before }
+    {
+        group_at(self.transition_body(k), 1)
+    }
 
-// Accepting group k.
-pub fn accepting_group(bytes: &[u8], t: Table, k: usize) -> Group
-    requires { Holds bytes.now t × (k < t.accepting) }
-    ensures { result ≡ accepting_in bytes.now k }
-{
-    group_at(item_body(bytes, accepting_at(t), 4, k), 0)
-}
+    pub fn transition_after(&self, k: usize) -> Group
+        requires { k < self.now.counts.transitions }
+        ensures { result ≡ (transition_in self.now.bytes.now k).after }
+    {
+        group_at(self.transition_body(k), 5)
+    }
 
-// The states of the start.
-pub fn start_group(bytes: &[u8], t: Table) -> Group
-    requires { Holds bytes.now t }
-    ensures { result ≡ (system_in bytes.now).start.states }
-{
-    group_at(item_body(bytes, start_at(t), 4, 0), 0)
-}
+    // Accepting group k.
+    pub fn accepting_group(&self, k: usize) -> Group
+        requires { k < self.now.counts.accepting }
+        ensures { result ≡ accepting_in self.now.bytes.now k }
+    {
+        group_at(item_body(self.bytes, accepting_at(self.counts), 4, k), 0)
+    }
 
-// Letter k of the start's word, top first.
-pub fn pile_letter(bytes: &[u8], t: Table, k: usize) -> u8
-    requires { Holds bytes.now t × (k < t.pile) }
-    ensures { result ≡ pile_in bytes.now k }
-{
-    let body = item_body(bytes, pile_at(t), 1, k);
-    body[0]
+    // The states of the start.
+    pub fn start_group(&self) -> Group
+        ensures { result ≡ (system_in self.now.bytes.now).start.states }
+    {
+        group_at(item_body(self.bytes, start_at(self.counts), 4, 0), 0)
+    }
+
+    // Letter k of the start's word, top first.
+    pub fn pile_letter(&self, k: usize) -> u8
+        requires { k < self.now.counts.pile }
+        ensures { result ≡ pile_in self.now.bytes.now k }
+    {
+        let body = item_body(self.bytes, pile_at(self.counts), 1, k);
+        body[0]
+    }
 }

@@ -1,21 +1,19 @@
 // A table: document 01, "Table bytes". It stays in the caller's bytes; what is kept of it are its counts, by which its parts are found there.
 #![tactic(auto)]
 
+mod accepted;
 mod fields;
 mod groups;
+mod kinds;
 
-ghost use Rattle.std.specs.Prelude.{◌≡◌, [], ◌<◌};
-ghost use Rattle.model.specs.Tables.{ceiling};
+ghost use Rattle.std.specs.Prelude.{◌≡◌, []};
 ghost use Rattle.table.specs.Reading.{counts_of};
 
-pub use fields::{
-    RULE_BODY, accepting_group, bits_of, body_at, bound_of, letter_bits, local_states, pile_letter,
-    rule_after, rule_before, rule_bits, rule_letter, start_group, transition_after,
-    transition_before, transition_letter, written_count, written_letter,
-};
-pub use groups::{is_within, leaves_control, present};
+pub use accepted::Accepted;
+pub use fields::{RULE_BODY, bits_of, body_at, bound_of};
+pub use groups::{has_process, is_within, leaves_control, present};
+pub use kinds::Kind;
 use model::WRITTEN_PLACES;
-use numbers::wide;
 
 // What an accepted table holds, besides one start: the number of items of each kind.
 #[repr(C)]
@@ -68,44 +66,11 @@ impl Table {
     }
 }
 
-// How many items of a kind a table may have.
-pub fn ceiling_of(kind: u8) -> usize
-    requires { kind < 9 }
-    ensures { result ≡ ceiling kind }
-{
-    let ceilings: [usize; 9] = [
-        0,
-        Table::PROCESSES,
-        Table::LETTERS,
-        Table::RULES,
-        Table::TRANSITIONS,
-        Table::ACCEPTING,
-        1,
-        Table::PILE,
-        1,
-    ];
-    ceilings[wide(kind)]
-}
-
-// What reading gives: the counts, or the number and the place of the refusal.
-#[derive(Clone, Copy)]
-pub enum Parsed {
-    Accepted(Table),
-    Refused { number: u8, place: usize },
-}
-
 // A state of the reading: where the next item begins, the kind before it, and the counts so far; `starts` is 1 behind the start.
 #[derive(Clone, Copy)]
 pub struct Cursor {
     pub at: usize,
-    pub last: u8,
+    pub last: Option<Kind>,
     pub starts: usize,
     pub table: Table,
-}
-
-// What one item leads to.
-#[derive(Clone, Copy)]
-pub enum Step {
-    Next(Cursor),
-    Done(Parsed),
 }

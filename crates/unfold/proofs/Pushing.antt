@@ -1,5 +1,5 @@
 -- Laws of the path that is pushed on the stack.
-use mathlib.Core.Path.{◌≡◌, refl, ap, sym, subst, ◌∙◌}
+use mathlib.Core.Path.{◌≡◌, refl, ap, sym, ◌∙◌}
 use mathlib.Core.List.{List, [], ◌∷◌, ◌++◌, append_assoc}
 use Prim.Native.Nat.{ℕ, zero, suc, ◌+◌, ◌-◌, ◌<◌, ◌≤◌}
 use native.Mathlib.Decide.{ℕ_discrete, dec_le, dec_lt}
@@ -42,9 +42,6 @@ length_most log x j (suc k) = elim (ℕ_discrete (place_at log x j) no_number) [
 pub record Measuring (log : List ℕ) (x n : ℕ) : Type 0 where
   pub inside : n ≤ written_places
   pub counted : path_length log x ≡ n + length_from log x n (written_places - n)
-
-pub measuring_start : (log : List ℕ) (x : ℕ) → Measuring log x 0
-measuring_start log x = record { inside = omega arith; counted = omega arith }
 
 module _ {log : List ℕ} {x n : ℕ} (m : Measuring log x n) where
   pub measured_none : {place : ℕ} → place ≡ place_at log x n → place ≡ no_number → n ≡ path_length log x
@@ -137,12 +134,6 @@ module _ {log s : List ℕ} {top x n j : ℕ} {s' : List ℕ} {height : ℕ} (h 
           ∙ sym (append_assoc (place_below log x (j - 1) n) (places_from log x j (n - j)) (stack_of s top)) ∙ ap (λ (l : List ℕ). l ++ stack_of s top) (sym (places_less log x n j h));
     };
   }
-
-pub pushing_end : {log s : List ℕ} {top x n j : ℕ} {s' : List ℕ} {height : ℕ} → j ≤ 0 → n ≡ path_length log x → Pushing log s top x n j s' height → Pushed s top (places log x) s' height
-pushing_end {log} {s} {top} {x} {n} {j} {s'} {height} h is p =
-    let e : j ≡ 0 = omega arith in
-    let all : n - j ≡ path_length log x = omega arith in
-    subst (λ (k : ℕ). Pushed s top (places_from log x 0 k) s' height) all (subst (λ (i : ℕ). Pushed s top (places_from log x i (n - j)) s' height) e p.pushed)
 
 -- ---- the places of a record whose path is known
 module _ (log : List ℕ) (x : ℕ) (path : List ℕ) (short : length path ≤ written_places) (small : Each (λ (m : ℕ). m < no_number) path) (is : (i : ℕ) → i < written_places → place_at log x i ≡ path_place path i) where

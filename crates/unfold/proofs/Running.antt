@@ -14,8 +14,7 @@ use Rattle.model.proofs.Words.{Located}
 use Rattle.model.specs.Words.{height, project}
 use Rattle.model.proofs.Peak.{fire_lengths, greatest_least, greatest_more, greatest_most, greatest_reached, height_under_peak, peak_step}
 use Rattle.model.proofs.Steps.{WalkStep, walk_inv}
-use Rattle.lengths.specs.declared.Lengths.{Lengths}
-use Rattle.lengths.specs.Projections.{Added, Change, LengthsOf, Raised, AtMost, length_at}
+use Rattle.lengths.specs.Projections.{Lengths, Added, Change, LengthsOf, Raised, AtMost, length_at}
 use Rattle.lengths.proofs.Counting.{project_shorter}
 use Rattle.model.proofs.Lists.{elem_place}
 

@@ -1,5 +1,5 @@
 -- The turns of the unfolding's loop: the log's bytes are those of the limit's records.
-use mathlib.Core.Path.{◌≡◌, refl, ap, sym, subst, ◌∙◌}
+use mathlib.Core.Path.{◌≡◌, ap, sym, subst, ◌∙◌}
 use mathlib.Core.Option.{some}
 use mathlib.Core.List.{List, ◌∷◌, ◌++◌}
 use Prim.Native.Nat.{ℕ, ◌+◌, ◌-◌, ◌*◌, ◌<◌, ◌≤◌, min}
@@ -21,12 +21,11 @@ use Rattle.model.proofs.Reachability.{accepting_path_found, answer_yes, answer_s
 use Rattle.model.proofs.Peak.{greatest_most}
 use Rattle.model.proofs.Reasons.{path_length_lem}
 use Rattle.scratch.specs.Regions.{stack_at}
-use Rattle.records.specs.Entries.{HasRecord, Reads}
+use Rattle.records.specs.Entries.{Reads}
 use Rattle.table.specs.declared.Table.{Table}
 use Rattle.table.specs.Reading.{saturated_in, system_in, rule_in}
 use Rattle.table.proofs.Layouts.{table_modest, rules_count, pile_count, written_few}
-use Rattle.lengths.specs.declared.Lengths.{Lengths}
-use Rattle.lengths.specs.Projections.{Added, Change, LengthsOf, ChangesNoted, length_at, noted}
+use Rattle.lengths.specs.Projections.{Lengths, Added, Change, LengthsOf, ChangesNoted, length_at, noted}
 use Rattle.lengths.proofs.Counting.{project_shorter}
 use Rattle.scratch.specs.StackNumbers.{numbers_down, stack_of}
 use Rattle.logs.specs.RoundLogs.{LimitLog}
@@ -45,7 +44,7 @@ pub record Working (table : List ℕ) (room : ℕ) (ns page₀ s page : List ℕ
   pub low : Low 64 (length (limit (saturated_in table))) (stack_of s w.top)
   pub going : Going (saturated_in table) (emitted (limit (saturated_in table)) ns) page₀ (emitted (limit (saturated_in table)) (stack_of s w.top)) page w.rules w.lengths w.highest
 
-module _ {table : List ℕ} {t : Table} {changes log : List ℕ} {count room : ℕ} {ns page₀ : List ℕ}
+module _ {table : List ℕ} {t : Table} {changes : List Lengths} {log : List ℕ} {count room : ℕ} {ns page₀ : List ℕ}
     (pre : LimitLog table t log count × (scratch_for count ≤ room) × Unfoldable (saturated_in table) ns page₀ × ChangesNoted table t.rules changes) where
   abbrev sys : System
   sys = saturated_in table
@@ -150,7 +149,6 @@ module _ {table : List ℕ} {t : Table} {changes log : List ℕ} {count room : �
         page_room = page_room located fires pre.2.fits;
         few = omega (arith, going_count v.going, pre.2.few);
         rule = omega (arith, reads.rule, inside_rules, (table_modest table t pre.0.holds).rules);
-        size = pre.3.size;
         addable = λ i. rw reads.rule (omega (arith, change_few i, v.going.under i, v.going.small i, going_count v.going, pre.2.few));
         countable = λ i. omega (arith, v.going.small i, going_count v.going, pre.2.few);
       }
@@ -199,17 +197,6 @@ module _ {table : List ℕ} {t : Table} {changes log : List ℕ} {count room : �
             let tall : length (places log x ++ xs) ≡ length (places log x) + length xs = length-append (places log x) xs in
             omega (arith, q.rules, v.going.size, few n, ap length (path_is n), (replaceable n).page_room, ap length q.pushed.stack, length_down s' stack_at w'.top, length_down s stack_at (w.top - 1))
       ]
-
--- ---- one turn: x is the record on top, and this is its round
-module _ {changes log s page : List ℕ} {w : Work} {x round : ℕ} (top : x ≡ top_record s w) (is : round ≡ round_at log x) where
-  pub worked_skipped : round ≡ 0 → Worked changes log s page w s page (record { top = w.top - 1; rules = w.rules; lengths = w.lengths; highest = w.highest })
-  worked_skipped z = record { skipped = λ _. (refl, refl, refl); replaced = λ n. absurd (n (ap (round_at log) (sym top) ∙ sym is ∙ z)) }
-
-  pub worked_replaced : {s' page' : List ℕ} {w' : Work} → (round ≡ 0 → ⊥) → Replaced changes log s page w x s' page' w' → Worked changes log s page w s' page' w'
-  worked_replaced n r = record { skipped = λ z. absurd (n (is ∙ ap (round_at log) top ∙ z)); replaced = λ _. rw (← top) r }
-
-  pub turn_replaceable : (round ≡ 0 → ⊥) → Workable changes log s page w → HasRecord log x × (0 < w.top) × Replaceable changes log s page w x
-  turn_replaceable n h = (rw top h.has, h.some, rw top (h.replaceable (λ z. n (is ∙ ap (round_at log) top ∙ z))))
 
 -- ---- for the callers: the start's path is unfoldable where its steps fit the page
 pub path_unfoldable : {table : List ℕ} {t : Table} {log : List ℕ} {count : ℕ} → LimitLog table t log count → (p : Path) → start_path (saturated_in table) ≡ some p → (ns page : List ℕ) → ns ≡ p.numbers

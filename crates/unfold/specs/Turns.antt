@@ -5,7 +5,7 @@ use Rattle.model.specs.Log.{no_number, longest_run}
 use Rattle.model.specs.Tables.{written_places}
 use Rattle.model.specs.Records.{round_at, rule_at, place_at, number_at}
 use Rattle.records.specs.Entries.{HasRecord}
-use Rattle.lengths.specs.Projections.{Addable, Added, Countable, Raised, changes_length, noted, rule_ceiling}
+use Rattle.lengths.specs.Projections.{Lengths, Addable, Added, Countable, Raised, noted, rule_ceiling}
 use Rattle.scratch.specs.StackNumbers.{stack_place, stack_of}
 use Rattle.unfold.specs.declared.Work.{Work}
 
@@ -39,17 +39,16 @@ pub record Pushed (s : List ℕ) (top : ℕ) (ns : List ℕ) (s' : List ℕ) (to
   pub stack : stack_of s' top' ≡ ns ++ stack_of s top
 
 -- record x, which is not of round 0, may be replaced by its path
-pub record Replaceable (changes log s page : List ℕ) (w : Work) (x : ℕ) : Type 0 where
+pub record Replaceable (changes : List Lengths) (log s page : List ℕ) (w : Work) (x : ℕ) : Type 0 where
   pub room : StackRoom s (w.top - 1 + length (places log x))
   pub page_room : w.rules < length page
   pub few : w.rules ≤ longest_run
   pub rule : rule_at log x < rule_ceiling
-  pub size : length changes ≡ changes_length
   pub addable : Addable changes (rule_at log x) w.lengths
   pub countable : Countable w.highest
 
 -- its rule is on the page, and the run has one rule more
-pub record Replaced (changes log s page : List ℕ) (w : Work) (x : ℕ) (s' page' : List ℕ) (r : Work) : Type 0 where
+pub record Replaced (changes : List Lengths) (log s page : List ℕ) (w : Work) (x : ℕ) (s' page' : List ℕ) (r : Work) : Type 0 where
   pub pushed : Pushed s (w.top - 1) (places log x) s' r.top
   pub emits : page' ≡ set page w.rules (rule_at log x)
   pub rules : r.rules ≡ w.rules + 1
@@ -61,13 +60,13 @@ abbrev pub top_record : List ℕ → Work → ℕ
 top_record s w = number_at 2 s (stack_place (w.top - 1))
 
 -- a turn is possible, and what it leaves
-pub record Workable (changes log s page : List ℕ) (w : Work) : Type 0 where
+pub record Workable (changes : List Lengths) (log s page : List ℕ) (w : Work) : Type 0 where
   pub some : 0 < w.top
   pub room : StackRoom s w.top
   pub has : HasRecord log (top_record s w)
   pub replaceable : (round_at log (top_record s w) ≡ 0 → ⊥) → Replaceable changes log s page w (top_record s w)
 
-pub record Worked (changes log s page : List ℕ) (w : Work) (s' page' : List ℕ) (r : Work) : Type 0 where
+pub record Worked (changes : List Lengths) (log s page : List ℕ) (w : Work) (s' page' : List ℕ) (r : Work) : Type 0 where
   pub skipped : round_at log (top_record s w) ≡ 0
       → (s' ≡ s) × (page' ≡ page)
       × (r ≡ record { top = w.top - 1; rules = w.rules; lengths = w.lengths; highest = w.highest })

@@ -13,12 +13,11 @@ ghost use Rattle.lengths.specs.Projections.{ChangesNoted};
 ghost use Rattle.unfold.specs.Runs.{Unfoldable, Unfolded};
 ghost use Rattle.unfold.specs.Turns.{path_length, place_below, places, StackRoom, Pushed, Replaceable, Replaced, Workable, Worked};
 
-use lengths::{CHANGES, Lengths, changed, highest, note_changes, raised, start_lengths};
+use lengths::{Changes, Lengths, add_change, highest, note_changes, raise, start_lengths};
 use model::WRITTEN_PLACES;
-use numbers::wide_two;
 use records::{NO_NUMBER, place_at, round_at, rule_at};
 use scratch::stack::{number_at, put_number};
-use table::Table;
+use table::{Accepted, Table};
 
 // The height of the stack; of the run so far its rules, and of each process the length of its projection of the word after it and the greatest so far,
 // both counted with the rules, so that neither ever falls.
@@ -35,14 +34,12 @@ fn path_length(log: &[u8], x: usize) -> usize
     requires { HasRecord log.now x }
     ensures { result ≡ path_length log.now x }
 {
-    let mut n = 0;
-    while n < WRITTEN_PLACES {
+    for n in 0..WRITTEN_PLACES {
         if place_at(log, x, n) == NO_NUMBER {
             return n;
         }
-        n += 1;
     }
-    n
+    WRITTEN_PLACES
 }
 
 // Pushes path place j of record x, if it is one of the first n.
@@ -66,74 +63,59 @@ fn push_path(log: &[u8], scratch: &mut [u8], top: usize, x: usize) -> usize
 {
     let n = path_length(log, x);
     let mut height = top;
-    let mut j = WRITTEN_PLACES;
-    while 0 < j {
-        j -= 1;
+    for j in (0..WRITTEN_PLACES).rev() {
         height = push_place(log, scratch, height, x, j, n);
     }
     height
 }
 
-// The record x, which was on top, gives way to its path.
+// The record x, which is on top, gives way to its path.
 fn replace(
-    changes: &[u32],
+    changes: &Changes,
     log: &[u8],
     scratch: &mut [u8],
     page: &mut [u16],
-    w: Work,
+    w: &mut Work,
     x: usize,
-) -> Work
-    requires { HasRecord log.now x × (0 < w.top) × Replaceable changes.now log.now scratch.old page.old w x }
-    ensures { Replaced changes.now log.now scratch.old page.old w x scratch.new page.new result }
+)
+    requires { HasRecord log.now x × (0 < w.old.top) × Replaceable changes.now log.now scratch.old page.old w.old x }
+    ensures { Replaced changes.now log.now scratch.old page.old w.old x scratch.new page.new w.new }
 {
     let rule = rule_at(log, x);
-    let rules = w.rules;
-    page[rules] = rule;
-    let top = push_path(log, scratch, w.top - 1, x);
-    let lengths = changed(changes, wide_two(rule), w.lengths);
-    let highest = raised(w.highest, lengths);
-    Work {
-        top,
-        rules: rules + 1,
-        lengths,
-        highest,
-    }
+    page[w.rules] = rule;
+    w.rules += 1;
+    w.top = push_path(log, scratch, w.top - 1, x);
+    add_change(changes, usize::from(rule), &mut w.lengths);
+    raise(&mut w.highest, &w.lengths);
 }
 
 // One record is taken off the stack.
-fn work_one(changes: &[u32], log: &[u8], scratch: &mut [u8], page: &mut [u16], w: Work) -> Work
-    requires { Workable changes.now log.now scratch.old page.old w }
-    ensures { Worked changes.now log.now scratch.old page.old w scratch.new page.new result }
+fn work_one(changes: &Changes, log: &[u8], scratch: &mut [u8], page: &mut [u16], w: &mut Work)
+    requires { Workable changes.now log.now scratch.old page.old w.old }
+    ensures { Worked changes.now log.now scratch.old page.old w.old scratch.new page.new w.new }
 {
     let x = number_at(scratch, w.top - 1);
-    let lengths = w.lengths;
-    let highest = w.highest;
     if round_at(log, x) == 0 {
-        return Work {
-            top: w.top - 1,
-            rules: w.rules,
-            lengths,
-            highest,
-        };
+        w.top -= 1;
+    } else {
+        replace(changes, log, scratch, page, w, x);
     }
-    replace(changes, log, scratch, page, w, x)
 }
 
 // Unfolds the stack of `top` record numbers, where the changes of the rules are noted.
 fn work_off(
-    table: &[u8],
-    t: Table,
-    changes: &[u32],
+    table: &Accepted,
+    changes: &Changes,
     log: &[u8],
     scratch: &mut [u8],
     page: &mut [u16],
     count: usize,
     top: usize,
 ) -> u32
-    requires { LimitLog table.now t log.now count × (scratch_for count ≤ length scratch.old) × Unfoldable (saturated_in table.now) (stack_of scratch.old top) page.old × ChangesNoted table.now t.rules changes.now }
-    ensures { Unfolded (saturated_in table.now) (stack_of scratch.old top) page.old page.new result }
+    requires { LimitLog table.now.bytes.now table.now.counts log.now count × (scratch_for count ≤ length scratch.old) × Unfoldable (saturated_in table.now.bytes.now) (stack_of scratch.old top) page.old × ChangesNoted table.now.bytes.now table.now.counts.rules changes.now }
+    ensures { Unfolded (saturated_in table.now.bytes.now) (stack_of scratch.old top) page.old page.new result }
 {
-    let lengths = start_lengths(table, t);
+    let lengths = start_lengths(table);
     let mut w = Work {
         top,
         rules: 0,
@@ -141,25 +123,24 @@ fn work_off(
         highest: lengths,
     };
     while 0 < w.top {
-        w = work_one(changes, log, scratch, page, w);
+        work_one(changes, log, scratch, page, &mut w);
     }
-    highest(w.highest) - (w.rules as u32)
+    highest(&w.highest) - (w.rules as u32)
 }
 
 // The stack holds `top` record numbers. Writes the rules that they emit to the page, and gives the peak. What it leaves in the scratch is not decided.
 pub fn unfold(
-    table: &[u8],
-    t: Table,
+    table: &Accepted,
     log: &[u8],
     scratch: &mut [u8],
     page: &mut [u16],
     count: usize,
     top: usize,
 ) -> u32
-    requires { LimitLog table.now t log.now count × (scratch_for count ≤ length scratch.old) × Unfoldable (saturated_in table.now) (stack_of scratch.old top) page.old }
-    ensures { Unfolded (saturated_in table.now) (stack_of scratch.old top) page.old page.new result }
+    requires { LimitLog table.now.bytes.now table.now.counts log.now count × (scratch_for count ≤ length scratch.old) × Unfoldable (saturated_in table.now.bytes.now) (stack_of scratch.old top) page.old }
+    ensures { Unfolded (saturated_in table.now.bytes.now) (stack_of scratch.old top) page.old page.new result }
 {
-    let mut changes = [0u32; CHANGES];
-    note_changes(table, t, &mut changes);
-    work_off(table, t, &changes, log, scratch, page, count, top)
+    let mut changes = [[0; Table::PROCESSES]; Table::RULES];
+    note_changes(table, &mut changes);
+    work_off(table, &changes, log, scratch, page, count, top)
 }

@@ -9,8 +9,10 @@ use lib.Dec.{ltb}
 use lib.ListN.{length, take, drop, replicate, length-append, length-drop}
 use lib.Seq.{take_at}
 use borrow.Author.Tests.{ltb-false}
-use Rattle.model.specs.declared.Ran.{Ran}
-use Rattle.model.specs.Calls.{zeros, filled, verdict, start_path, is_long, page_after}
+use Rattle.std.specs.Prelude.{Result, Ok}
+use Rattle.model.specs.declared.Refusal.{Refusal}
+use Rattle.model.specs.declared.Run.{Run}
+use Rattle.model.specs.Calls.{zeros, filled, refuse, verdict, start_path, is_long, page_after}
 use Rattle.model.specs.Log.{Record, Path, limit, rounds, saturated_at, longest_run}
 use Rattle.model.specs.Unfolding.{emitted, path_steps}
 use Rattle.model.proofs.Closing.{zeros_same}
@@ -20,8 +22,8 @@ use Rattle.model.proofs.Tests.{or_left, or_right}
 use Rattle.table.specs.declared.Table.{Table}
 use Rattle.table.specs.Reading.{saturated_in, system_in}
 use Rattle.scratch.specs.StackNumbers.{stack_of}
-use Rattle.start.specs.declared.StartPath.{StartPath}
-use Rattle.start.specs.declared.StartPath.TheVariants.{NoPath, Found}
+use Rattle.std.specs.Prelude.{Option as Optional, Some, None}
+use Rattle.verdict.specs.declared.Held.{Held}
 use Rattle.start.specs.Search.{start_found, Sought}
 use Rattle.unfold.specs.Runs.{Unfoldable, Unfolded}
 use Rattle.unfold.proofs.Working.{path_unfoldable}
@@ -33,8 +35,8 @@ unfolding stated
 stated_found log none = refl
 stated_found log (some p) = refl
 
-pub verdict_stated : {table : List ℕ} {t : Table} {log : List ℕ} {n count most : ℕ} {s : List ℕ} → AtLimit table t log n count most s → {answer : StartPath} {s' : List ℕ}
-    → Sought table t (saturated_at (saturated_in table)) answer s' → stated answer count most ≡ verdict (limit (saturated_in table)) (start_path (saturated_in table))
+pub verdict_stated : {table : List ℕ} {t : Table} {log : List ℕ} {h : Held} {s : List ℕ} → AtLimit table t log h s → {answer : Optional ℕ} {s' : List ℕ}
+    → Sought table t (saturated_at (saturated_in table)) answer s' → stated answer h.count h.rounds ≡ verdict (limit (saturated_in table)) (start_path (saturated_in table))
 verdict_stated {table} w f = rw (f.given, sym w.log_of.size, w.highest) (stated_found (limit (saturated_in table)) (start_path (saturated_in table)))
 
 -- ---- whether a run is long
@@ -53,7 +55,7 @@ page_filled run page page₁ page₂ used size room e f =
     f ∙ ap₂ (λ (l : List ℕ) (n : ℕ). l ++ replicate n 0) front long
 
 module _ {table : List ℕ} {t : Table} {log : List ℕ} {count most steps : ℕ} {s : List ℕ} (w : PathOnStack table t log count most steps s) {page : List ℕ} where
-  pub run_long : is_long steps (length page) ≡ true → {s' : List ℕ} → s' ≡ zeros s → RunLeft table s page (Ran.Refused 11 0) s' page
+  pub run_long : is_long steps (length page) ≡ true → {s' : List ℕ} → s' ≡ zeros s → RunLeft table s page (refuse 11 0) s' page
   unfolding page_after
   run_long e z = record { given = rw (w.is, ← w.figure, e); cleared = z; run = refl }
 
@@ -65,7 +67,7 @@ module _ {table : List ℕ} {t : Table} {log : List ℕ} {count most steps : ℕ
 
     pub run_written : {page₁ page₂ s₂ : List ℕ} (s₁ : List ℕ) {transitions used highest : ℕ} → Unfolded (saturated_in table) (stack_of s t.pile) page page₁ highest → used ≡ steps
         → transitions ≡ count → page₂ ≡ take used page₁ ++ replicate (length page₁ - used) 0 → s₂ ≡ zeros s₁ → length s₁ ≡ length s
-        → RunLeft table s page (Ran.Reached transitions most steps highest) s₂ page₂
+        → RunLeft table s page (Ok (record { transitions = transitions; rounds = most; steps = steps; peak = highest })) s₂ page₂
     unfolding page_after start_run
     run_written {page₁} {page₂} s₁ {used = used} {highest = highest} u us tr f z e =
         let run : List ℕ = emitted (limit (saturated_in table)) w.path.numbers in
@@ -79,17 +81,17 @@ module _ {table : List ℕ} {t : Table} {log : List ℕ} {count most steps : ℕ
         }
 
 -- ---- from the search to the run
-no_path : (log : List Record) (o : Option Path) → NoPath ≡ start_found log o → o ≡ none
+no_path : (log : List Record) (o : Option Path) → None ≡ start_found log o → o ≡ none
 no_path log none e = refl
 no_path log (some p) e = let z : ◌≡◌ {A = ℕ} 0 1 = cc in absurd (omega arith)
 
-path_found : (log : List Record) (o : Option Path) (steps : ℕ) → Found steps ≡ start_found log o → (p : Path) × (o ≡ some p) × (steps ≡ path_steps log p.numbers)
+path_found : (log : List Record) (o : Option Path) (steps : ℕ) → Some steps ≡ start_found log o → (p : Path) × (o ≡ some p) × (steps ≡ path_steps log p.numbers)
 path_found log none steps e = let z : ◌≡◌ {A = ℕ} 0 1 = cc in absurd (omega arith)
 path_found log (some p) steps e = (p, refl, cc)
 
-module _ {table : List ℕ} {t : Table} {log : List ℕ} {n count most : ℕ} {s : List ℕ} (w : AtLimit table t log n count most s) {answer : StartPath} {s₁ : List ℕ}
+module _ {table : List ℕ} {t : Table} {log : List ℕ} {h : Held} {s : List ℕ} (w : AtLimit table t log h s) {answer : Optional ℕ} {s₁ : List ℕ}
     (f : Sought table t (saturated_at (saturated_in table)) answer s₁) (size : length s₁ ≡ length s) where
-  pub run_none : {page s₂ : List ℕ} → answer ≡ NoPath → s₂ ≡ zeros s₁ → RunLeft table s page (Ran.Refused 16 0) s₂ page
+  pub run_none : {page s₂ : List ℕ} → answer ≡ None → s₂ ≡ zeros s₁ → RunLeft table s page (refuse 16 0) s₂ page
   unfolding page_after
   run_none e z = record {
     given = rw (no_path (limit (saturated_in table)) (start_path (saturated_in table)) (sym e ∙ f.given));
@@ -97,7 +99,7 @@ module _ {table : List ℕ} {t : Table} {log : List ℕ} {n count most : ℕ} {s
     run = refl;
   }
 
-  pub path_stacked : {steps : ℕ} → answer ≡ Found steps → PathOnStack table t log count most steps s₁
+  pub path_stacked : {steps : ℕ} → answer ≡ Some steps → PathOnStack table t log h.count h.rounds steps s₁
   path_stacked {steps} e =
       let p = path_found (limit (saturated_in table)) (start_path (saturated_in table)) steps (sym e ∙ f.given) in
       record {
@@ -110,5 +112,5 @@ module _ {table : List ℕ} {t : Table} {log : List ℕ} {n count most : ℕ} {s
         figure = p.2;
       }
 
-  pub run_back : {page : List ℕ} {r : Ran} {s₂ page₂ : List ℕ} → RunLeft table s₁ page r s₂ page₂ → RunLeft table s page r s₂ page₂
+  pub run_back : {page : List ℕ} {r : Result Run Refusal} {s₂ page₂ : List ℕ} → RunLeft table s₁ page r s₂ page₂ → RunLeft table s page r s₂ page₂
   run_back d = record { given = d.given; cleared = d.cleared ∙ zeros_same s₁ s size; run = d.run }

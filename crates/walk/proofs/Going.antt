@@ -6,6 +6,7 @@ use native.Mathlib.Numerals.{add-one}
 use native.Mathlib.Omega.{arith}
 use lib.ListN.{length, get_or, take, drop, drop_of_length-le, length-append, length-take}
 use lib.Seq.{drop-cons, take_all, take-suc}
+use Rattle.std.specs.Prelude.{Some, None}
 use Rattle.model.specs.Calls.{Halt, filled, fired_rules, halt_at, halt_end, walk_from}
 use Rattle.model.specs.Groups.{Processes, at_each, processes_of}
 use Rattle.model.specs.Lists.{value_or}
@@ -56,31 +57,31 @@ module _ (table : List ℕ) (t : Table) (list pile : List ℕ) (start : Placed) 
 
   pub going_refused : (pile' pile'' : List ℕ) (c : Placed) (counts counts' : List ℕ) (k n number : ℕ) → k < length list → n ≡ get_or list k 0 → Going pile' c counts k
       → StepRefused (system_in table) n c pile' pile'' number → counts' ≡ counts
-      → Stopped table t list (walk_from (system_in table) (length pile) 0 list (configuration pile start)) pile'' (record { number = number; at = k; placed = c; counts = counts' })
+      → Stopped table t list (walk_from (system_in table) (length pile) 0 list (configuration pile start)) pile'' (record { refusal = Some number; at = k; placed = c; counts = counts' })
   going_refused pile' pile'' c counts counts' k n number l e g s q =
       let list-is : drop k list ≡ n ∷ drop (suc k) list = drop-cons list k 0 l ∙ ap (λ (m : ℕ). m ∷ drop (suc k) list) (sym e) in
       let halt : walk_from (system_in table) (length pile) 0 list (configuration pile start) ≡ halt_at number k (n ∷ drop (suc k) list) (configuration pile' c) =
       ahead pile' c counts k l g ∙ ap (λ (m : ℕ). walk_from (system_in table) (length pile') k (m ∷ drop (suc k) list) (configuration pile' c)) (sym e) ∙ s.halt k (drop (suc k) list) in
       record {
         shape = subst (λ (p : List ℕ). InShape t p c) (sym s.leaves) g.shape;
-        late = s.late;
+        late = rw halt s.late;
         inside = omega arith;
         rest = list-is ∙ sym (ap (λ (x : Halt). x.rest) halt);
-        answer = rw s.numbered (sym (ap (λ (x : Halt). x.answer) halt));
+        answer = sym (ap (λ (x : Halt). x.answer) halt);
         counts = q ∙ g.counted ∙ sym (ap (λ (x : Halt). step_counts (system_in table) (fired_rules list x.answer)) halt);
         word = λ p. ap (λ (x : Halt). value_or p (λ (w : List ℕ). filled w p) x.pile) halt ∙ ap (λ (q : List ℕ). filled (drop c.top q) p) (sym s.leaves);
       }
 
   pub going_end : (pile' : List ℕ) (c : Placed) (counts : List ℕ) (k : ℕ) → length list ≤ k → Going pile' c counts k
-      → Stopped table t list (walk_from (system_in table) (length pile) 0 list (configuration pile start)) pile' (record { number = 0; at = k; placed = c; counts = counts })
+      → Stopped table t list (walk_from (system_in table) (length pile) 0 list (configuration pile start)) pile' (record { refusal = None; at = length list; placed = c; counts = counts })
   going_end pile' c counts k l g =
       let halt : walk_from (system_in table) (length pile) 0 list (configuration pile start) ≡ halt_end (system_in table) (configuration pile' c) =
       g.same ∙ ap (λ (ns : List ℕ). walk_from (system_in table) (length pile) k ns (configuration pile' c)) (drop_of_length-le list {i = k} l) in
       record {
         shape = g.shape;
-        late = refl;
-        inside = g.inside;
-        rest = drop_of_length-le list {i = k} l ∙ sym (ap (λ (x : Halt). x.rest) halt);
+        late = rw halt refl;
+        inside = omega arith;
+        rest = drop_of_length-le list {i = length list} (omega arith) ∙ sym (ap (λ (x : Halt). x.rest) halt);
         answer = sym (ap (λ (x : Halt). x.answer) halt);
         counts = g.counted ∙ ap (step_counts (system_in table)) (take_all k list l) ∙ sym (ap (λ (x : Halt). step_counts (system_in table) (fired_rules list x.answer)) halt);
         word = λ p. ap (λ (x : Halt). value_or p (λ (w : List ℕ). filled w p) x.pile) halt;

@@ -4,11 +4,13 @@ use mathlib.Core.Bool.{Bool, true, false, cond}
 use mathlib.Core.List.{List, ◌++◌}
 use Prim.Native.Nat.{ℕ, ◌-◌, ◌<◌, ◌≤◌}
 use native.Mathlib.Omega.{arith}
-use lib.Dec.{eqb, ltb}
+use lib.Dec.{ltb}
 use lib.ListN.{length, drop, drop_of_length-le, get_or, replicate}
 use borrow.Author.Tests.{lt-ltb, le-ltb}
-use Rattle.model.specs.declared.Walked.{Walked}
-use Rattle.model.specs.Calls.{Halt, WalkOutcome, changes_nothing, filled, fired_rules, halt_before, scratch_after, walk_call, walk_counts, walk_figures, walk_from, walk_given, walk_refusal, walk_scratch, zeros}
+use Rattle.std.specs.Prelude.{Result, Err}
+use Rattle.model.specs.declared.Ending.{Ending}
+use Rattle.model.specs.declared.Refusal.{Refusal}
+use Rattle.model.specs.Calls.{Halt, WalkOutcome, changes_nothing, filled, fired_rules, halt_before, scratch_after, walk_call, walk_counts, walk_figures, walk_from, walk_given, refused_by, walk_scratch, zeros}
 use Rattle.model.specs.Demands.{Demand2Walk, TookPart}
 use Rattle.model.specs.Lists.{Each, value_or}
 use Rattle.model.specs.Participation.{step_counts}
@@ -16,11 +18,9 @@ use Rattle.model.specs.Systems.{System, Configuration}
 use Rattle.model.specs.Tables.{Reading, refused, read}
 use Rattle.model.proofs.Closing.{refusal_changes_nothing}
 use Rattle.model.proofs.Main.{demand_2_walk, took_part}
-use Rattle.model.proofs.Tests.{by_test}
 use Rattle.model.proofs.WalkDemand.{counted_more, demand_more, figures_behind}
 use Rattle.states.specs.StateNumbers.{Over}
 use Rattle.table.specs.declared.Table.{Table}
-use Rattle.table.specs.declared.Parsed.TheVariants.{Refused}
 use Rattle.table.specs.Reading.{Holds, parsed, system_in}
 use Rattle.table.proofs.Readings.{holds_read, refused_reading}
 use Rattle.table.proofs.Layouts.{pile_count}
@@ -43,9 +43,6 @@ scratch_zero : (number : ℕ) (s : List ℕ) → changes_nothing number ≡ fals
 unfolding scratch_after
 scratch_zero number s e = rw e refl
 
-answer_late : (sys : System) (s : Stop) (c : Configuration) → changes_nothing s.number ≡ false → changes_nothing (walk_refusal (answer_at sys s c)) ≡ false
-answer_late sys s c e = by_test (eqb s.number 0) (λ y. rw y refl) (λ n. rw n e)
-
 -- ---- a walk that began
 pub start_shape : (table : List ℕ) (t : Table) → Holds table t → (pile : List ℕ) (c : Placed) → configuration pile c ≡ (system_in table).start → c.top ≤ length pile → InShape t pile c
 start_shape table t h pile c e l = record {
@@ -54,7 +51,7 @@ start_shape table t h pile c e l = record {
 }
 
 -- the start's word was put into p₁, the steps left p₂, and the word was moved to the front
-pub placed_halts : (table : List ℕ) (t : Table) (list pile scratch : List ℕ) (c : Placed) (p₁ p₂ p₃ s₁ : List ℕ) (stop : Stop) (answer : Walked)
+pub placed_halts : (table : List ℕ) (t : Table) (list pile scratch : List ℕ) (c : Placed) (p₁ p₂ p₃ s₁ : List ℕ) (stop : Stop) (answer : Result Ending Refusal)
     → configuration p₁ c ≡ (system_in table).start → length p₁ ≡ length pile → length p₂ ≡ length p₁
     → Stopped table t list (walk_from (system_in table) (length p₁) 0 list (configuration p₁ c)) p₂ stop
     → answer ≡ answer_at (system_in table) stop (configuration p₂ stop.placed) → s₁ ≡ zeros scratch → p₃ ≡ filled (drop stop.placed.top p₂) p₂
@@ -70,8 +67,7 @@ placed_halts table t list pile scratch c p₁ p₂ p₃ s₁ stop answer e n₁ 
       inside = s.inside;
       rest = s.rest ∙ ap (λ (h : Halt). h.rest) same;
       pile = f ∙ ap (λ (n : ℕ). filled_to (drop stop.placed.top p₂) n) (n₂ ∙ n₁) ∙ sym (s.word pile) ∙ ap (λ (h : Halt). value_or pile (λ (w : List ℕ). filled w pile) h.pile) same;
-      scratch = z ∙ scratch_zero (walk_refusal (answer_at (system_in table) stop (configuration p₂ stop.placed))) scratch (answer_late (system_in table) stop (configuration p₂ stop.placed) s.late)
-          ∙ ap (λ (w : Walked). scratch_after (walk_refusal w) scratch) given;
+      scratch = z ∙ scratch_zero (refused_by (walk_from (system_in table) (length p₁) 0 list (configuration p₁ c)).answer) scratch s.late ∙ ap (λ (h : Halt). scratch_after (refused_by h.answer) scratch) same;
     }
   where
     filled_to : List ℕ → ℕ → List ℕ
@@ -92,7 +88,7 @@ module _ (table : List ℕ) (t : Table) (h : Holds table t) (list pile scratch :
         counts = walk_counts r list halt.answer;
         rest = halt.rest;
         pile = value_or pile (λ (w : List ℕ). filled w pile) halt.pile;
-        scratch = scratch_after (walk_refusal halt.answer) scratch;
+        scratch = scratch_after (refused_by halt.answer) scratch;
       }
 
   -- the outcome of a halt
@@ -106,9 +102,9 @@ module _ (table : List ℕ) (t : Table) (h : Holds table t) (list pile scratch :
       ∙ ap (λ (n : ℕ). outcome_of (system_in table) list (given_by (system_in table) list n (length pile) (length scratch)) pile scratch) (pile_count table t h)
 
   -- 15: the scratch is short
-  pub short_halts : length scratch < walk_scratch → Halts (walk_call table list pile scratch) list (halted_before 15 0 (length list)) pile scratch
+  pub short_halts : length scratch < walk_scratch → Halts (walk_call table list pile scratch) list (halted_before (record { number = 15; place = 0 }) (length list)) pile scratch
   unfolding outcome_of
-  short_halts l = subst (λ (o : WalkOutcome). Halts o list (halted_before 15 0 (length list)) pile scratch)
+  short_halts l = subst (λ (o : WalkOutcome). Halts o list (halted_before (record { number = 15; place = 0 }) (length list)) pile scratch)
       (sym (call_is ∙ ap (λ (b : Bool). comes_to (cond b (halt_before 15 0) (cond (ltb (length pile) t.pile) (halt_before 14 0) (walk_from (system_in table) (length pile) 0 list (system_in table).start)))) (lt-ltb (length scratch) walk_scratch l)))
       (record { answer = refl; counts = refl; inside = omega arith; rest = drop_of_length-le list {i = length list} (omega arith); pile = refl; scratch = scratch_kept 15 scratch refl })
 
@@ -118,9 +114,9 @@ module _ (table : List ℕ) (t : Table) (h : Holds table t) (list pile scratch :
 
   -- 14: the start pile does not fit
   pub unfit_halts : (scratch' : List ℕ) → walk_scratch ≤ length scratch → length pile < t.pile → scratch' ≡ zeros scratch
-      → Halts (walk_call table list pile scratch) list (halted_before 14 0 (length list)) pile scratch'
+      → Halts (walk_call table list pile scratch) list (halted_before (record { number = 14; place = 0 }) (length list)) pile scratch'
   unfolding outcome_of
-  unfit_halts scratch' l q e = subst (λ (o : WalkOutcome). Halts o list (halted_before 14 0 (length list)) pile scratch')
+  unfit_halts scratch' l q e = subst (λ (o : WalkOutcome). Halts o list (halted_before (record { number = 14; place = 0 }) (length list)) pile scratch')
       (sym (long l ∙ ap (λ (b : Bool). comes_to (cond b (halt_before 14 0) (walk_from (system_in table) (length pile) 0 list (system_in table).start))) (lt-ltb (length pile) t.pile q)))
       (record { answer = refl; counts = refl; inside = omega arith; rest = drop_of_length-le list {i = length list} (omega arith); pile = refl; scratch = e ∙ scratch_zero 14 scratch refl })
 
@@ -132,18 +128,17 @@ module _ (table : List ℕ) (t : Table) (h : Holds table t) (list pile scratch :
       (sym (long l ∙ ap (λ (b : Bool). comes_to (cond b (halt_before 14 0) (walk_from (system_in table) (length pile) 0 list (system_in table).start))) (le-ltb (length pile) t.pile q))) x
 
 -- ---- a table that is refused
-pub table_halts : (table list pile scratch : List ℕ) (number place : ℕ) → Refused number place ≡ parsed (read table)
-    → Halts (walk_call table list pile scratch) list (halted_before number place (length list)) pile scratch
+pub table_halts : (table list pile scratch : List ℕ) (r : Refusal) → parsed (read table) ≡ Err r → Halts (walk_call table list pile scratch) list (halted_before r (length list)) pile scratch
 unfolding walk_call walk_given walk_counts
-table_halts table list pile scratch number place e =
-    let is : read table ≡ refused number place = refused_reading (read table) number place (sym e) in
+table_halts table list pile scratch r e =
+    let is : read table ≡ refused r.number r.place = refused_reading (read table) r e in
     rw is (record {
       answer = refl;
       counts = refl;
       inside = omega arith;
       rest = drop_of_length-le list {i = length list} (omega arith);
       pile = refl;
-      scratch = scratch_kept number scratch (refusal_changes_nothing table number place is);
+      scratch = scratch_kept r.number scratch (refusal_changes_nothing table r.number r.place is);
     })
 
 -- ---- demand 2 and request 2.5, by the figures of the call

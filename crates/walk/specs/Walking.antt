@@ -1,8 +1,9 @@
 -- What the parts of a walk come to, as the definition of the whole call has it.
-use Rattle.std.specs.Prelude.{◌≡◌, false, cond, List, [], ◌++◌, ℕ, ◌+◌, ◌*◌, ◌≤◌, eqb, length, drop}
-use Rattle.model.specs.declared.Walked.{Walked}
-use Rattle.model.specs.Calls.{Halt, WalkOutcome, changes_nothing, filled, fired_rules, halt_at, halt_end, scratch_after}
-use Rattle.model.specs.Calls.{walk_figures, walk_refusal}
+use Rattle.std.specs.Prelude.{◌≡◌, false, List, ◌++◌, ℕ, ◌+◌, ◌*◌, ◌≤◌, length, drop, Option, Some, None, Result, Ok, Err}
+use Rattle.model.specs.declared.Ending.{Ending}
+use Rattle.model.specs.declared.Refusal.{Refusal}
+use Rattle.model.specs.Calls.{Halt, WalkOutcome, changes_nothing, filled, fired_rules, halt_end, refuse, refused_by}
+use Rattle.model.specs.Calls.{scratch_after, walk_figures}
 use Rattle.model.specs.Groups.{at_each}
 use Rattle.model.specs.Lists.{value_or}
 use Rattle.model.specs.Participation.{step_counts}
@@ -15,14 +16,19 @@ use Rattle.walk.specs.declared.Stop.{Stop}
 use Rattle.walk.specs.declared.Halted.{Halted}
 
 -- ---- all steps
+-- the answer at the list's end, or the refusal at a step
+abbrev pub answer_or : Result Ending Refusal → Option ℕ → ℕ → Result Ending Refusal
+answer_or end None step = end
+answer_or end (Some number) step = refuse number step
+
 -- what the walk gives where it stopped
-abbrev pub answer_at : System → Stop → Configuration → Walked
-answer_at sys s c = cond (eqb s.number 0) (halt_end sys c).answer (halt_at s.number s.at [] c).answer
+abbrev pub answer_at : System → Stop → Configuration → Result Ending Refusal
+answer_at sys s c = answer_or (halt_end sys c).answer s.refusal s.at
 
 -- where the walk stopped: the answer, the counts of the rules fired, the rest of the list, and the word there
 pub record Stopped (table : List ℕ) (t : Table) (list : List ℕ) (h : Halt) (pile' : List ℕ) (s : Stop) : Type 0 where
   pub shape : InShape t pile' s.placed
-  pub late : changes_nothing s.number ≡ false
+  pub late : changes_nothing (refused_by h.answer) ≡ false
   pub inside : s.at ≤ length list
   pub rest : drop s.at list ≡ h.rest
   pub answer : answer_at (system_in table) s (configuration pile' s.placed) ≡ h.answer
@@ -32,8 +38,8 @@ pub record Stopped (table : List ℕ) (t : Table) (list : List ℕ) (h : Halt) (
 
 -- ---- the call
 -- refused before the first step, with a list of n rules: the part handed back begins at its end
-abbrev pub halted_before : ℕ → ℕ → ℕ → Halted
-halted_before number place n = record { answer = Walked.Refused number place; counts = at_each (λ i. 0); from = n }
+abbrev pub halted_before : Refusal → ℕ → Halted
+halted_before r n = record { answer = Err r; counts = at_each (λ i. 0); from = n }
 
 -- the outcome of a walk of the list that came to h
 unfoldable pub outcome_of : System → List ℕ → Halt → List ℕ → List ℕ → WalkOutcome
@@ -42,7 +48,7 @@ outcome_of sys list h pile scratch = record {
   counts = step_counts sys (fired_rules list h.answer);
   rest = h.rest;
   pile = value_or pile (λ (w : List ℕ). filled w pile) h.pile;
-  scratch = scratch_after (walk_refusal h.answer) scratch;
+  scratch = scratch_after (refused_by h.answer) scratch;
 }
 
 -- the answer, the counts, and where the part begins that is handed back
@@ -53,6 +59,11 @@ pub record Halts (o : WalkOutcome) (list : List ℕ) (r : Halted) (pile' scratch
   pub rest : drop r.from list ≡ o.rest
   pub pile : pile' ≡ o.pile
   pub scratch : scratch' ≡ o.scratch
+
+-- the same of a walk that may be refused before its first step
+abbrev pub HaltsOr : WalkOutcome → List ℕ → Result Halted Refusal → List ℕ → List ℕ → Type 0
+HaltsOr o list (Ok r) pile' scratch' = Halts o list r pile' scratch'
+HaltsOr o list (Err r) pile' scratch' = Halts o list (halted_before r (length list)) pile' scratch'
 
 -- "hands back the part of the caller's list that begins there": so many numbers of two bytes behind the list's place,
 -- which is a block of memory and the bytes before it there

@@ -4,31 +4,30 @@
 ghost use Rattle.std.specs.Prelude.{◌≡◌, ◌-◌, ◌≤◌, ◌++◌, length, drop, get_or};
 ghost use Rattle.model.specs.Calls.{zeros, walk_scratch, walk_from, walk_call, walk_figures, watched_figure};
 ghost use Rattle.model.specs.Demands.{Demand2Walk, TookPart};
-ghost use Rattle.table.specs.Reading.{Holds, system_in};
+ghost use Rattle.table.specs.Reading.{system_in};
 ghost use Rattle.firing.specs.Piles.{configuration};
 ghost use Rattle.steps.specs.Stepping.{InShape};
-ghost use Rattle.walk.specs.Walking.{Halts, Stopped, Walks, answer_at, halted_before, outcome_of, place_in};
+ghost use Rattle.walk.specs.Walking.{Halts, HaltsOr, Stopped, Walks, answer_at, halted_before, outcome_of, place_in};
 
 use acceptance::is_accepted;
 use buffers::clear;
-use model::{Placed, Walked};
-use numbers::wide_two;
+use model::{Ending, FULL_PILE, Placed, Refusal, SHORT_SCRATCH};
 use reading::read;
 use scratch::NEEDED_BY_WALK;
-use steps::{Taken, bring_front, place_start, take_step};
-use table::{Parsed, Table};
+use steps::{bring_front, place_start, take_step};
+use table::{Accepted, Table};
 
 // A walk's figures: eight of its answer, and a count for each process.
 pub const FIGURES: usize = 8 + Table::PROCESSES;
 
 // No walk has so many steps.
-const UNBOUNDED: u64 = 18446744073709551615;
+const UNBOUNDED: u64 = u64::MAX;
 
-// Where the steps stopped: the number of the refusal, 0 at the list's end; the step; the configuration there; and of the steps before it how many each process
-// took part in.
+// Where the steps stopped: the number of the refusal, if it isn't the list's end; the step; the configuration there; and of the steps before it how many each
+// process took part in.
 #[derive(Clone, Copy)]
 pub struct Stop {
-    pub number: u8,
+    pub refusal: Option<u8>,
     pub at: usize,
     pub placed: Placed,
     pub counts: [u64; Table::PROCESSES],
@@ -37,80 +36,85 @@ pub struct Stop {
 // What a walk gives, the steps that each process took part in, and where the part of the list begins that it hands back.
 #[derive(Clone, Copy)]
 pub struct Halted {
-    pub answer: Walked,
+    pub answer: Result<Ending, Refusal>,
     pub counts: [u64; Table::PROCESSES],
     pub from: usize,
 }
 
 // ---- the steps
 // Takes the steps of the list, up to the first that is refused.
-fn take_steps(table: &[u8], t: Table, list: &[u16], pile: &mut [u8], start: Placed) -> Stop
-    requires { Holds table.now t × InShape t pile.old start }
-    ensures { Stopped table.now t list.now (walk_from (system_in table.now) (length pile.old) 0 list.now (configuration pile.old start)) pile.new result }
+fn take_steps(table: &Accepted, list: &[u16], pile: &mut [u8], start: Placed) -> Stop
+    requires { InShape table.now.counts pile.old start }
+    ensures { Stopped table.now.bytes.now table.now.counts list.now (walk_from (system_in table.now.bytes.now) (length pile.old) 0 list.now (configuration pile.old start)) pile.new result }
 {
-    let mut c = start;
+    let mut placed = start;
     let mut counts = [0; Table::PROCESSES];
-    let mut k = 0;
-    while k < list.len() {
-        match take_step(table, t, wide_two(list[k]), pile, c, &mut counts, UNBOUNDED) {
-            Taken::Refused(number) => {
+    for k in 0..list.len() {
+        match take_step(
+            table,
+            usize::from(list[k]),
+            pile,
+            placed,
+            &mut counts,
+            UNBOUNDED,
+        ) {
+            Ok(fired) => placed = fired.placed,
+            Err(number) => {
                 return Stop {
-                    number,
+                    refusal: Some(number),
                     at: k,
-                    placed: c,
+                    placed,
                     counts,
                 };
-            }
-            Taken::Onward(f) => {
-                c = f.placed;
-                k += 1;
             }
         }
     }
     Stop {
-        number: 0,
-        at: k,
-        placed: c,
+        refusal: None,
+        at: list.len(),
+        placed,
         counts,
     }
 }
 
 // ---- the end
 // What the walk gives where its steps stopped. The scratch is left zero.
-fn conclude(table: &[u8], t: Table, pile: &[u8], s: Stop, scratch: &mut [u8]) -> Walked
-    requires { Holds table.now t × InShape t pile.now s.placed × (walk_scratch ≤ length scratch.old) }
-    ensures { (result ≡ answer_at (system_in table.now) s (configuration pile.now s.placed)) × (scratch.new ≡ zeros scratch.old) }
+fn conclude(
+    table: &Accepted,
+    pile: &[u8],
+    stop: Stop,
+    scratch: &mut [u8],
+) -> Result<Ending, Refusal>
+    requires { InShape table.now.counts pile.now stop.placed × (walk_scratch ≤ length scratch.old) }
+    ensures { (result ≡ answer_at (system_in table.now.bytes.now) stop (configuration pile.now stop.placed)) × (scratch.new ≡ zeros scratch.old) }
 {
-    let number = s.number;
-    if number != 0 {
+    if let Some(number) = stop.refusal {
         clear(scratch);
-        return Walked::Refused {
+        return Err(Refusal {
             number,
-            place: s.at,
-        };
+            place: stop.at,
+        });
     }
-    let c = s.placed;
-    let states = c.states;
-    let top = c.top;
-    let watched = is_accepted(table, t, &pile[top..], states, scratch);
-    Walked::Ended {
+    let states = stop.placed.states;
+    let top = stop.placed.top;
+    let watched = is_accepted(table, &pile[top..], states, scratch);
+    Ok(Ending {
         states,
         length: pile.len() - top,
         watched,
-    }
+    })
 }
 
 // ---- the call
 // A walk whose start pile fits.
-fn walk_placed(table: &[u8], t: Table, list: &[u16], pile: &mut [u8], scratch: &mut [u8]) -> Halted
-    requires { Holds table.now t × (t.pile ≤ length pile.old) × (walk_scratch ≤ length scratch.old) }
-    ensures { Halts (outcome_of (system_in table.now) list.now (walk_from (system_in table.now) (length pile.old) 0 list.now (system_in table.now).start) pile.old scratch.old) list.now result pile.new scratch.new }
+fn walk_placed(table: &Accepted, list: &[u16], pile: &mut [u8], scratch: &mut [u8]) -> Halted
+    requires { (table.now.counts.pile ≤ length pile.old) × (walk_scratch ≤ length scratch.old) }
+    ensures { Halts (outcome_of (system_in table.now.bytes.now) list.now (walk_from (system_in table.now.bytes.now) (length pile.old) 0 list.now (system_in table.now.bytes.now).start) pile.old scratch.old) list.now result pile.new scratch.new }
 {
-    let start = place_start(table, t, pile);
-    let stop = take_steps(table, t, list, pile, start);
-    let answer = conclude(table, t, pile, stop, scratch);
-    let c = stop.placed;
-    bring_front(pile, c.top);
+    let start = place_start(table, pile);
+    let stop = take_steps(table, list, pile, start);
+    let answer = conclude(table, pile, stop, scratch);
+    bring_front(pile, stop.placed.top);
     let counts = stop.counts;
     Halted {
         answer,
@@ -120,48 +124,64 @@ fn walk_placed(table: &[u8], t: Table, list: &[u16], pile: &mut [u8], scratch: &
 }
 
 // Refused before the first step: the empty part is handed back.
-fn halt_before(number: u8, place: usize, list: &[u16]) -> Halted
-    ensures { result ≡ halted_before number place (length list.now) }
+fn halt_before(refusal: Refusal, list: &[u16]) -> Halted
+    ensures { result ≡ halted_before refusal (length list.now) }
 {
     Halted {
-        answer: Walked::Refused { number, place },
+        answer: Err(refusal),
         counts: [0; Table::PROCESSES],
         from: list.len(),
     }
 }
 
-// A walk over an accepted table.
+// A walk over an accepted table. Refused by 15 for a short scratch, then by 14 for a start pile that is longer than the buffer.
 fn walk_accepted(
-    table: &[u8],
-    t: Table,
+    table: &Accepted,
     list: &[u16],
     pile: &mut [u8],
     scratch: &mut [u8],
-) -> Halted
-    requires { Holds table.now t }
-    ensures { Halts (walk_call table.now list.now pile.old scratch.old) list.now result pile.new scratch.new }
+) -> Result<Halted, Refusal>
+    ensures { HaltsOr (walk_call table.now.bytes.now list.now pile.old scratch.old) list.now result pile.new scratch.new }
 {
     if scratch.len() < NEEDED_BY_WALK {
-        return halt_before(15, 0, list);
+        return Err(Refusal {
+            number: SHORT_SCRATCH,
+            place: 0,
+        });
     }
-    let count = t.pile;
-    if pile.len() < count {
+    if pile.len() < table.counts.pile {
         clear(scratch);
-        return halt_before(14, 0, list);
+        return Err(Refusal {
+            number: FULL_PILE,
+            place: 0,
+        });
     }
-    walk_placed(table, t, list, pile, scratch)
+    Ok(walk_placed(table, list, pile, scratch))
 }
 
-fn walk_table(table: &[u8], list: &[u16], pile: &mut [u8], scratch: &mut [u8]) -> Halted
+fn walk_table(
+    table: &[u8],
+    list: &[u16],
+    pile: &mut [u8],
+    scratch: &mut [u8],
+) -> Result<Halted, Refusal>
+    ensures { HaltsOr (walk_call table.now list.now pile.old scratch.old) list.now result pile.new scratch.new }
+{
+    let counts = read(table)?;
+    let accepted = Accepted {
+        bytes: table,
+        counts,
+    };
+    walk_accepted(&accepted, list, pile, scratch)
+}
+
+// The walk, where it is not refused before its first step, or that refusal.
+fn halt(table: &[u8], list: &[u16], pile: &mut [u8], scratch: &mut [u8]) -> Halted
     ensures { Halts (walk_call table.now list.now pile.old scratch.old) list.now result pile.new scratch.new }
 {
-    match read(table) {
-        Parsed::Refused { number, place } => {
-            return halt_before(number, place, list);
-        }
-        Parsed::Accepted(t) => {
-            return walk_accepted(table, t, list, pile, scratch);
-        }
+    match walk_table(table, list, pile, scratch) {
+        Ok(halted) => halted,
+        Err(refusal) => halt_before(refusal, list),
     }
 }
 
@@ -176,35 +196,35 @@ fn watched_figure(watched: bool) -> u64
 }
 
 // Document 01's number and values: the refusal's number, its place, watched or not, pile length, end states; then request 2.5's counts.
-fn put_figures(figures: &mut [u64; FIGURES], answer: Walked, counts: [u64; Table::PROCESSES])
+fn put_figures(
+    figures: &mut [u64; FIGURES],
+    answer: Result<Ending, Refusal>,
+    counts: [u64; Table::PROCESSES],
+)
     requires { length counts ≡ 4 }
     ensures { figures.new ≡ walk_figures answer ++ counts }
 {
     match answer {
-        Walked::Ended {
-            states,
-            length,
-            watched,
-        } => {
+        Ok(end) => {
             *figures = [
                 0,
                 0,
-                watched_figure(watched),
-                length as u64,
-                states.s0 as u64,
-                states.s1 as u64,
-                states.s2 as u64,
-                states.s3 as u64,
+                watched_figure(end.watched),
+                end.length as u64,
+                u64::from(end.states.s0),
+                u64::from(end.states.s1),
+                u64::from(end.states.s2),
+                u64::from(end.states.s3),
                 counts[0],
                 counts[1],
                 counts[2],
                 counts[3],
             ];
         }
-        Walked::Refused { number, place } => {
+        Err(refusal) => {
             *figures = [
-                number as u64,
-                place as u64,
+                u64::from(refusal.number),
+                refusal.place as u64,
                 0,
                 0,
                 0,
@@ -235,10 +255,7 @@ pub fn walk<'a>(
     ensures demand_2 { Demand2Walk table.now list.now scratch.old figures.new pile.new }
     ensures request_2_5 { TookPart table.now list.now (get_or figures.new 0 0) (get_or figures.new 1 0) (drop 8 figures.new) }
 {
-    let halted = walk_table(table, list, pile, scratch);
-    let answer = halted.answer;
-    let counts = halted.counts;
-    let from = halted.from;
-    put_figures(figures, answer, counts);
-    &list[from..]
+    let halted = halt(table, list, pile, scratch);
+    put_figures(figures, halted.answer, halted.counts);
+    &list[halted.from..]
 }

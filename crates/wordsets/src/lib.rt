@@ -9,6 +9,7 @@ ghost use Rattle.wordsets.specs.WordSets.{word_sum, RestBits, SetsApart, RowAdde
 use numbers::{eight_at, put_eight};
 
 // Adds to the word at `to` what the word at `from` has, of the numbers in rest, and gives the word, shifted back.
+#[tactic(auto, unfolding(crate::specs::WordSets::word_sum))]
 fn add_word(s: &mut [u8], from: usize, to: usize, after: usize, before: usize, rest: u64) -> u64
     requires { (from + 8 ≤ length s.old) × (to + 8 ≤ length s.old) × (after < 64) × (before < 64) }
     ensures { (s.new ≡ with_number 8 s.old to (word_sum (number_at 8 s.old from) (number_at 8 s.old to) after before rest)) × (result ≡ word_sum (number_at 8 s.old from) (number_at 8 s.old to) after before rest / 2 ^ before) }
@@ -35,8 +36,7 @@ fn add_row(
     ensures { RowAdded from to y x rest low high s.old s.new result }
 {
     let mut common = rest;
-    let mut w = low;
-    while w < high {
+    for w in low..high {
         let word = add_word(
             s,
             from + 8 * (y / 64 + w),
@@ -45,8 +45,7 @@ fn add_row(
             x % 64,
             rest,
         );
-        common = common & word;
-        w += 1;
+        common &= word;
     }
     common
 }
@@ -68,10 +67,8 @@ pub fn add_record(
     ensures { RecordAdded from to y x rest rows words s.old s.new result }
 {
     let mut common = rest;
-    let mut h = 0;
-    while h < rows {
-        common = common & add_row(s, from, to, y, x, rest, 8 * h, 8 * h + words);
-        h += 1;
+    for h in 0..rows {
+        common &= add_row(s, from, to, y, x, rest, 8 * h, 8 * h + words);
     }
     common
 }
@@ -80,14 +77,10 @@ pub fn add_record(
 pub fn rest_bits(second: bool, third: bool) -> u64
     ensures { RestBits result (cond second 1 8) (cond third 1 8) }
 {
-    if second {
-        if third {
-            return 1;
-        }
-        return 255;
+    match (second, third) {
+        (true, true) => 1,
+        (true, false) => 0xff,
+        (false, true) => 0x0101_0101_0101_0101,
+        (false, false) => u64::MAX,
     }
-    if third {
-        return 72340172838076673;
-    }
-    18446744073709551615
 }

@@ -16,9 +16,9 @@ use Rattle.model.specs.Log.{reads_at, key_less, same_key, additions, log_at, fir
 use Rattle.model.specs.Unfolding.{accepting_path, emitted_by}
 use Rattle.model.specs.Records.{record_bytes}
 use Rattle.model.specs.Participation.{with_step}
-use Rattle.model.specs.Calls.{records_of, run_of, scratch_after, log_after, page_after, answer_given, answer_call, run_call, walk_call, answer_figures, run_given, run_figures, walk_counts, walk_given, walk_figures}
+use Rattle.model.specs.Calls.{records_of, run_of, scratch_after, log_after, page_after, answer_given, answer_call, run_call, walk_call, answer_figures, refused_at, refused_by, run_given, run_figures, walk_counts, walk_given, walk_figures}
 use Rattle.desk_model.specs.Desks.{fires, saves, returns, forgets, findings, desk_call}
-use Rattle.plan_model.specs.Hours.{begin_of, begins_from, bound_of, delay, ended_at, first_among, first_never, fits, hours_fit, lengths_fit, never_fits, plan_begins, plan_call, plan_fits, plan_given, planned_place, planned_refusal, run_fits, start_fits}
+use Rattle.plan_model.specs.Hours.{begin_of, begins_from, bound_of, delay, ended_at, first_among, first_never, fits, hours_fit, lengths_fit, never_fits, plan_begins, plan_call, plan_fits, plan_given, run_fits, start_fits}
 use Rattle.model.specs.SmallTables.{used}
 use Rattle.desk_model.specs.SmallDesks.{trace}
 use Rattle.plan_model.specs.SmallPlans.{from_to}
@@ -43,7 +43,7 @@ coded (negsuc n) = suc (n + n)
 abbrev planned : List ℕ → List ℕ → List (List Window) → List ℕ → List ℕ → ℤ → ℕ → List (List ℕ)
 planned table run hours counts lengths start places =
     let o = plan_call table run hours counts lengths start (map pos (used places)) in
-    (planned_refusal o.answer ∷ planned_place o.answer ∷ []) ∷ map coded o.begins ∷ []
+    (refused_by o.answer ∷ refused_at o.answer ∷ []) ∷ map coded o.begins ∷ []
 ";
 
 /// The definitions that an equation may unfold.

@@ -10,7 +10,7 @@ use Rattle.acceptance.proofs.is_accepted.Goals as goal
 pub returns : goal.returns
 returns c =
     let a = c.args in (
-      word_read (system_in a.table.now) (present_in a.t) a.word.now a.scratch.now c.put_start.new.members c.read_word.new.scratch a.states c.has_accepting-accepted.result c.requires.2 c.requires.1
+      word_read (system_in a.table.now.bytes.now) (present_in a.table.now.counts) a.word.now a.scratch.now c.put_start.new.members c.read_word.new.scratch a.states c.has_accepting-accepted.result c.requires.1 c.requires.0
           c.put_start.ensures c.read_word.ensures c.has_accepting-accepted.ensures,
-      c.clear.ensures ∙ zeros_same c.read_word.new.scratch a.scratch.now (c.read_word.auto.scratch ∙ here_length a.scratch.now c.put_start.new.members (omega (arith, c.requires.2)) c.put_start.auto.members),
+      c.clear.ensures ∙ zeros_same c.read_word.new.scratch a.scratch.now (c.read_word.auto.scratch ∙ here_length a.scratch.now c.put_start.new.members (omega (arith, c.requires.1)) c.put_start.auto.members),
     )

@@ -7,5 +7,5 @@ use Rattle.acceptance.proofs.read_letter.Goals as goal
 pub returns : goal.returns
 returns c =
     let a = c.args in
-    letter_read (system_in a.table.now) (present_in a.t) a.letter a.scratch.now c.clear.new.buffer c.read_members.new.scratch c.move_front.new.buffer c.requires.1
+    letter_read (system_in a.table.now.bytes.now) (present_in a.table.now.counts) a.letter a.scratch.now c.clear.new.buffer c.read_members.new.scratch c.move_front.new.buffer c.requires
     c.clear.ensures c.read_members.auto.scratch c.read_members.ensures c.move_front.ensures

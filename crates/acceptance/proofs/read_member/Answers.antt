@@ -4,21 +4,17 @@ use native.Mathlib.Omega.{arith}
 use lib.ListN.{length}
 use Rattle.states.specs.StateSets.{set_length}
 use Rattle.states.proofs.StateNumbers.{numbered_over}
-use Rattle.table.proofs.Layouts.{table_modest}
 use Rattle.acceptance.proofs.Regions.{there_here, there_there, length_there}
 use Rattle.acceptance.proofs.read_member.Goals as goal
 
-pub state_at-requires : goal.state_at-requires
-state_at-requires c = ((table_modest _ _ c.requires.0).processes, c.requires.1)
-
 pub follow_all-requires : goal.follow_all-requires
 follow_all-requires c =
-    (c.requires.0, rw c.state_at.ensures (numbered_over _ _), length_there c.args.scratch.now c.requires.2)
+    (rw c.state_at.ensures (numbered_over _ _), length_there c.args.scratch.now c.requires.1)
 
 pub returns : goal.returns
 returns c =
     let s = c.args.scratch.now in
     let ys = c.follow_all.new.next in
-    let size : length ys ≡ set_length = c.follow_all.auto.next ∙ length_there s c.requires.2 in
-    let first = there_here s ys (omega (arith, c.requires.2)) in
-    (first, rw (c.next_member.ensures, first) refl, rw (there_there s ys (omega (arith, c.requires.2)) size, ← c.state_at.ensures) c.follow_all.ensures)
+    let size : length ys ≡ set_length = c.follow_all.auto.next ∙ length_there s c.requires.1 in
+    let first = there_here s ys (omega (arith, c.requires.1)) in
+    (first, rw (c.next_member.ensures, first) refl, rw (there_there s ys (omega (arith, c.requires.1)) size, ← c.state_at.ensures) c.follow_all.ensures)

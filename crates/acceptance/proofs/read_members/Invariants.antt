@@ -10,7 +10,7 @@ use Rattle.acceptance.proofs.Sets.{Collected}
 use Rattle.acceptance.proofs.read_members.Given as goal
 
 abbrev pub invariant-loop-n : goal.invariant-loop-n
-invariant-loop-n l = (length l.scratch ≡ length l.initial.scratch) × (here l.scratch ≡ here l.initial.scratch) × Collected (system_in l.table) (present_in l.t) l.letter (here l.initial.scratch) (there l.initial.scratch) (there l.scratch) l.n
+invariant-loop-n l = (length l.scratch ≡ length l.initial.scratch) × (here l.scratch ≡ here l.initial.scratch) × Collected (system_in l.table.bytes.now) (present_in l.table.counts) l.letter (here l.initial.scratch) (there l.initial.scratch) (there l.scratch) l.n
 
 abbrev pub decreases-loop-n : goal.decreases-loop-n
 decreases-loop-n l = state_count - l.n

@@ -10,32 +10,32 @@ use Rattle.attempts.proofs.attempt.Goals as goal
 pub enter-x-requires : goal.enter-x-requires
 enter-x-requires c =
     let w = c.requires in
-    (w.scoped.some.1.holds, omega (arith, w.some, w.inside), w.scoped.linked)
+    (omega (arith, w.some, w.inside), w.scoped.linked)
 
 pub loop-y-init : goal.loop-y-init
 loop-y-init c = attempting_start _ _ c.enter-x.ensures
 
 pub take_turn-requires : goal.take_turn-requires
 take_turn-requires c =
-    let state_is : c.pack-state.result ≡ packed (zeroed_group (processes_of_table c.args.t) c.args.g) = c.pack-state.ensures.0 ∙ ap packed c.zeroed.ensures in
+    let state_is : c.pack-state.result ≡ packed (zeroed_group (processes_of_table c.args.table.now.counts) c.args.g) = c.pack-state.ensures.0 ∙ ap packed c.zeroed.ensures in
     (c.args.g, c.loop-y.invariant.way c.args.g c.requires state_is)
 
 pub loop-y-smaller : goal.loop-y-smaller
 loop-y-smaller c =
-    let state_is : c.pack-state.result ≡ packed (zeroed_group (processes_of_table c.args.t) c.args.g) = c.pack-state.ensures.0 ∙ ap packed c.zeroed.ensures in
-    attempting_falls c.loop-y.invariant c.take_turn.ensures c.requires state_is c.in-Again.is
+    let state_is : c.pack-state.result ≡ packed (zeroed_group (processes_of_table c.args.table.now.counts) c.args.g) = c.pack-state.ensures.0 ∙ ap packed c.zeroed.ensures in
+    attempting_falls c.loop-y.invariant c.take_turn.ensures c.requires state_is c.in-Continue.is
 
 pub loop-y-preserved : goal.loop-y-preserved
 loop-y-preserved c =
-    let state_is : c.pack-state.result ≡ packed (zeroed_group (processes_of_table c.args.t) c.args.g) = c.pack-state.ensures.0 ∙ ap packed c.zeroed.ensures in
-    attempting_turn c.loop-y.invariant c.take_turn.ensures c.requires state_is c.in-Again.is
+    let state_is : c.pack-state.result ≡ packed (zeroed_group (processes_of_table c.args.table.now.counts) c.args.g) = c.pack-state.ensures.0 ∙ ap packed c.zeroed.ensures in
+    attempting_turn c.loop-y.invariant c.take_turn.ensures c.requires state_is c.in-Continue.is
 
-pub returns-in-Done : goal.returns-in-Done
-returns-in-Done c =
-    let state_is : c.pack-state.result ≡ packed (zeroed_group (processes_of_table c.args.t) c.args.g) = c.pack-state.ensures.0 ∙ ap packed c.zeroed.ensures in
-    attempting_end c.loop-y.invariant c.take_turn.ensures c.requires state_is c.in-Done.is
+pub returns-in-Break : goal.returns-in-Break
+returns-in-Break c =
+    let state_is : c.pack-state.result ≡ packed (zeroed_group (processes_of_table c.args.table.now.counts) c.args.g) = c.pack-state.ensures.0 ∙ ap packed c.zeroed.ensures in
+    attempting_end c.loop-y.invariant c.take_turn.ensures c.requires state_is c.in-Break.is
 
-pub shape_of-scratch-in-Done : goal.shape_of-scratch-in-Done
-shape_of-scratch-in-Done c =
-    let state_is : c.pack-state.result ≡ packed (zeroed_group (processes_of_table c.args.t) c.args.g) = c.pack-state.ensures.0 ∙ ap packed c.zeroed.ensures in
-    (attempting_end c.loop-y.invariant c.take_turn.ensures c.requires state_is c.in-Done.is).same.size
+pub shape_of-scratch-in-Break : goal.shape_of-scratch-in-Break
+shape_of-scratch-in-Break c =
+    let state_is : c.pack-state.result ≡ packed (zeroed_group (processes_of_table c.args.table.now.counts) c.args.g) = c.pack-state.ensures.0 ∙ ap packed c.zeroed.ensures in
+    (attempting_end c.loop-y.invariant c.take_turn.ensures c.requires state_is c.in-Break.is).same.size

@@ -5,7 +5,7 @@ use Rattle.attempts.proofs.Attempting.{Attempting}
 use Rattle.attempts.proofs.attempt.Given as goal
 
 abbrev pub invariant-loop-y : goal.invariant-loop-y
-invariant-loop-y l = Attempting l.table l.t l.log l.c l.span l.state l.initial.scratch l.scratch l.x
+invariant-loop-y l = Attempting l.table.bytes.now l.table.counts l.log l.c l.span l.state l.initial.scratch l.scratch l.x
 
 abbrev pub decreases-loop-y : goal.decreases-loop-y
 decreases-loop-y l = weight l.x

@@ -14,6 +14,6 @@ returns c =
     let log = a.log.now in
     let letter = c.letter_at-a.ensures in
     let mask = c.mask_of-mask.ensures ∙ ap mask_of letter.bits.same in
-    let next = c.first_match-next.ensures
+    let next = (rw (c.new.ensures.0, c.new.ensures.4) at c.first_match-next.ensures)
     ∙ ap₂ (λ (b m : ℕ). first_from (record_reads log b m) 0 a.c.count) letter.number (c.restricted-before.ensures ∙ ap (λ (m : ℕ). packed_restrict m a.state) mask) in
     λ i. record { place = a.place; letter = letter.number i; mask = mask i; state = a.state; next = next i; left = a.left }

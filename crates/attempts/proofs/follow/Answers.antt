@@ -9,13 +9,13 @@ use Rattle.attempts.proofs.follow.Goals as goal
 pub next_match-next-requires : goal.next_match-next-requires
 next_match-next-requires c =
     let a = c.args in
-    (c.requires.0.room, c.requires.0.ringed, c.requires.1, ap (λ (m : ℕ). record_reads a.log.now a.x.letter m a.x.next) c.restricted-before.ensures ∙ c.requires.2)
+    rw (c.new.ensures.0, c.new.ensures.4) (c.requires.1, ap (λ (m : ℕ). record_reads a.log.now a.x.letter m a.x.next) c.restricted-before.ensures ∙ c.requires.2)
 
 pub returns : goal.returns
 unfolding followed
 returns c =
     let a = c.args in
     let x = a.x in
-    let next = c.next_match-next.ensures
+    let next = (rw (c.new.ensures.0, c.new.ensures.4) at c.next_match-next.ensures)
     ∙ ap (λ (m : ℕ). first_from (record_reads a.log.now x.letter m) (x.next + 1) (a.c.count - (x.next + 1))) c.restricted-before.ensures in
     λ i. record { place = x.place; letter = x.letter; mask = x.mask; state = x.state; next = next i; left = a.left }

@@ -29,7 +29,7 @@ enter-requires c =
     let state_is : c.merged-state.result ≡ packed_merge c.args.x.mask (packed_after c.args.log.now c.args.x.next) c.args.x.state = c.merged-state.ensures ∙ ap (λ (k : ℕ). packed_merge c.args.x.mask k c.args.x.state) c.after_at.ensures in
     let w = c.requires.2.1 in
     let same = stack_only w c.requires.0 _ state_is _ c.put_number.ensures in
-    ((some_round w).holds, omega (arith, c.if-x-span.true, w.at.ready.inside), (ready_kept same w.at.ready).scoped.linked)
+    (omega (arith, c.if-x-span.true, w.at.ready.inside), (ready_kept same w.at.ready).scoped.linked)
 
 pub returns-then-x-span : goal.returns-then-x-span
 returns-then-x-span c =

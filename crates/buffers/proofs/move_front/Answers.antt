@@ -17,12 +17,6 @@ bounds-buffer-from c = omega arith
 pub bounds-buffer-i : goal.bounds-buffer-i
 bounds-buffer-i c = omega arith
 
-pub overflow_add-i : goal.overflow_add-i
-overflow_add-i c = omega arith
-
-pub loop-i-smaller : goal.loop-i-smaller
-loop-i-smaller c = omega arith
-
 pub loop-i-preserved : goal.loop-i-preserved
 loop-i-preserved c =
     (omega arith, fronting_turn c.args.buffer.now c.args.from c.loop-i.buffer c.loop-i.i (omega arith) c.loop-i.invariant.1)

@@ -3,4 +3,4 @@ use Rattle.copies.proofs.Groups.{counted}
 use Rattle.copies.proofs.subset_count.Goals as goal
 
 pub returns : goal.returns
-returns c = rw c.wide.ensures.0 (counted c.args.bits c.requires)
+returns c = rw c.from.ensures (counted c.args.bits c.requires)

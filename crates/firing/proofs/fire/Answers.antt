@@ -1,37 +1,36 @@
 -- No place is found: idle. A word too long: full. Else the word, the states after and the processes told are the rule's (Firings).
 use mathlib.Core.Path.{◌∙◌, ap}
+use mathlib.Core.List.{List}
 use Prim.Native.Nat.{ℕ, ◌+◌, ◌-◌}
+use native.Mathlib.Omega.{arith}
+use lib.ListN.{length}
 use Rattle.model.specs.declared.Group.{Group}
 use Rattle.model.specs.Groups.{merge, processes_of}
-use Rattle.table.specs.Reading.{system_in, rule_in}
 use Rattle.table.proofs.Configurations.{located}
 use Rattle.firing.specs.Places.{rewritten}
 use Rattle.firing.proofs.Scans.{place_rest}
 use Rattle.firing.proofs.Firings.{fires_idle, fires_full, fires_done}
-use native.Mathlib.Omega.{arith}
 use Rattle.firing.proofs.fire.Goals as goal
 
-pub returns-then-pile-p : goal.returns-then-pile-p
-returns-then-pile-p c =
-    fires_idle _ (located _ _ c.requires.0) _ _ _ c.requires.2.inside (omega (arith, c.firing_place-p.ensures, c.if-pile-p.true))
+pub returns-in_default : goal.returns-in_default
+returns-in_default c =
+    fires_idle _ (located _ _ c.args.table.now.holds) _ _ _ c.requires.1.inside c.in_default.ensures
 
-pub returns-then-top-count : goal.returns-then-top-count
-returns-then-top-count c =
-    fires_full _ (located _ _ c.requires.0) _ _ _ c.requires.2.inside (omega (arith, c.firing_place-p.ensures, c.if-pile-p.false)) (omega (arith, c.written_count-count.ensures, c.if-top-count.true))
+pub returns-then-c-written : goal.returns-then-c-written
+returns-then-c-written c =
+    fires_full _ (located _ _ c.args.table.now.holds) _ _ _ c.requires.1.inside c.in-Some.ensures.1 (omega (arith, ap length c.written-written.ensures, c.if-c-written.true))
 
 pub rewrite-requires : goal.rewrite-requires
 rewrite-requires c =
-    let a = c.args in
-    let low = (place_rest (system_in a.table.now).loc (located _ _ c.requires.0) (rule_in a.table.now a.k) a.pile.now a.c c.requires.2.inside (omega (arith, c.firing_place-p.ensures, c.if-pile-p.false))).0 in
-    (c.requires.0, c.requires.1, omega (arith, c.firing_place-p.ensures), c.if-pile-p.false, omega (arith, c.written_count-count.ensures, c.if-top-count.false))
-
-pub overflow_add-placed : goal.overflow_add-placed
-overflow_add-placed c =
-    omega (arith, c.requires.2.inside)
+    let low = (place_rest _ (located _ _ c.args.table.now.holds) _ _ _ c.requires.1.inside c.in-Some.ensures.1).0 in
+    (omega (arith, c.in-Some.ensures.0), omega arith, c.if-c-written.false)
 
 pub returns : goal.returns
 returns c =
     let a = c.args in
-    fires_done _ (located _ _ c.requires.0) _ _ _ c.requires.2.inside (omega (arith, c.firing_place-p.ensures, c.if-pile-p.false)) _ _ _ _ (omega (arith, c.written_count-count.ensures, c.if-top-count.false)) c.rule_bits-processes.ensures.same c.rule_bits-processes.ensures.small
-    (c.merged-states.ensures ∙ ap (λ (g : Group). merge (processes_of c.rule_bits-processes.result) g a.c.states) c.rule_after-after.ensures)
-    (ap (λ (n : ℕ). a.c.top + 1 - n) c.written_count-count.ensures) (c.rewrite.ensures ∙ ap (λ (n : ℕ). rewritten a.pile.now a.c.top n (rule_in a.table.now a.k).written) c.firing_place-p.ensures)
+    let e = c.written-written.ensures in
+    fires_done _ (located _ _ c.args.table.now.holds) _ _ _ c.requires.1.inside c.in-Some.ensures.1 _ _ _ _ (omega (arith, ap length e, c.if-c-written.false))
+    c.rule_bits-processes.ensures.same c.rule_bits-processes.ensures.small
+    (c.merged.ensures ∙ ap (λ (g : Group). merge (processes_of c.rule_bits-processes.result) g a.c.states) c.rule_after.ensures)
+    (ap (λ (w : List ℕ). a.c.top + 1 - length w) e)
+    (c.rewrite.ensures ∙ ap (λ (n : ℕ). rewritten a.pile.now a.c.top n c.written-written.result.now) c.in-Some.ensures.0 ∙ ap (rewritten a.pile.now a.c.top _) e)

@@ -8,4 +8,4 @@ use Rattle.firing.proofs.is_apart.Goals as goal
 pub returns : goal.returns
 returns c =
     let l = c.letter_bits-other.ensures in
-    apart_bits c.args.bits c.letter_bits-other.result c.requires.2 l.small ∙ ap (apart_test (processes_of c.args.bits)) (l.same ∙ ap (system_in c.args.table.now).loc c.wide.ensures.0)
+    apart_bits c.args.bits c.letter_bits-other.result c.requires.1 l.small ∙ ap (apart_test (processes_of c.args.bits)) (l.same ∙ ap (system_in c.args.table.now.bytes.now).loc c.from.ensures)

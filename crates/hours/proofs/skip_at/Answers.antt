@@ -1,58 +1,27 @@
--- A step that begins within the minutes that are left lasts beyond the stay of each window that was looked at (Windows); a window less is left in each turn.
+-- No minute is passed over where a window holds the whole step, and the fewest that any window leaves where none does (Windows).
+use mathlib.Core.Path.{◌≡◌}
+use lib.ListN.{length}
 use native.Mathlib.Omega.{arith}
-use mathlib.Core.Path.{ap, ◌∙◌}
-use Prim.Native.Nat.{ℕ}
-use Rattle.plan_model.specs.Hours.{window_at}
-use Rattle.hours.specs.Searching.{until_fitting}
-use Rattle.hours.proofs.Windows.{fitting_end, fitting_start, fitting_stop, fitting_turn}
+use Rattle.std.proofs.lemmas.Slice.Zip.{zip_end, zip_turn}
+use Rattle.hours.proofs.Windows.{fitting_end, fitting_stop}
 use Rattle.hours.proofs.skip_at.Goals as goal
-
-pub loop-k-init : goal.loop-k-init
-loop-k-init c = let s = c.args in fitting_start s.windows s.count s.stays s.length s.m c.requires.4
-
-pub offset_bounds-windows-k : goal.offset_bounds-windows-k
-offset_bounds-windows-k c = omega arith
-
-pub bounds-windows-k : goal.bounds-windows-k
-bounds-windows-k c = omega (arith, c.requires.0)
-
-pub offset_bounds-stays-k : goal.offset_bounds-stays-k
-offset_bounds-stays-k c = omega arith
-
-pub bounds-stays-k : goal.bounds-stays-k
-bounds-stays-k c = omega (arith, c.requires.0)
-
-pub wide_two-requires : goal.wide_two-requires
-wide_two-requires c = tt
-
-pub until_fitting-gap-requires : goal.until_fitting-gap-requires
-until_fitting-gap-requires c = let pre = c.requires in (c.wide_two.ensures.1, pre.3, pre.4)
 
 pub returns-then-gap-eq0 : goal.returns-then-gap-eq0
 returns-then-gap-eq0 c =
     let s = c.args in
-    let k = c.loop-k.k in
-    fitting_stop s.windows s.count s.stays s.length s.m c.requires.4 c.requires.1 k c.until_fitting-gap.result c.loop-k-test.true
-    (c.until_fitting-gap.ensures ∙ ap (λ (n : ℕ). until_fitting (window_at s.windows k) n s.length s.m) c.wide_two.ensures.0) c.if-gap-eq0.true
-
-pub smaller_of-least-requires : goal.smaller_of-least-requires
-smaller_of-least-requires c = tt
-
-pub overflow_add-k : goal.overflow_add-k
-overflow_add-k c = omega arith
-
-pub loop-k-smaller : goal.loop-k-smaller
-loop-k-smaller c = omega arith
-
-pub loop-k-preserved : goal.loop-k-preserved
-loop-k-preserved c =
-    let loop = c.loop-k in
-    let s = c.args in
-    fitting_turn s.windows s.count s.stays s.length s.m c.requires.4 loop.k loop.least c.until_fitting-gap.result c.smaller_of-least.result c.loop-k-test.true loop.invariant
-    (c.until_fitting-gap.ensures ∙ ap (λ (n : ℕ). until_fitting (window_at s.windows loop.k) n s.length s.m) c.wide_two.ensures.0) c.if-gap-eq0.false
-    c.smaller_of-least.ensures
+    let first : c.into_iter-w-iterator.result.a.rest.now ≡ s.windows.now = cc in
+    let second : c.into_iter-w-iterator.result.b.rest.now ≡ s.stays.now = cc in
+    let turn = zip_turn s.windows.now s.stays.now c.loop-w.yielded c.into_iter-w-iterator.result c.loop-w.w-iterator c.next.new.self c.next.result first second
+    c.loop-w.yielded_by (c.in-Some.w, c.in-Some.stay) c.in-Some.is c.next.ensures.steps in
+    fitting_stop s.windows.now s.stays.now s.step.length s.m c.requires.2 c.requires.1 (length c.loop-w.yielded) c.until_fitting-gap.result turn.0
+    (rw (turn.2 (record { opens = 0; closes = 0 }), c.from.ensures, turn.3 0) at c.until_fitting-gap.ensures) c.if-gap-eq0.true
 
 pub returns : goal.returns
 returns c =
     let s = c.args in
-    fitting_end s.windows s.count s.stays s.length s.m c.requires.4 c.requires.1 c.loop-k.k c.loop-k.least c.requires.2 c.requires.3 c.loop-k-test.false c.loop-k.invariant
+    let first : c.into_iter-w-iterator.result.a.rest.now ≡ s.windows.now = cc in
+    let second : c.into_iter-w-iterator.result.b.rest.now ≡ s.stays.now = cc in
+    let turns = zip_end s.windows.now s.stays.now c.loop-w.yielded c.into_iter-w-iterator.result c.loop-w.w-iterator c.next.new.self c.next.result first second
+    c.loop-w.yielded_by c.in-None.is c.next.ensures.steps in
+    fitting_end s.windows.now s.stays.now s.step.length s.m c.requires.2 c.requires.1 (length c.loop-w.yielded) c.loop-w.least s.step.some_minute s.step.short
+    (omega (arith, turns, c.requires.0)) c.loop-w.invariant

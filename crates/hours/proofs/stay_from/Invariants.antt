@@ -1,14 +1,12 @@
 -- The process stays open for the minutes counted, which begin with those of the window (Windows). Each turn counts more of them, as far as any step asks.
-use mathlib.Core.Path.{◌≡◌}
 use Prim.Native.Nat.{◌-◌}
-use lib.ListN.{take}
 use Rattle.plan_model.specs.Hours.{window_at}
 use Rattle.hours.specs.Searching.{farthest}
 use Rattle.hours.proofs.Windows.{Staying}
 use Rattle.hours.proofs.stay_from.Given as goal
 
 abbrev pub invariant-loop-run : goal.invariant-loop-run
-invariant-loop-run l = (l.opens ≡ (window_at l.windows l.k).opens) × Staying (take l.count l.windows) (window_at l.windows l.k) l.run
+invariant-loop-run l = Staying l.windows (window_at l.windows l.k) l.run
 
 abbrev pub decreases-loop-run : goal.decreases-loop-run
 decreases-loop-run l = farthest - l.run

@@ -15,4 +15,5 @@ returns-then-is_alike c =
 pub returns : goal.returns
 returns c =
     let a = c.args in
-    leader_test a.log.now a.letters a.r c.letter_at-letter.ensures c.if-letters-letter-ne1.false c.before_at-g.ensures c.requires.1 c.first_match.ensures
+    let first = rw (c.new.ensures.0, c.new.ensures.4) at c.first_match.ensures in
+    leader_test a.log.now a.letters a.r c.letter_at-letter.ensures c.if-letters-letter-ne1.false c.before_at-g.ensures c.requires.1 first

@@ -1,43 +1,28 @@
--- The rules are noted one after the other (Noting).
-use mathlib.Core.Path.{◌≡◌, subst}
-use Prim.Native.Nat.{ℕ}
-use native.Mathlib.Omega.{arith}
+-- The changes of the rules below k are noted.
+use Rattle.std.proofs.Common.{◌∙◌, List, [], ℕ, ◌+◌, ◌<◌, length, set, arith}
+use Rattle.std.proofs.lemmas.Grind.{get_or-set_at}
+use Rattle.std.proofs.lemmas.List.{get_or-set_other, length-set}
+use native.Mathlib.Decide.{ℕ_discrete}
+use Rattle.table.specs.Reading.{rule_in, system_in}
 use Rattle.table.proofs.Layouts.{table_modest}
-use Rattle.lengths.specs.Projections.{ChangesNoted}
-use Rattle.lengths.proofs.Noting.{noted_more, noted_none}
+use Rattle.lengths.specs.Projections.{Change, ChangesNoted, Lengths, length_at}
 use Rattle.lengths.proofs.note_changes.Goals as goal
 
-pub loop-k-init : goal.loop-k-init
-loop-k-init c = (omega arith, noted_none c.args.table.now c.args.changes.now c.requires.1)
+noted_more : (table : List ℕ) (changes : List Lengths) (k : ℕ) (l : Lengths) → ChangesNoted table k changes → k < length changes → Change (system_in table).loc (rule_in table k) (length_at l)
+    → ChangesNoted table (k + 1) (set changes k l)
+noted_more table changes k l before inside change = record {
+  rule = λ m h i. elim (ℕ_discrete m k) [
+    | yes e ↦ rw (get_or-set_at changes k m l [] e inside, e) (change i)
+    | no n ↦ rw (get_or-set_other changes k m l [] n) (before.rule m (omega arith) i)
+  ];
+}
 
-pub rule_change-change-requires : goal.rule_change-change-requires
-rule_change-change-requires c = (c.requires.0, c.loop-k-test.true)
+pub bounds-changes-k : goal.bounds-changes-k
+bounds-changes-k c = omega (arith, (table_modest _ _ c.args.table.now.holds).rules)
 
-pub put_change-requires : goal.put_change-requires
-put_change-requires c =
-    (c.loop-k.invariant.1.size, omega (arith, c.loop-k-test.true, (table_modest c.args.table.now c.args.t c.requires.0).rules))
-
-pub overflow_add-k : goal.overflow_add-k
-overflow_add-k c = omega arith
-
-pub loop-k-smaller : goal.loop-k-smaller
-loop-k-smaller c = omega arith
+pub offset_bounds-changes-k : goal.offset_bounds-changes-k
+offset_bounds-changes-k c = omega (arith, (table_modest _ _ c.args.table.now.holds).rules)
 
 pub loop-k-preserved : goal.loop-k-preserved
 loop-k-preserved c =
-    let m = c.loop-k in
-    rw c.put_change.ensures (
-      omega (arith, c.loop-k-test.true),
-      noted_more m.invariant.1 (omega (arith, c.loop-k-test.true, (table_modest c.args.table.now c.args.t c.requires.0).rules)) c.rule_change-change.result
-          c.rule_change-change.ensures,
-    )
-
-pub shape_of-changes : goal.shape_of-changes
-shape_of-changes c = omega (arith, c.loop-k.invariant.1.size, c.requires.1)
-
-pub returns : goal.returns
-returns c =
-    let m = c.loop-k in
-    let a = c.args in
-    let e : m.k ≡ a.t.rules = omega (arith, c.loop-k-test.false) in
-    subst (λ (n : ℕ). ChangesNoted a.table.now n m.changes) e m.invariant.1
+    (length-set _ _ _ ∙ c.loop-k.invariant.0, noted_more _ _ _ _ c.loop-k.invariant.1 (omega (arith, (table_modest _ _ c.args.table.now.holds).rules)) c.rule_change.ensures)

@@ -1,10 +1,7 @@
--- The rules are noted one after the other (Noting).
-use Prim.Native.Nat.{◌-◌, ◌≤◌}
+-- The changes of the rules below k are noted.
+use Rattle.std.proofs.Common.{◌≡◌, length}
 use Rattle.lengths.specs.Projections.{ChangesNoted}
 use Rattle.lengths.proofs.note_changes.Given as goal
 
 abbrev pub invariant-loop-k : goal.invariant-loop-k
-invariant-loop-k l = (l.k ≤ l.t.rules) × ChangesNoted l.table l.k l.changes
-
-abbrev pub decreases-loop-k : goal.decreases-loop-k
-decreases-loop-k l = l.t.rules - l.k
+invariant-loop-k l = (length l.changes ≡ 200) × ChangesNoted l.table.bytes.now l.k l.changes

@@ -5,8 +5,5 @@ use Rattle.listing.specs.Puts.{Puts}
 use lib.ListN.{length, take}
 use Rattle.listing.proofs.put_rules.Given as goal
 
-abbrev pub invariant-loop-i : goal.invariant-loop-i
-invariant-loop-i l = (l.i ≤ length l.rules) × Puts l.initial.out l.at (spaced (take l.i l.rules)) (6 * l.i) l.end l.out
-
-abbrev pub decreases-loop-i : goal.decreases-loop-i
-decreases-loop-i l = length l.rules - l.i
+abbrev pub invariant-loop-rule : goal.invariant-loop-rule
+invariant-loop-rule l = (l.rule-index ≤ length l.rules) × Puts l.initial.out l.at (spaced (take l.rule-index l.rules)) (6 * l.rule-index) l.end l.out

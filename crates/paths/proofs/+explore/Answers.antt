@@ -1,5 +1,5 @@
 -- The search arrives where the record reads the last letter, leaves a state that was passed, and else searches from there and notes it (Looping).
-use mathlib.Core.Path.{sym, ◌∙◌}
+use mathlib.Core.Path.{refl, sym, ◌∙◌}
 use native.Mathlib.Omega.{arith}
 use Rattle.std.proofs.Common.{ℕ}
 use Rattle.states.proofs.StateSets.{first_at}
@@ -9,52 +9,18 @@ use Rattle.paths.proofs.+explore.Goals.{then-level-width, else-level-width+then-
 
 pub loop-r-init : goal.loop-r-init
 loop-r-init t c =
-    looping_start c.requires.0 c.requires.1 c.letter_of-letter.ensures c.mask_of-mask.ensures c.restricted-g.ensures c.first_try-r.ensures
-
-pub letter_of-letter-requires : goal.letter_of-letter-requires
-letter_of-letter-requires t c = let p = c.requires in omega (arith, p.0.ready.few, p.1)
-
-pub mask_of-mask-requires : goal.mask_of-mask-requires
-mask_of-mask-requires t c = let p = c.requires in omega (arith, p.0.ready.few, p.1)
-
-pub first_try-r-requires : goal.first_try-r-requires
-first_try-r-requires t c = let w = c.requires.0.ready in (w.room, w.ringed, w.freshened, w.low)
-
-pub after_at-requires : goal.after_at-requires
-after_at-requires t c = looping_record c.loop-r.invariant c.loop-r-test.true
-
-pub overflow_add-level : goal.overflow_add-level
-overflow_add-level t c = omega (arith, looping_level c.loop-r.invariant)
+    looping_start c.requires.0 c.requires.1 refl refl c.restricted-g.ensures c.first_try-r.ensures
 
 pub arrive-total-requires : goal.arrive-total-requires
 arrive-total-requires t c =
     let o = c.loop-r.invariant in
     last_begins o (turning o c.loop-r-test.true c.after_at.ensures c.merged-next.ensures c.is_fresh-new.ensures) c.if-level-width.true
 
-pub overflow_add-level-else-level-width : goal.overflow_add-level-else-level-width
-overflow_add-level-else-level-width t c = omega (arith, looping_level c.loop-r.invariant)
-
-pub is_passed-requires : goal.is_passed-requires
-is_passed-requires t c =
-    let o = c.loop-r.invariant in
-    next_passable o (turning o c.loop-r-test.true c.after_at.ensures c.merged-next.ensures c.is_fresh-new.ensures) c.if-level-width.false c.number-x.ensures.1
-
-pub longer-on-requires : goal.longer-on-requires
-longer-on-requires t c =
-    let o = c.loop-r.invariant in
-    next_lengthens o (turning o c.loop-r-test.true c.after_at.ensures c.merged-next.ensures c.is_fresh-new.ensures)
-
 pub explore-total-requires : goal.explore-total-requires
 explore-total-requires t c =
     let o = c.loop-r.invariant in
     let here = turning o c.loop-r-test.true c.after_at.ensures c.merged-next.ensures c.is_fresh-new.ensures in
     (omega (arith, c.decreases, o.more), follow_begins o here c.if-level-width.false c.longer-on.ensures)
-
-pub pass-requires : goal.pass-requires
-pass-requires t c =
-    let o = c.loop-r.invariant in
-    let here = turning o c.loop-r-test.true c.after_at.ensures c.merged-next.ensures c.is_fresh-new.ensures in
-    follow_passable o here c.if-level-width.false c.longer-on.ensures c.explore-total.ensures c.number-x.ensures.1
 
 -- the three ways of a turn meet
 turned : (t : ℕ) (c : goal.Joined-level-width t) → Turned c.loop-r.invariant c.merged-next.result c.is_fresh-new.result c.if-level-width.total c.if-level-width.log c.if-level-width.scratch
@@ -69,24 +35,25 @@ turned t c =
           (passed_turned o here w.if-level-width.false w.number-x.ensures.0 (sym w.is_passed.ensures ∙ w.if-not-is_passed.false))
     ]
 
+pub new-requires : goal.new-requires
+new-requires t c =
+    let o = c.loop-r.invariant in
+    let next = looping_next o (turning o c.loop-r-test.true c.after_at.ensures c.merged-next.ensures c.is_fresh-new.ensures) (turned t c) in
+    (next.0, next.1)
+
 pub next_match-r-requires : goal.next_match-r-requires
 next_match-r-requires t c =
     let o = c.loop-r.invariant in
-    looping_next o (turning o c.loop-r-test.true c.after_at.ensures c.merged-next.ensures c.is_fresh-new.ensures) (turned t c)
+    let next = looping_next o (turning o c.loop-r-test.true c.after_at.ensures c.merged-next.ensures c.is_fresh-new.ensures) (turned t c.before.before) in
+    rw (c.new.ensures.0, c.new.ensures.4) (next.2, next.3)
 
 pub loop-r-smaller : goal.loop-r-smaller
-loop-r-smaller t c = omega (arith, (first_at _ _ _ _ c.next_match-r.ensures).low, c.loop-r-test.true)
+loop-r-smaller t c = omega (arith, (first_at _ _ _ _ (rw (c.new.ensures.0, c.new.ensures.4) at c.next_match-r.ensures)).low, c.loop-r-test.true)
 
 pub loop-r-preserved : goal.loop-r-preserved
 loop-r-preserved t c =
     let o = c.loop-r.invariant in
-    looping_again o (turning o c.loop-r-test.true c.after_at.ensures c.merged-next.ensures c.is_fresh-new.ensures) (turned t c.before) c.next_match-r.ensures
-
-pub shape_of-log : goal.shape_of-log
-shape_of-log t c = looping_log c.loop-r.invariant
-
-pub shape_of-scratch : goal.shape_of-scratch
-shape_of-scratch t c = c.loop-r.invariant.going.scratch_length
+    looping_again o (turning o c.loop-r-test.true c.after_at.ensures c.merged-next.ensures c.is_fresh-new.ensures) (turned t c.before.before.before) (rw (c.new.ensures.0, c.new.ensures.4) at c.next_match-r.ensures)
 
 pub returns : goal.returns
 returns t c = looping_end c.loop-r.invariant c.loop-r-test.false

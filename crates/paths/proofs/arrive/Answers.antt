@@ -5,10 +5,6 @@ use Rattle.paths.specs.Jobs.{stored_end}
 use Rattle.paths.proofs.Arriving.{arrived_known, arrived_new, arrived_stale}
 use Rattle.paths.proofs.arrive.Goals as goal
 
-pub returns-then-not-found : goal.returns-then-not-found
-returns-then-not-found c =
-    arrived_stale c.requires.0 _ (c.if-not-found.true)
-
 pub returns-then-is_known : goal.returns-then-is_known
 returns-then-is_known c =
     rw (c.if-not-found.false)

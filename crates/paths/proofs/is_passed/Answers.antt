@@ -13,14 +13,15 @@ first s m n x b e h = ap (λ (k : ℕ). member s (k + x)) (sym e) ∙ sym h
 
 pub returns-then-contains : goal.returns-then-contains
 unfolding is_passed
-returns-then-contains c = rw (first _ _ _ _ _ c.slot.ensures.0 c.contains.ensures ∙ c.if-contains.true) refl
+returns-then-contains c = rw (first _ _ _ _ _ c.slot.ensures.0 c.contains.ensures ∙ c.if-contains.true) c.if-contains.true
 
-pub returns-then-found : goal.returns-then-found
+pub returns-then-not-found : goal.returns-then-not-found
 unfolding is_passed
-returns-then-found c = rw (c.if-found.true, first _ _ _ _ _ c.slot.ensures.0 c.contains.ensures ∙ c.if-contains.false) refl
+returns-then-not-found c =
+    rw (c.if-not-found.true, first _ _ _ _ _ c.slot.ensures.0 c.contains.ensures ∙ c.if-contains.false)
+    (sym (first _ _ _ _ _ c.slot-then-not-found.ensures.0 c.contains-then-not-found.ensures))
 
-pub returns : goal.returns
+pub returns-else-not-found : goal.returns-else-not-found
 unfolding is_passed
-returns c =
-    let a = c.args in
-    rw (first _ _ _ _ _ c.slot.ensures.0 c.contains.ensures ∙ c.if-contains.false) (c.contains-2.ensures ∙ ap (λ (n : ℕ). member a.scratch.now (n + a.x)) c.slot-2.ensures.0)
+returns-else-not-found c =
+    rw (c.if-not-found.false, first _ _ _ _ _ c.slot.ensures.0 c.contains.ensures ∙ c.if-contains.false) refl

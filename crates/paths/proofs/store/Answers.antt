@@ -16,7 +16,7 @@ returns-then-count-job c =
           ∙ ap₂ (λ (b g : Group). with_entry a.log.now a.count (record { letter = a.job.letter; before = b; after = g; round = a.job.round; rule = a.job.rule; path = a.trail.places; steps = a.trail.steps })) c.unpack.ensures c.unpack-then-count-job.ensures),
     )
 
-pub returns : goal.returns
+pub returns-else-count-job : goal.returns-else-count-job
 unfolding stored_end
-returns c =
+returns-else-count-job c =
     (omega (arith, c.if-count-job.false, c.requires.2), rw (le-ltb _ _ c.if-count-job.false) refl)

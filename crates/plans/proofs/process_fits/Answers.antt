@@ -1,45 +1,22 @@
--- The windows of the process so far fit.
-use mathlib.Core.Path.{sym, ◌∙◌}
-use borrow.Author.Tests.{lt-leb, le-leb}
-use Rattle.plan_model.specs.Hours.{window_places}
-use Rattle.plans.proofs.Checks.{passing_start, passing_turn, passing_fails, passing_end}
+-- The test is asked of each window that counts.
+use Rattle.std.proofs.Common.{ℕ, ◌≡◌, true, false, rules, tests}
+use mathlib.Core.Path.{ap, ◌∙◌}
 use native.Mathlib.Omega.{arith}
+use lib.ListN.{take}
+use Rattle.std.proofs.lemmas.List.{get_or-take, length-take-le}
+use borrow.Author.Tests.{le-leb}
+use Rattle.plan_model.specs.Hours.{window_fits}
+use Rattle.std.proofs.lemmas.Iterator.{cases_from_all, YieldsList-from_slice}
+use Rattle.plans.proofs.Checks.{all_below_answers}
 use Rattle.plans.proofs.process_fits.Goals as goal
 
-pub wide-n-requires : goal.wide-n-requires
-wide-n-requires c = tt
-
-pub returns-then-n-gt-WINDOW_PLACES : goal.returns-then-n-gt-WINDOW_PLACES
-returns-then-n-gt-WINDOW_PLACES c = rw (lt-leb c.args.count window_places (omega (arith, c.if-n-gt-WINDOW_PLACES.true, c.wide-n.ensures.0)))
-
-pub loop-k-init : goal.loop-k-init
-loop-k-init c = passing_start
-
-pub offset_bounds-windows-k : goal.offset_bounds-windows-k
-offset_bounds-windows-k c = omega arith
-
-pub bounds-windows-k : goal.bounds-windows-k
-bounds-windows-k c = omega arith
-
-pub window_fits-requires : goal.window_fits-requires
-window_fits-requires c = tt
-
-pub returns-else-window_fits : goal.returns-else-window_fits
-returns-else-window_fits c =
-    rw (le-leb c.args.count window_places (omega (arith, c.wide-n.ensures.0, c.if-n-gt-WINDOW_PLACES.false)))
-    (passing_fails c.loop-k.invariant (omega (arith, c.wide-n.ensures.0, c.loop-k-test.true)) (sym c.window_fits.ensures ∙ c.if-window_fits.false))
-
-pub overflow_add-k : goal.overflow_add-k
-overflow_add-k c = omega arith
-
-pub loop-k-smaller : goal.loop-k-smaller
-loop-k-smaller c = omega arith
-
-pub loop-k-preserved : goal.loop-k-preserved
-loop-k-preserved c =
-    passing_turn c.loop-k.invariant (omega (arith, c.wide-n.ensures.0, c.loop-k-test.true)) (sym c.window_fits.ensures ∙ c.if-window_fits.true)
-
-pub returns : goal.returns
-returns c =
-    rw (le-leb c.args.count window_places (omega (arith, c.wide-n.ensures.0, c.if-n-gt-WINDOW_PLACES.false)))
-    (passing_end c.loop-k.invariant (omega (arith, c.wide-n.ensures.0, c.loop-k-test.false)))
+pub returns-then-n-le-WINDOW_PLACES : goal.returns-then-n-le-WINDOW_PLACES
+returns-then-n-le-WINDOW_PLACES c =
+    let windows = c.args.windows.now in
+    let n = c.args.count in
+    let l = c.from-n.ensures in
+    let m = c.if-n-le-WINDOW_PLACES.true in
+    let r = c.iter.ensures.rest in
+    rw (le-leb n 14 (omega arith))
+    (all_below_answers window_fits _ (record { opens = 0; closes = 0 }) c.all.result (take n windows) n (length-take-le n windows (omega arith)) (λ k h. ap window_fits (get_or-take n windows k _ h))
+    (cases_from_all _ _ _ (λ x. window_fits x ≡ true) (λ x. window_fits x ≡ false) c.all.ensures.ran (YieldsList-from_slice (take n windows) (r ∙ ap (λ (k : ℕ). take k windows) l)) (λ x q k. search (rules, tests)) (λ x q k. search (rules, tests))))

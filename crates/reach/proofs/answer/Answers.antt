@@ -1,19 +1,21 @@
 -- The answer call: its table is refused, or accepted and answered.
 use mathlib.Core.Path.{sym, ◌∙◌}
-use Rattle.reach.proofs.Answering.{answers_refused, answer_demands}
+use Rattle.std.proofs.lemmas.Result.{err_from_is_err_and}
+use Rattle.reach.proofs.Answering.{answer_demands, table_refused}
 use Rattle.reach.proofs.answer.Goals as goal
 
-pub answer_table-requires : goal.answer_table-requires
-answer_table-requires c = record { reading = sym c.read.ensures ∙ c.in-Accepted.is }
-
-pub returns-in-Refused : goal.returns-in-Refused
-returns-in-Refused c =
+pub returns-in_err-counts : goal.returns-in_err-counts
+returns-in_err-counts c =
     let a = c.args in
-    let d = answer_demands a.table.now a.log.now a.scratch.now (answers_refused a.table.now a.log.now a.scratch.now (sym c.read.ensures ∙ c.in-Refused.is)) in
-    record { demand_1 = d.0; demand_2 = d.1.0; demand_3 = d.1.1 }
+    let d = answer_demands a.table.now a.log.now a.scratch.now (table_refused a.table.now a.log.now a.scratch.now _ (sym c.read.ensures ∙ c.in_err-counts.was)).answer in
+    let given = err_from_is_err_and c.from_residual.result c.from_residual.ensures.1 in
+    rw (given.1, given.2) record { demand_1 = d.0; demand_2 = d.1.0; demand_3 = d.1.1 }
 
-pub returns-in-Accepted : goal.returns-in-Accepted
-returns-in-Accepted c =
+pub invariant_of-accepted : goal.invariant_of-accepted
+invariant_of-accepted c = record { holds = record { reading = sym c.read.ensures ∙ c.in_ok-counts.was } }
+
+pub returns : goal.returns
+returns c =
     let a = c.args in
     let d = answer_demands a.table.now a.log.now a.scratch.now c.answer_table.ensures in
     record { demand_1 = d.0; demand_2 = d.1.0; demand_3 = d.1.1 }

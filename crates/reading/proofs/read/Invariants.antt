@@ -4,8 +4,8 @@ use lib.ListN.{length}
 use Rattle.reading.proofs.Marks.{Filtering}
 use Rattle.reading.proofs.read.Given as goal
 
-abbrev pub invariant-loop-n : goal.invariant-loop-n
-invariant-loop-n l = Filtering l.bytes l.c l.seen
+abbrev pub invariant-loop-next : goal.invariant-loop-next
+invariant-loop-next l = Filtering l.bytes l.c l.seen
 
-abbrev pub decreases-loop-n : goal.decreases-loop-n
-decreases-loop-n l = length l.bytes - l.c.at
+abbrev pub decreases-loop-next : goal.decreases-loop-next
+decreases-loop-next l = length l.bytes - l.c.at

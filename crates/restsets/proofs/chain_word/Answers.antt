@@ -3,7 +3,7 @@ use native.Mathlib.Omega.{arith}
 use Rattle.restsets.proofs.chain_word.Goals as goal
 
 pub chain_leaders-requires : goal.chain_leaders-requires
-chain_leaders-requires c = (c.requires.1, omega (arith, c.requires.2))
+chain_leaders-requires c = (c.requires.0, omega (arith, c.requires.1))
 
 pub shape_of-scratch : goal.shape_of-scratch
 shape_of-scratch c = c.chain_leaders.ensures.outside.size
@@ -17,6 +17,6 @@ returns c =
         letters = c.word_letters-letters.result;
         inside = c.word_letters-letters.ensures;
         chained = chained.chained;
-        room = omega (arith, c.requires.2, chained.outside.size);
+        room = omega (arith, c.requires.1, chained.outside.size);
       };
     }

@@ -7,13 +7,10 @@ pub loop-i-init : goal.loop-i-init
 loop-i-init c = (omega arith, λ i h. absurd (omega arith))
 
 pub letter_at-a-requires : goal.letter_at-a-requires
-letter_at-a-requires c = (c.requires, c.loop-i-test.true)
+letter_at-a-requires c = c.loop-i-test.true
 
 pub overflow_shl-letters : goal.overflow_shl-letters
 overflow_shl-letters c = omega arith
-
-pub loop-i-smaller : goal.loop-i-smaller
-loop-i-smaller c = omega (arith, c.loop-i-test.true)
 
 pub loop-i-preserved : goal.loop-i-preserved
 loop-i-preserved c =

@@ -22,11 +22,11 @@ attempt_start-requires c = c.requires.0
 
 pub returns-in-Found : goal.returns-in-Found
 returns-in-Found c =
-    let a = c.args in attempt_found (shown a.table.now a.t a.log.now a.c _ Tried.Found c.in-Found.is c.attempt_start.ensures.shown)
+    let a = c.args in attempt_found (shown a.table.now.bytes.now a.table.now.counts a.log.now a.c _ Tried.Found c.in-Found.is c.attempt_start.ensures.shown)
 
 pub returns-in-Nothing : goal.returns-in-Nothing
 returns-in-Nothing c =
-    let a = c.args in shown a.table.now a.t a.log.now a.c _ Tried.Nothing c.in-Nothing.is c.attempt_start.ensures.shown
+    let a = c.args in shown a.table.now.bytes.now a.table.now.counts a.log.now a.c _ Tried.Nothing c.in-Nothing.is c.attempt_start.ensures.shown
 
 pub has_path_by_sets-requires : goal.has_path_by_sets-requires
 has_path_by_sets-requires c =

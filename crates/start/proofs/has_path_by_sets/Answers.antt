@@ -5,7 +5,7 @@ use Rattle.start.proofs.Deciding.{begun_led, sets_none}
 use Rattle.start.proofs.has_path_by_sets.Goals as goal
 
 pub chain_word-requires : goal.chain_word-requires
-chain_word-requires c = let p = c.requires.0 in (p.scoped.some.1.holds, p.scoped.linked, p.room)
+chain_word-requires c = let p = c.requires.0 in (p.scoped.linked, p.room)
 
 pub fill_sets-requires : goal.fill_sets-requires
 fill_sets-requires c =
@@ -14,7 +14,7 @@ fill_sets-requires c =
 pub is_accepted-requires : goal.is_accepted-requires
 is_accepted-requires c =
     let ready = c.fill_sets.ensures in
-    (ready.scoped.some.1.holds, omega (arith, ready.scoped.linked.room.room))
+    omega (arith, ready.scoped.linked.room.room)
 
 pub write_path-requires : goal.write_path-requires
 write_path-requires c =

@@ -14,4 +14,4 @@ returns c =
     let a = c.args in
     c.contains.ensures
     ∙ ap₂ (λ (l : List ℕ) (x : ℕ). member l x) (set_part a.scratch.now 0)
-    (c.number.ensures.0 ∙ ap state_number (c.zeroed.ensures ∙ ap (zeroed_group (processes_of_table a.t)) c.start_group-g.ensures))
+    (c.number.ensures.0 ∙ ap state_number (c.zeroed.ensures ∙ ap (zeroed_group (processes_of_table a.table.now.counts)) c.start_group-g.ensures))

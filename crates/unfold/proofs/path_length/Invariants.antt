@@ -1,11 +1,6 @@
 -- The places before the first that has none are counted (Pushing).
-use Prim.Native.Nat.{◌-◌}
-use Rattle.model.specs.Tables.{written_places}
 use Rattle.unfold.proofs.Pushing.{Measuring}
 use Rattle.unfold.proofs.path_length.Given as goal
 
 abbrev pub invariant-loop-n : goal.invariant-loop-n
 invariant-loop-n l = Measuring l.log l.x l.n
-
-abbrev pub decreases-loop-n : goal.decreases-loop-n
-decreases-loop-n l = written_places - l.n

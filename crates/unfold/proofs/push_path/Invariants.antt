@@ -4,6 +4,3 @@ use Rattle.unfold.proofs.push_path.Given as goal
 
 abbrev pub invariant-loop-j : goal.invariant-loop-j
 invariant-loop-j l = Pushing l.log l.initial.scratch l.top l.x l.n l.j l.scratch l.height
-
-abbrev pub decreases-loop-j : goal.decreases-loop-j
-decreases-loop-j l = l.j

@@ -7,7 +7,7 @@ use Rattle.unfold.proofs.Working.{Working}
 use Rattle.unfold.proofs.work_off.Given as goal
 
 abbrev pub invariant-loop-w : goal.invariant-loop-w
-invariant-loop-w l = Working l.table (length l.initial.scratch) (stack_of l.initial.scratch l.top) l.initial.page l.scratch l.page l.w
+invariant-loop-w l = Working l.table.bytes.now (length l.initial.scratch) (stack_of l.initial.scratch l.top) l.initial.page l.scratch l.page l.w
 
 abbrev pub decreases-loop-w : goal.decreases-loop-w
 decreases-loop-w l = (1 + written_places) * (length l.initial.page - l.w.rules) + l.w.top

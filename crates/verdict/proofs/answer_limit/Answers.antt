@@ -8,6 +8,6 @@ use Rattle.verdict.proofs.answer_limit.Goals as goal
 pub returns : goal.returns
 returns c =
     let w = c.requires in (
-      c.stated_verdict.ensures ∙ rw c.figure.ensures (verdict_stated w (c.find-path.ensures _ w.log_of)),
+      c.stated_verdict.ensures ∙ verdict_stated w (c.find-path.ensures _ w.log_of),
       c.clear.ensures ∙ ap (λ (n : ℕ). replicate n 0) c.find-path.auto.scratch,
     )

@@ -1,15 +1,14 @@
 -- The verdict by what the search gave.
-use Rattle.verdict.specs.Verdicts.{stated}
 use mathlib.Core.Path.{ap, sym}
-use Rattle.start.specs.declared.StartPath.{StartPath}
+use Prim.Native.Nat.{ℕ}
+use Rattle.std.specs.Prelude.{Option as Optional}
+use Rattle.verdict.specs.Verdicts.{stated}
 use Rattle.verdict.proofs.stated_verdict.Goals as goal
 
-pub returns-in-NoPath : goal.returns-in-NoPath
+pub returns-in-None : goal.returns-in-None
 unfolding stated
-returns-in-NoPath c = let a = c.args in sym (ap (λ (p : StartPath). stated p a.transitions a.rounds) c.in-NoPath.is)
+returns-in-None c = let a = c.args in sym (ap (λ (p : Optional ℕ). stated p a.transitions a.rounds) c.in-None.is)
 
-pub returns-in-Found : goal.returns-in-Found
+pub returns-in-Some : goal.returns-in-Some
 unfolding stated
-returns-in-Found c =
-    let a = c.args in
-    sym (ap (λ (p : StartPath). stated p a.transitions a.rounds) c.in-Found.is)
+returns-in-Some c = let a = c.args in sym (ap (λ (p : Optional ℕ). stated p a.transitions a.rounds) c.in-Some.is)

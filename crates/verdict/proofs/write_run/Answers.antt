@@ -1,5 +1,5 @@
 -- The run of a path is written to the page, with its figures.
-use mathlib.Core.Path.{sym, ◌∙◌}
+use mathlib.Core.Path.{refl, sym, ◌∙◌}
 use native.Mathlib.Omega.{arith}
 use lib.ListN.{length}
 use Rattle.verdict.proofs.Verdicts.{short_fits, run_long, run_unfoldable, run_written}
@@ -17,9 +17,9 @@ unfold-peak-requires c =
 pub clear_numbers_from-requires : goal.clear_numbers_from-requires
 clear_numbers_from-requires c =
     let a = c.args in
-    omega (arith, c.wide_four.ensures.0, c.unfold-peak.auto.page, (short_fits a.steps (length a.page.now) (sym c.is_long.ensures ∙ c.if-is_long.false)).0)
+    omega (arith, c.unfold-peak.auto.page, (short_fits a.steps (length a.page.now) (sym c.is_long.ensures ∙ c.if-is_long.false)).0)
 
 pub returns : goal.returns
 returns c =
     run_written c.requires (sym c.is_long.ensures ∙ c.if-is_long.false) c.unfold-peak.new.scratch c.unfold-peak.ensures
-    c.wide_four.ensures.0 c.figure.ensures c.clear_numbers_from.ensures c.clear-2.ensures c.unfold-peak.auto.scratch
+    refl refl c.clear_numbers_from.ensures c.clear-2.ensures c.unfold-peak.auto.scratch

@@ -2,21 +2,24 @@
 use mathlib.Core.Path.{◌∙◌, ap, ap₂, sym}
 use mathlib.Core.List.{List, ◌∷◌, ◌++◌}
 use Prim.Native.Nat.{ℕ}
-use Rattle.model.specs.declared.Walked.{Walked}
+use Rattle.std.specs.Prelude.{Result}
+use Rattle.model.specs.declared.Ending.{Ending}
+use Rattle.model.specs.declared.Refusal.{Refusal}
 use Rattle.model.specs.Calls.{walk_figures}
 use Rattle.model.proofs.Lists.{by_places}
 use Rattle.walk.proofs.put_figures.Goals as goal
 
-pub returns-in-Ended : goal.returns-in-Ended
-returns-in-Ended c =
+pub returns-in-Ok : goal.returns-in-Ok
+returns-in-Ok c =
     let a = c.args in
-    let g = c.in-Ended in
-    ap₂ (λ (n : ℕ) (counts : List ℕ). 0 ∷ 0 ∷ n ∷ g.length ∷ g.states.s0 ∷ g.states.s1 ∷ g.states.s2 ∷ g.states.s3 ∷ counts) c.watched_figure.ensures (by_places 0 4 a.counts c.requires)
-    ∙ sym (ap (λ (x : Walked). walk_figures x ++ a.counts) g.is)
+    let g = c.in-Ok.end in
+    rw (c.from.ensures, c.from-in-Ok.ensures, c.from-in-Ok-2.ensures, c.from-in-Ok-3.ensures)
+    (ap₂ (λ (n : ℕ) (counts : List ℕ). 0 ∷ 0 ∷ n ∷ g.length ∷ g.states.s0 ∷ g.states.s1 ∷ g.states.s2 ∷ g.states.s3 ∷ counts) c.watched_figure.ensures (by_places 0 4 a.counts c.requires)
+    ∙ sym (ap (λ (x : Result Ending Refusal). walk_figures x ++ a.counts) c.in-Ok.is))
 
-pub returns-in-Refused : goal.returns-in-Refused
-returns-in-Refused c =
+pub returns-in-Err : goal.returns-in-Err
+returns-in-Err c =
     let a = c.args in
-    let g = c.in-Refused in
-    ap (λ (counts : List ℕ). g.number ∷ g.place ∷ 0 ∷ 0 ∷ 0 ∷ 0 ∷ 0 ∷ 0 ∷ counts) (by_places 0 4 a.counts c.requires)
-    ∙ sym (ap (λ (x : Walked). walk_figures x ++ a.counts) g.is)
+    let g = c.in-Err.refusal in
+    rw c.from-in-Err.ensures (ap (λ (counts : List ℕ). g.number ∷ g.place ∷ 0 ∷ 0 ∷ 0 ∷ 0 ∷ 0 ∷ 0 ∷ counts) (by_places 0 4 a.counts c.requires)
+    ∙ sym (ap (λ (x : Result Ending Refusal). walk_figures x ++ a.counts) c.in-Err.is))

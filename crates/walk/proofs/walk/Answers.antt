@@ -4,7 +4,9 @@ use mathlib.Core.List.{List, ◌++◌}
 use Prim.Native.Nat.{ℕ, ◌+◌, ◌*◌, ◌-◌}
 use native.Mathlib.Omega.{arith}
 use lib.ListN.{drop, length, length-drop, take}
-use Rattle.model.specs.declared.Walked.{Walked}
+use Rattle.std.specs.Prelude.{Result}
+use Rattle.model.specs.declared.Ending.{Ending}
+use Rattle.model.specs.declared.Refusal.{Refusal}
 use Rattle.model.specs.Calls.{walk_figures}
 use Rattle.buffers.proofs.Parts.{part_rest}
 use Rattle.walk.proofs.Outcomes.{walk_told}
@@ -13,14 +15,14 @@ use Rattle.walk.proofs.walk.Goals as goal
 pub returns : goal.returns
 returns c =
     let a = c.args in
-    let halted = c.walk_table-halted in
+    let halted = c.halt-halted in
     let h = halted.ensures in
     let list = a.list.now in
     let from = halted.result.from in
     let part = take (length list - from) (drop from list) in
     let behind : length list - length part ≡ from = omega (arith, h.inside, ap length (part_rest list from), length-drop from list) in
     let place : from * 2 + a.list.ref_ptr.1 ≡ a.list.ref_ptr.1 + (length list - length part) * 2 = omega arith in
-    let f = c.put_figures.ensures ∙ ap₂ (λ (x : Walked) (counts : List ℕ). walk_figures x ++ counts) h.answer h.counts in
+    let f = c.put_figures.ensures ∙ ap₂ (λ (x : Result Ending Refusal) (counts : List ℕ). walk_figures x ++ counts) h.answer h.counts in
     let told = walk_told a.table.now list a.pile.now a.scratch.now _ _ f h.pile in
     record {
       demand_1 = record { figures = f; rest = part_rest list from ∙ h.rest; pile = h.pile; scratch = h.scratch };

@@ -2,14 +2,14 @@
 use Rattle.wordsets.proofs.RestBits.{one_bit, first_byte, low_bits, all_bits}
 use Rattle.wordsets.proofs.rest_bits.Goals as goal
 
-pub returns-then-third : goal.returns-then-third
-returns-then-third c = rw (c.if-second.true, c.if-third.true) one_bit
+pub returns-in-true-true : goal.returns-in-true-true
+returns-in-true-true c = rw (c.in-true-true.is-0, c.in-true-true.is-1) one_bit
 
-pub returns-then-second : goal.returns-then-second
-returns-then-second c = rw (c.if-second.true, c.if-third.false) first_byte
+pub returns-in-true-false : goal.returns-in-true-false
+returns-in-true-false c = rw (c.in-true-false.is-0, c.in-true-false.is-1) first_byte
 
-pub returns-then-third-2 : goal.returns-then-third-2
-returns-then-third-2 c = rw (c.if-second.false, c.if-third-2.true) low_bits
+pub returns-in-false-true : goal.returns-in-false-true
+returns-in-false-true c = rw (c.in-false-true.is-0, c.in-false-true.is-1) low_bits
 
-pub returns : goal.returns
-returns c = rw (c.if-second.false, c.if-third-2.false) all_bits
+pub returns-in-false-false : goal.returns-in-false-false
+returns-in-false-false c = rw (c.in-false-false.is-0, c.in-false-false.is-1) all_bits

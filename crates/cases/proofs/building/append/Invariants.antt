@@ -4,6 +4,3 @@ use Rattle.cases.proofs.building.append.Given as goal
 
 abbrev pub invariant-loop-j : goal.invariant-loop-j
 invariant-loop-j l = (l.j ≤ length l.item) × (l.at ≤ length l.out) × (length l.out ≡ length l.initial.out)
-
-abbrev pub decreases-loop-j : goal.decreases-loop-j
-decreases-loop-j l = length l.item - l.j

@@ -1,20 +1,24 @@
--- A table that is read is refused, or a desk is set up on it (DeskAnswers).
-use mathlib.Core.Path.{sym, ◌∙◌}
-use Rattle.desk_model.specs.declared.Told.TheVariants.{Done, Refused}
-use Rattle.desk.proofs.Opening.{opens_done, opens_refused}
-use Rattle.exports.proofs.DeskAnswers.{opens_to}
+-- A refused table gives its number, which is not 0, and no desk.
+use mathlib.Core.Path.{◌≡◌, ap, subst, sym, ◌∙◌}
+use native.Mathlib.Omega.{arith}
+use Rattle.model.specs.Tables.{read, refused}
+use Rattle.model.proofs.RefusalNumbers.{Numbered9, read_numbered}
+use Rattle.table.proofs.Readings.{refused_reading}
+use Rattle.desk_model.specs.Desks.{open_told, told_place, told_refusal}
+use Rattle.desk.specs.Promises.{Good}
+use Rattle.desk.proofs.Opening.{no_desk_bad}
 use Rattle.exports.proofs.desks.roskavel_desk_open.Goals as goal
 
-pub returns-in-Refused : goal.returns-in-Refused
-returns-in-Refused c =
-    let g = c.in-Refused in
-    let opens = opens_refused c.args.table.now g.number g.place c.no_desk-desk.result (sym g.is ∙ c.read.ensures) c.no_desk-desk.ensures in
-    opens_to c.args.table.now (Refused g.number g.place) c.no_desk-desk.result _ _ opens c.number_of.ensures c.place_of.ensures
-
-pub set_up-desk-requires : goal.set_up-desk-requires
-set_up-desk-requires c = record { reading = sym c.read.ensures ∙ c.in-Accepted.is }
-
-pub returns-in-Accepted : goal.returns-in-Accepted
-returns-in-Accepted c =
-    let opens = opens_done c.args.table.now c.in-Accepted.t c.set_up-desk.result (record { reading = sym c.read.ensures ∙ c.in-Accepted.is }) c.set_up-desk.ensures in
-    opens_to c.args.table.now Done c.set_up-desk.result _ _ opens c.number_of-in-Accepted.ensures c.place_of-in-Accepted.ensures
+pub returns-in-Err : goal.returns-in-Err
+returns-in-Err c =
+    let table = c.args.table.now in
+    let r = c.in-Err.refusal in
+    let is : read table ≡ refused r.number r.place = refused_reading (read table) r (sym c.read.ensures ∙ c.in-Err.is) in
+    let told = sym (ap open_told is) in
+    let numbers : Numbered9 (refused r.number r.place) = subst Numbered9 is (read_numbered table) in
+    record {
+      number = ap told_refusal told;
+      place = ap told_place told;
+      desk = λ z. absurd (omega (arith, numbers.0, z));
+      without_desk = λ z. (c.no_desk.ensures, λ g. no_desk_bad (subst Good c.no_desk.ensures g));
+    }

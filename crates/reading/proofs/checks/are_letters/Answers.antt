@@ -1,29 +1,11 @@
--- The bytes so far are letters (Scans).
-use mathlib.Core.Path.{refl}
-use native.Mathlib.Omega.{arith}
-use borrow.Author.Tests.{lt-ltb, le-ltb}
-use Rattle.table.proofs.Scans.{tested_more, tested_fails, tested_end}
+-- The test is asked of each byte.
+use Rattle.std.proofs.Common.{ℕ, ◌≡◌, true, false, ltb, rules, tests}
+use Rattle.std.proofs.lemmas.Iterator.{cases_from_all, YieldsList-from_slice}
+use Rattle.model.proofs.SliceTests.{all_answers}
 use Rattle.reading.proofs.checks.are_letters.Goals as goal
 
-pub loop-j-init : goal.loop-j-init
-loop-j-init c = record { within = omega arith; passed = refl }
-
-pub bounds-part-j : goal.bounds-part-j
-bounds-part-j c = omega arith
-
-pub returns-else-wide-letters : goal.returns-else-wide-letters
-returns-else-wide-letters c =
-    tested_fails c.loop-j.invariant 0 c.loop-j-test.true (rw (← c.wide.ensures.0) (le-ltb _ _ c.if-wide-letters.false))
-
-pub overflow_add-j : goal.overflow_add-j
-overflow_add-j c = omega arith
-
-pub loop-j-smaller : goal.loop-j-smaller
-loop-j-smaller c = omega arith
-
-pub loop-j-preserved : goal.loop-j-preserved
-loop-j-preserved c =
-    tested_more c.loop-j.invariant 0 c.loop-j-test.true (rw (← c.wide.ensures.0) (lt-ltb _ _ c.if-wide-letters.true))
-
 pub returns : goal.returns
-returns c = tested_end c.loop-j.invariant c.loop-j-test.false
+returns c =
+    let test : ℕ → _ = λ a. ltb a c.args.letters in
+    all_answers test _ _ (cases_from_all _ _ _ (λ x. test x ≡ true) (λ x. test x ≡ false) c.all.ensures.ran (YieldsList-from_slice c.args.part.now cc)
+    (λ x q k. search (rules, tests)) (λ x q k. search (rules, tests)))

@@ -1,43 +1,21 @@
--- The processes so far have at most 4 states (Scans).
-use mathlib.Core.Bool.{false, true}
-use mathlib.Core.List.{List}
-use mathlib.Core.Path.{◌≡◌, refl, subst}
-use Prim.Native.Nat.{ℕ}
-use native.Mathlib.Omega.{arith}
-use lib.Dec.{leb}
-use lib.ListN.{length}
-use borrow.Author.Tests.{le-leb, lt-leb}
-use Rattle.model.specs.Tables.{absent, is_narrow}
-use Rattle.table.specs.Places.{bodies_at}
+-- The test is asked of each process.
+use Rattle.std.proofs.Common.{ℕ, ◌≡◌, ◌∙◌, ap, refl, sym, true, false, Bool, leb, get_or, arith, rules, tests}
+use Rattle.std.specs.List.{range_with_len}
+use Rattle.std.proofs.lemmas.Iterator.{cases_from_all, YieldsList-from_range}
+use Rattle.model.proofs.SliceTests.{all_answers}
+use Rattle.model.specs.Lists.{all_of}
+use Rattle.model.specs.Tables.{absent, byte_of, is_narrow}
 use Rattle.table.proofs.Bodies.{bodies_length}
-use Rattle.table.proofs.Scans.{tested_more, tested_fails, tested_end}
+use Rattle.table.specs.Places.{processes_in}
+use Rattle.reading.proofs.Ranges.{all_range}
 use Rattle.reading.proofs.checks.is_narrow.Goals as goal
-
-size : (bytes : List ℕ) (n : ℕ) → length (bodies_at bytes 2 0 n) ≡ n
-size bytes n = bodies_length bytes 2 0 n
-
-pub loop-i-init : goal.loop-i-init
-loop-i-init c = record { within = omega arith; passed = refl }
-
-pub returns-then-bound_of-gt4 : goal.returns-then-bound_of-gt4
-unfolding is_narrow
-returns-then-bound_of-gt4 c =
-    tested_fails c.loop-i.invariant absent (omega (arith, c.loop-i-test.true, size c.args.bytes.now c.args.t.processes))
-    (subst (λ (n : ℕ). leb n 4 ≡ false) c.bound_of.ensures (lt-leb _ _ c.if-bound_of-gt4.true))
-
-pub overflow_add-i : goal.overflow_add-i
-overflow_add-i c = omega arith
-
-pub loop-i-smaller : goal.loop-i-smaller
-loop-i-smaller c =
-    omega (arith, c.loop-i-test.true, size c.args.bytes.now c.args.t.processes)
-
-pub loop-i-preserved : goal.loop-i-preserved
-loop-i-preserved c =
-    tested_more c.loop-i.invariant absent (omega (arith, c.loop-i-test.true, size c.args.bytes.now c.args.t.processes))
-    (subst (λ (n : ℕ). leb n 4 ≡ true) c.bound_of.ensures (le-leb _ _ c.if-bound_of-gt4.false))
 
 pub returns : goal.returns
 unfolding is_narrow
 returns c =
-    tested_end c.loop-i.invariant (omega (arith, c.loop-i-test.false, size c.args.bytes.now c.args.t.processes))
+    let bodies = processes_in c.args.bytes.now c.args.t in
+    let test : ℕ → Bool = λ i. leb (byte_of (get_or bodies i absent) 1) 4 in
+    all_answers test _ (range_with_len 0 c.args.t.processes) (cases_from_all _ _ _ (λ x. test x ≡ true) (λ x. test x ≡ false) c.all.ensures.ran (YieldsList-from_range 0 c.args.t.processes c.args.t.processes refl (omega arith))
+    (λ x q k. search (rules, tests)) (λ x q k. search (rules, tests)))
+    ∙ ap (λ n. all_of test (range_with_len 0 n)) (sym (bodies_length c.args.bytes.now 2 0 c.args.t.processes))
+    ∙ all_range (λ body. leb (byte_of body 1) 4) absent test 0 bodies (λ k h. ap test (omega arith))

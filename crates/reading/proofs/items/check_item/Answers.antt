@@ -1,35 +1,31 @@
--- The early checks are made in their order; an item that passes them is whole, and its body is checked (Steps).
-use mathlib.Core.Path.{refl, sym, ◌∙◌}
-use native.Mathlib.Omega.{arith}
-use Rattle.model.specs.Tables.{refusal}
-use Rattle.table.proofs.Steps.{kind_of_lem, early_refused, early_of}
-use Rattle.reading.proofs.Marks.{checked_by, refused_with}
+-- An item that passes the early checks is whole, and its body is checked (Steps).
+use Rattle.std.proofs.Common.{◌≡◌, refl, false, arith}
+use Rattle.model.specs.Tables.{is_stranger}
+use Rattle.table.specs.Kinds.{kind_number}
+use Rattle.table.specs.declared.kinds.Kind.{Kind}
+use Rattle.table.specs.declared.kinds.Kind.TheVariants.{Process, Letter, Rule, Transition, Accepting, Start, Pile, End}
+use Rattle.table.proofs.Steps.{early_refused, early_of}
+use Rattle.reading.proofs.Marks.{refused_on}
 use Rattle.reading.proofs.items.check_item.Goals as goal
 
-pub returns-then-is_stranger : goal.returns-then-is_stranger
-unfolding refusal
-returns-then-is_stranger c = refused_with (rw (sym c.is_stranger.ensures ∙ c.if-is_stranger.true) refl) (λ e. omega arith)
+known : (k : Kind) → is_stranger (kind_number k) ≡ false
+known Process = refl
+known Letter = refl
+known Rule = refl
+known Transition = refl
+known Accepting = refl
+known Start = refl
+known Pile = refl
+known End = refl
 
-pub early_refusal-number-requires : goal.early_refusal-number-requires
-early_refusal-number-requires c = (kind_of_lem _ (sym c.is_stranger.ensures ∙ c.if-is_stranger.false)).1
-
-pub returns-then-number-ne0 : goal.returns-then-number-ne0
-returns-then-number-ne0 c =
-    refused_with (early_refused _ _ _ c.requires.0 c.requires.1 (sym c.is_stranger.ensures ∙ c.if-is_stranger.false) _ c.early_refusal-number.ensures c.if-number-ne0.true) c.if-number-ne0.true
-
-pub body_length-requires : goal.body_length-requires
-body_length-requires c = (kind_of_lem _ (sym c.is_stranger.ensures ∙ c.if-is_stranger.false)).1
-
-pub body_at-requires : goal.body_at-requires
-body_at-requires c =
-    omega (arith, c.body_length.ensures, (early_of _ _ _ c.requires.0 c.requires.1 (sym c.is_stranger.ensures ∙ c.if-is_stranger.false) (sym c.early_refusal-number.ensures ∙ c.if-number-ne0.false)).inside)
+pub returns-in_err-check_place-clause-checked : goal.returns-in_err-check_place-clause-checked
+returns-in_err-check_place-clause-checked c =
+    let kind = c.in_ok-kind in
+    let e = c.in_err-check_place.ensures in
+    rw (← kind.ensures)
+    (refused_on _ c.from_residual-in_err-check_place.ensures.1 (early_refused _ _ _ c.requires.0 c.requires.1 (known kind.kind) _ e.0 (λ z. omega (arith, e.1))) (omega (arith, e.1)))
 
 pub check_body-requires : goal.check_body-requires
 check_body-requires c =
-    let f = early_of _ _ _ c.requires.0 c.requires.1 (sym c.is_stranger.ensures ∙ c.if-is_stranger.false) (sym c.early_refusal-number.ensures ∙ c.if-number-ne0.false) in
+    let f = early_of _ _ _ c.requires.0 c.requires.1 (known c.in_ok-kind.kind) c.in_ok-check_place.ensures in
     rw (c.body_at.ensures.0, c.body_length.ensures) (record { passed = c.requires.0; turn = f.turn; inside = f.inside; same = refl; whole = f.whole; filter = c.requires.2 })
-
-pub returns : goal.returns
-returns c =
-    let f = early_of _ _ _ c.requires.0 c.requires.1 (sym c.is_stranger.ensures ∙ c.if-is_stranger.false) (sym c.early_refusal-number.ensures ∙ c.if-number-ne0.false) in
-    checked_by f.same (rw (c.body_at.ensures.0, c.body_length.ensures) at c.check_body.ensures)

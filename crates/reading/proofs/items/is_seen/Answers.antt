@@ -1,38 +1,22 @@
--- None of the bodies so far is the same (Bodies).
-use mathlib.Core.Path.{refl, sym, ◌∙◌}
-use native.Mathlib.Omega.{arith}
-use Rattle.reading.proofs.Twins.{left_room, left_found, left_turn, left_end}
+-- The test is asked of each body before (Twins).
+use Rattle.std.proofs.Common.{ℕ, ◌≡◌, ◌∙◌, sym, ap, nat_eq, take, true, false, rules, tests, arith, drop, length, ◌*◌, ◌+◌, ◌-◌}
+use Rattle.std.specs.Slice.Iter.{chunks_exact_steps}
+use Rattle.std.proofs.lemmas.Iterator.{cases_from_any, YieldsList}
+use Rattle.std.specs.Cmp.Lexicographic.{pointwise}
+use Rattle.model.specs.Tables.{same_bytes}
+use Rattle.model.proofs.SliceTests.{any_answers}
+use Rattle.table.specs.Places.{bodies_at}
+use Rattle.reading.proofs.Twins.{same_test, bodies_come}
 use Rattle.reading.proofs.items.is_seen.Goals as goal
 
-pub loop-left-init : goal.loop-left-init
-loop-left-init c = record { room = omega arith; same = refl }
-
-pub overflow_add-at : goal.overflow_add-at
-overflow_add-at c = omega arith
-
-pub overflow_add-place-in-loop-left : goal.overflow_add-place-in-loop-left
-overflow_add-place-in-loop-left c = omega (arith, left_room c.loop-left.invariant c.loop-left-test.true)
-
-pub same_bytes-requires : goal.same_bytes-requires
-same_bytes-requires c = omega (arith, left_room c.loop-left.invariant c.loop-left-test.true)
-
-pub returns-then-same_bytes : goal.returns-then-same_bytes
-returns-then-same_bytes c = sym (left_found c.loop-left.invariant c.loop-left-test.true (sym c.same_bytes.ensures ∙ c.if-same_bytes.true))
-
-pub overflow_add-place-in-loop-left-2 : goal.overflow_add-place-in-loop-left-2
-overflow_add-place-in-loop-left-2 c = omega (arith, left_room c.loop-left.invariant c.loop-left-test.true)
-
-pub overflow_add-place-in-loop-left-3 : goal.overflow_add-place-in-loop-left-3
-overflow_add-place-in-loop-left-3 c = omega (arith, left_room c.loop-left.invariant c.loop-left-test.true)
-
-pub overflow_sub-left : goal.overflow_sub-left
-overflow_sub-left c = omega arith
-
-pub loop-left-smaller : goal.loop-left-smaller
-loop-left-smaller c = omega arith
-
-pub loop-left-preserved : goal.loop-left-preserved
-loop-left-preserved c = left_turn c.loop-left.invariant c.loop-left-test.true (sym c.same_bytes.ensures ∙ c.if-same_bytes.false)
-
 pub returns : goal.returns
-returns c = sym (left_end c.loop-left.invariant c.loop-left-test.false)
+returns c =
+    let x = c.args in
+    let body = x.body.now in
+    let first = x.at - x.count * (1 + length body) in
+    let bodies = bodies_at x.bytes.now (length body) first x.count in
+    let yields : YieldsList (chunks_exact_steps {A = ℕ}) (λ p. drop (length p.now - length body) p.now) c.chunks_exact.result bodies =
+    record { runs = bodies_come x.bytes.now (length body) first x.count c.chunks_exact.result c.chunks_exact.ensures.size (c.chunks_exact.ensures.rest ∙ ap (λ n. take n (drop first x.bytes.now)) (omega arith)) (omega arith) } in
+    any_answers (same_bytes body) _ bodies (cases_from_any _ _ _ (λ y. same_bytes body y ≡ true) (λ y. same_bytes body y ≡ false) c.any.ensures.ran yields
+    (λ y q k. let e : pointwise nat_eq body (drop (length y.now - length body) y.now) ≡ true = search (rules, tests) in sym (same_test body _) ∙ e)
+    (λ y q k. let e : (q ≡ _) × (pointwise nat_eq body (drop (length y.now - length body) y.now) ≡ false) = search (rules, tests) in (e.0, sym (same_test body _) ∙ e.1)))

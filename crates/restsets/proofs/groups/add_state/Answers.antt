@@ -2,7 +2,7 @@
 use mathlib.Core.Path.{◌≡◌, refl, ap, ap₂, sym, subst, ◌∙◌}
 use mathlib.Core.List.{List}
 use lib.ListN.{length}
-use Prim.Native.Nat.{ℕ, ◌*◌, ◌+◌}
+use Prim.Native.Nat.{ℕ, ◌*◌, ◌+◌, ◌<◌}
 use native.Mathlib.Omega.{arith}
 use Rattle.model.specs.Groups.{processes_of}
 use Rattle.model.specs.Records.{record_length, before_at, after_at}
@@ -31,7 +31,7 @@ loop-r-init c =
     let a = c.args in
     let p = c.requires.0 in
     let first = (leader_first a.log.now a.a.number a.leader a.c.count p.leads (omega (arith, p.inside, p.addable.limited))).0 in
-    (refl, passing_start before_is (first ∙ ap (λ (g : ℕ). first_from (record_reads a.log.now a.a.number g) 0 a.c.count) (sym c.before_at-before.ensures)))
+    passing_start before_is (first ∙ ap (λ (g : ℕ). first_from (record_reads a.log.now a.a.number g) 0 a.c.count) (sym c.before_at-before.ensures))
 
 pub after_at-requires : goal.after_at-requires
 after_at-requires c = let p = c.requires.0.addable in omega (arith, c.loop-r-test.true, p.linked.room.records, p.limited)
@@ -39,12 +39,12 @@ after_at-requires c = let p = c.requires.0.addable in omega (arith, c.loop-r-tes
 pub holds-requires : goal.holds-requires
 holds-requires c =
     let p = c.requires.0.addable in
-    (c.own_number.ensures.1, omega (arith, p.apart.from_room, ap length c.loop-r.invariant.0))
+    (c.own_number.ensures.1, p.apart.from_room)
 
 pub insert_state-requires : goal.insert_state-requires
 insert_state-requires c =
     let p = c.requires.0.addable in
-    (c.own_number-then-holds.ensures.1, omega (arith, p.apart.to_room, ap length c.loop-r.invariant.0))
+    (c.own_number-then-holds.ensures.1, p.apart.to_room)
 
 pub returns-then-holds : goal.returns-then-holds
 unfolding packed_before before_at packed_after after_at
@@ -53,27 +53,28 @@ returns-then-holds c =
     c.own_number.ensures.0 ∙ ap (λ (g : ℕ). packed_number (packed_merge c.args.f.mask g 0)) c.after_at.ensures
     ∙ own_at (processes_of c.args.a.bits) c.args.f.mask c.args.log.now (c.loop-r.r * record_length + 5) c.requires.0.addable.framed.mask (λ m. omega (arith, c.shared_slice_known-1.given m)) in
     let asked : c.holds.result ≡ member (set_at c.args.scratch.now c.args.next) (own_number (processes_of c.args.a.bits) (after_at c.args.log.now c.loop-r.r)) =
-    c.holds.ensures ∙ ap₂ (λ (l : List ℕ) (x : ℕ). member (set_at l c.args.next) x) c.loop-r.invariant.0 y_is in
+    c.holds.ensures ∙ ap (member (set_at c.args.scratch.now c.args.next)) y_is in
     let over : Over (processes_of c.args.a.bits) (before_at c.args.log.now c.args.leader) = let p = c.requires.0 in p.addable.shaped c.args.leader p.inside (leader_parts _ _ _ p.leads).0 in
     let x_is : c.own_number-then-holds.result ≡ own_number (processes_of c.args.a.bits) (before_at c.args.log.now c.args.leader) = let a = c.args in
     c.own_number-then-holds.ensures.0 ∙ ap (λ (g : ℕ). packed_number (packed_merge a.f.mask g 0)) c.before_at-before.ensures
     ∙ own_at (processes_of a.a.bits) a.f.mask a.log.now (a.leader * record_length + 1) c.requires.0.addable.framed.mask (λ m. omega (arith, c.shared_slice_known-1.given m)) in
     let p = c.requires in
     let a = c.args in
-    passing_found p.0.addable p.1 c.loop-r.invariant.1 over c.loop-r-test.true (sym asked ∙ c.if-holds.true)
-    x_is (c.insert_state.ensures ∙ ap (λ (l : List ℕ). with_state l a.to c.own_number-then-holds.result) c.loop-r.invariant.0)
+    passing_found p.0.addable p.1 c.loop-r.invariant over c.loop-r-test.true (sym asked ∙ c.if-holds.true)
+    x_is c.insert_state.ensures
+
+pub new-rings-requires : goal.new-rings-requires
+new-rings-requires c = let p = c.requires.0.addable.linked in (p.room, p.ringed)
 
 pub next_match-r-requires : goal.next_match-r-requires
 next_match-r-requires c =
     let p = c.requires.0.addable in
-    let h = c.loop-r-test.true in
-    let a = c.args in
-    let linked = subst (Linked a.log.now a.c.count a.c.n) (sym c.loop-r.invariant.0) p.linked in
-    (linked.room, linked.ringed, omega (arith, h, p.limited), c.loop-r.invariant.1.reading (omega (arith, h, p.limited)))
+    let below : c.loop-r.r < c.args.c.count = omega (arith, c.loop-r-test.true, p.limited) in
+    rw (c.new-rings.ensures.0, c.new-rings.ensures.4) (below, c.loop-r.invariant.reading below)
 
 pub loop-r-smaller : goal.loop-r-smaller
 loop-r-smaller c =
-    omega (arith, reads_later _ _ _ _ _ _ c.next_match-r.ensures, c.loop-r-test.true)
+    omega (arith, reads_later _ _ _ _ _ _ (rw (c.new-rings.ensures.0, c.new-rings.ensures.4) at c.next_match-r.ensures), c.loop-r-test.true)
 
 pub loop-r-preserved : goal.loop-r-preserved
 unfolding packed_after after_at
@@ -82,15 +83,11 @@ loop-r-preserved c =
     c.own_number.ensures.0 ∙ ap (λ (g : ℕ). packed_number (packed_merge c.args.f.mask g 0)) c.after_at.ensures
     ∙ own_at (processes_of c.args.a.bits) c.args.f.mask c.args.log.now (c.loop-r.r * record_length + 5) c.requires.0.addable.framed.mask (λ m. omega (arith, c.shared_slice_known-1.given m)) in
     let asked : c.holds.result ≡ member (set_at c.args.scratch.now c.args.next) (own_number (processes_of c.args.a.bits) (after_at c.args.log.now c.loop-r.r)) =
-    c.holds.ensures ∙ ap₂ (λ (l : List ℕ) (x : ℕ). member (set_at l c.args.next) x) c.loop-r.invariant.0 y_is in
-    (c.loop-r.invariant.0, passing_turn c.loop-r.invariant.1 (sym asked ∙ c.if-holds.false) c.next_match-r.ensures)
-
-pub shape_of-scratch : goal.shape_of-scratch
-shape_of-scratch c = ap length c.loop-r.invariant.0
+    c.holds.ensures ∙ ap (member (set_at c.args.scratch.now c.args.next)) y_is in
+    passing_turn c.loop-r.invariant (sym asked ∙ c.if-holds.false) (rw (c.new-rings.ensures.0, c.new-rings.ensures.4) at c.next_match-r.ensures)
 
 pub returns : goal.returns
 returns c =
     let p = c.requires in
     let a = c.args in
-    subst (Added a.log.now a.c.limit (set_at a.scratch.now a.next) a.a a.f (Alike a.log.now a.a a.leader) a.to a.scratch.now) (sym c.loop-r.invariant.0)
-    (passing_end p.0.addable p.1 c.loop-r.invariant.1 c.loop-r-test.false)
+    passing_end p.0.addable p.1 c.loop-r.invariant c.loop-r-test.false

@@ -1,6 +1,6 @@
 -- The records with the leader's states before in turn, from the leader on: those below r are taken, and the next one comes later.
 use mathlib.Core.Path.{◌≡◌, ap, sym, ◌∙◌}
-use Prim.Native.Nat.{ℕ, ◌*◌, ◌+◌}
+use Prim.Native.Nat.{ℕ, ◌*◌, ◌+◌, ◌<◌}
 use native.Mathlib.Omega.{arith}
 use Rattle.model.specs.Groups.{processes_of}
 use Rattle.model.specs.Records.{record_length, before_at, after_at}
@@ -60,9 +60,9 @@ returns-then-common-f c =
     taking_full c.requires.addable over c.loop-r.invariant x_is y-is c.loop-r-test.true
     c.add_record-common.ensures c.if-common-f.true
 
-pub next_match-r-requires : goal.next_match-r-requires
+pub new-requires : goal.new-requires
 unfolding packed_before before_at packed_after after_at
-next_match-r-requires c =
+new-requires c =
     let over : Over (processes_of c.args.a.bits) (before_at c.args.log.now c.args.leader) = let p = c.requires in p.addable.shaped c.args.leader p.inside (leader_parts _ _ _ p.leads).0 in
     let x_is : c.own_number-x.result ≡ own_number (processes_of c.args.a.bits) (before_at c.args.log.now c.args.leader) = let a = c.args in
     c.own_number-x.ensures.0 ∙ ap (λ (g : ℕ). packed_number (packed_merge a.f.mask g 0)) c.before_at-before.ensures
@@ -74,11 +74,16 @@ next_match-r-requires c =
     let h = c.loop-r-test.true in
     let p = c.requires.addable in
     let linked = taking_linked p over w x_is y-is h c.add_record-common.ensures in
-    (linked.room, linked.ringed, omega (arith, h, p.limited), w.reading (omega (arith, h, p.limited)))
+    (linked.room, linked.ringed)
+
+pub next_match-r-requires : goal.next_match-r-requires
+next_match-r-requires c =
+    let below : c.loop-r.r < c.args.c.count = omega (arith, c.loop-r-test.true, c.requires.addable.limited) in
+    rw (c.new.ensures.0, c.new.ensures.4) (below, c.loop-r.invariant.reading below)
 
 pub loop-r-smaller : goal.loop-r-smaller
 loop-r-smaller c =
-    omega (arith, reads_later _ _ _ _ _ _ c.next_match-r.ensures, c.loop-r-test.true)
+    omega (arith, reads_later _ _ _ _ _ _ (rw (c.new.ensures.0, c.new.ensures.4) at c.next_match-r.ensures), c.loop-r-test.true)
 
 pub loop-r-preserved : goal.loop-r-preserved
 unfolding packed_before before_at packed_after after_at
@@ -91,7 +96,7 @@ loop-r-preserved c =
     c.own_number-y.ensures.0 ∙ ap (λ (g : ℕ). packed_number (packed_merge a.f.mask g 0)) c.after_at.ensures
     ∙ own_at (processes_of a.a.bits) a.f.mask a.log.now (c.loop-r.r * record_length + 5) c.requires.addable.framed.mask (λ m. omega (arith, c.shared_slice_known-1.given m)) in
     taking_turn c.requires.addable over c.loop-r.invariant x_is y-is c.loop-r-test.true
-    c.add_record-common.ensures c.next_match-r.ensures
+    c.add_record-common.ensures (rw (c.new.ensures.0, c.new.ensures.4) at c.next_match-r.ensures)
 
 pub shape_of-scratch : goal.shape_of-scratch
 shape_of-scratch c = c.loop-r.invariant.added.same.size

@@ -5,7 +5,4 @@ use Rattle.restsets.proofs.LastSet.{with_mixtures}
 use Rattle.restsets.proofs.sets.add_accepting.Given as goal
 
 abbrev pub invariant-loop-m : goal.invariant-loop-m
-invariant-loop-m l = (l.m ≤ l.sets) × (l.scratch ≡ with_mixtures l.t l.at l.x l.initial.scratch l.m)
-
-abbrev pub decreases-loop-m : goal.decreases-loop-m
-decreases-loop-m l = l.sets - l.m
+invariant-loop-m l = (l.m ≤ l.sets) × (l.scratch ≡ with_mixtures l.table.counts l.at l.x l.initial.scratch l.m)

@@ -3,7 +3,4 @@ use Rattle.restsets.proofs.LastSet.{Numbering}
 use Rattle.restsets.proofs.sets.fill_accepting.Given as goal
 
 abbrev pub invariant-loop-j : goal.invariant-loop-j
-invariant-loop-j l = Numbering l.table l.t l.at l.j l.initial.scratch l.scratch
-
-abbrev pub decreases-loop-j : goal.decreases-loop-j
-decreases-loop-j l = l.j
+invariant-loop-j l = Numbering l.table.bytes.now l.table.counts l.at l.j l.initial.scratch l.scratch

@@ -4,7 +4,7 @@ use Rattle.restsets.proofs.Filling.{filling_addable, filling_chained, filling_en
 use Rattle.restsets.proofs.sets.fill_set.Goals as goal
 
 pub letter_at-a-requires : goal.letter_at-a-requires
-letter_at-a-requires c = let p = c.requires in (p.scoped.some.1.holds, p.inside)
+letter_at-a-requires c = let p = c.requires in p.inside
 
 pub clear_set-requires : goal.clear_set-requires
 clear_set-requires c = c.requires.apart.to_room

@@ -4,8 +4,8 @@ use Prim.Native.Nat.{◌-◌}
 use Rattle.saturate.proofs.RoundSteps.{HeadsAdded}
 use Rattle.saturate.proofs.rounds.add_round.Given as goal
 
-abbrev pub invariant-loop-t : goal.invariant-loop-t
-invariant-loop-t l = HeadsAdded l.table l.t l.round l.initial.log l.initial.scratch l.at.position l.at.count l.log l.scratch
+abbrev pub invariant-loop-round : goal.invariant-loop-round
+invariant-loop-round l = HeadsAdded l.table.bytes.now l.table.counts l.round l.initial.log l.initial.scratch l.at.position l.at.count l.log l.scratch
 
-abbrev pub decreases-loop-t : goal.decreases-loop-t
-decreases-loop-t l = l.t.rules - l.at.position
+abbrev pub decreases-loop-round : goal.decreases-loop-round
+decreases-loop-round l = l.table.counts.rules - l.at.position

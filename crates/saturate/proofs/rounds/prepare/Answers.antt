@@ -5,5 +5,5 @@ use Rattle.saturate.proofs.rounds.prepare.Goals as goal
 pub returns : goal.returns
 returns c =
     let is = c.keys_at.ensures in
-    scratch_ready c.requires.0 c.order_rules.ensures c.mark_writers.ensures c.clear_part.ensures c.clear.ensures.0
+    scratch_ready c.args.table.now.holds c.order_rules.ensures c.mark_writers.ensures c.clear_part.ensures c.clear.ensures.0
     c.clear.ensures.1 (rw is at c.clear-2.ensures.0) (rw is at c.clear-2.ensures.1)

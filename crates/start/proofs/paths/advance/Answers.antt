@@ -12,29 +12,29 @@ use Rattle.start.proofs.Tracing.{step_inside, advanced}
 use Rattle.start.proofs.paths.advance.Goals as goal
 
 pub letter_at-a-requires : goal.letter_at-a-requires
-letter_at-a-requires c = let p = c.requires in (p.scoped.some.1.holds, p.inside)
+letter_at-a-requires c = let p = c.requires in p.inside
 
 pub overflow_add-i : goal.overflow_add-i
 overflow_add-i c =
-    let few : c.args.t.pile ≤ 64 = (table_modest c.args.table.now c.args.t c.requires.scoped.some.1.holds).pile in
+    let few : c.args.table.now.counts.pile ≤ 64 = (table_modest c.args.table.now.bytes.now c.args.table.now.counts c.requires.scoped.some.1.holds).pile in
     omega (arith, c.requires.inside, few)
 
 pub overflow_mul-i : goal.overflow_mul-i
 overflow_mul-i c =
-    let few : c.args.t.pile ≤ 64 = (table_modest c.args.table.now c.args.t c.requires.scoped.some.1.holds).pile in
+    let few : c.args.table.now.counts.pile ≤ 64 = (table_modest c.args.table.now.bytes.now c.args.table.now.counts c.requires.scoped.some.1.holds).pile in
     omega (arith, c.requires.inside, few)
 
 pub first_lead-r-requires : goal.first_lead-r-requires
 first_lead-r-requires c =
-    let few : c.args.t.pile ≤ 64 = (table_modest c.args.table.now c.args.t c.requires.scoped.some.1.holds).pile in
+    let few : c.args.table.now.counts.pile ≤ 64 = (table_modest c.args.table.now.bytes.now c.args.table.now.counts c.requires.scoped.some.1.holds).pile in
     let p = c.requires in
     (p.scoped.linked, p.scoped.limited, omega (arith, p.inside, few, p.scoped.linked.room.room))
 
-pub overflow_sub-t : goal.overflow_sub-t
-overflow_sub-t c = omega (arith, c.requires.inside)
+pub overflow_sub-table : goal.overflow_sub-table
+overflow_sub-table c = omega (arith, c.requires.inside)
 
-pub overflow_sub-t-2 : goal.overflow_sub-t-2
-overflow_sub-t-2 c = omega (arith, c.requires.inside)
+pub overflow_sub-table-2 : goal.overflow_sub-table-2
+overflow_sub-table-2 c = omega (arith, c.requires.inside)
 
 pub overflow_cast-r : goal.overflow_cast-r
 overflow_cast-r c =
@@ -43,7 +43,7 @@ overflow_cast-r c =
 
 pub put_number-requires : goal.put_number-requires
 put_number-requires c =
-    let few : c.args.t.pile ≤ 64 = (table_modest c.args.table.now c.args.t c.requires.scoped.some.1.holds).pile in
+    let few : c.args.table.now.counts.pile ≤ 64 = (table_modest c.args.table.now.bytes.now c.args.table.now.counts c.requires.scoped.some.1.holds).pile in
     omega (arith, c.requires.scoped.linked.room.room, c.requires.inside, few)
 
 pub after_at-after-requires : goal.after_at-after-requires

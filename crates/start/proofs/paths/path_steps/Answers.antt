@@ -21,12 +21,6 @@ add_steps-steps-requires c =
     let log-known = c.shared_slice_known-1 in
     (omega (arith, c.loop-k.invariant.sum), omega (arith, c.steps_at.ensures, steps_less c.args.log.now c.number_at.result (λ m. omega (arith, log-known.given m))))
 
-pub overflow_add-k : goal.overflow_add-k
-overflow_add-k c = omega arith
-
-pub loop-k-smaller : goal.loop-k-smaller
-loop-k-smaller c = omega (arith, c.loop-k-test.true)
-
 pub loop-k-preserved : goal.loop-k-preserved
 loop-k-preserved c =
     summed_turn c.loop-k-test.true c.loop-k.invariant c.number_at.ensures c.steps_at.ensures c.add_steps-steps.ensures

@@ -5,6 +5,3 @@ use Rattle.start.proofs.paths.path_steps.Given as goal
 
 abbrev pub invariant-loop-k : goal.invariant-loop-k
 invariant-loop-k l = Summed l.log l.scratch l.size l.k l.steps
-
-abbrev pub decreases-loop-k : goal.decreases-loop-k
-decreases-loop-k l = l.size - l.k

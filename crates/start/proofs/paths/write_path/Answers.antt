@@ -3,20 +3,11 @@ use native.Mathlib.Omega.{arith}
 use Rattle.start.proofs.Tracing.{tracing_start, tracing_underway, tracing_turn, tracing_end}
 use Rattle.start.proofs.paths.write_path.Goals as goal
 
-pub start_group-g-requires : goal.start_group-g-requires
-start_group-g-requires c = c.requires.0.scoped.some.1.holds
-
 pub loop-i-init : goal.loop-i-init
 loop-i-init c = tracing_start c.requires c.start_group-g.ensures
 
 pub advance-g-requires : goal.advance-g-requires
 advance-g-requires c = tracing_underway c.requires c.loop-i-test.true c.loop-i.invariant
-
-pub overflow_add-i : goal.overflow_add-i
-overflow_add-i c = omega arith
-
-pub loop-i-smaller : goal.loop-i-smaller
-loop-i-smaller c = omega arith
 
 pub loop-i-preserved : goal.loop-i-preserved
 loop-i-preserved c =

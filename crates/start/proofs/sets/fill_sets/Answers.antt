@@ -6,12 +6,6 @@ use Rattle.start.proofs.sets.fill_sets.Goals as goal
 pub loop-i-init : goal.loop-i-init
 loop-i-init c = backwards_start c.requires.0
 
-pub overflow_sub-i : goal.overflow_sub-i
-overflow_sub-i c = omega arith
-
-pub overflow_add-i : goal.overflow_add-i
-overflow_add-i c = let inv = c.loop-i.invariant in omega (arith, inv.few, inv.short)
-
 pub overflow_mul-i : goal.overflow_mul-i
 overflow_mul-i c = let inv = c.loop-i.invariant in omega (arith, inv.few, inv.short)
 
@@ -20,9 +14,6 @@ overflow_mul-i-in-loop-i c = let inv = c.loop-i.invariant in omega (arith, inv.f
 
 pub fill_set-requires : goal.fill_set-requires
 fill_set-requires c = backwards_fillable c.loop-i-test.true c.loop-i.invariant c.requires.1
-
-pub loop-i-smaller : goal.loop-i-smaller
-loop-i-smaller c = omega arith
 
 pub loop-i-preserved : goal.loop-i-preserved
 loop-i-preserved c =

@@ -3,7 +3,4 @@ use Rattle.start.proofs.Backwards.{Backwards}
 use Rattle.start.proofs.sets.fill_sets.Given as goal
 
 abbrev pub invariant-loop-i : goal.invariant-loop-i
-invariant-loop-i l = Backwards l.table l.t l.log l.c l.initial.scratch l.i l.scratch
-
-abbrev pub decreases-loop-i : goal.decreases-loop-i
-decreases-loop-i l = l.i
+invariant-loop-i l = Backwards l.table.bytes.now l.table.counts l.log l.c l.initial.scratch l.i l.scratch

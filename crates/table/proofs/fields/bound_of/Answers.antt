@@ -8,7 +8,7 @@ use Rattle.table.proofs.fields.bound_of.Goals as goal
 pub returns-then-i-t : goal.returns-then-i-t
 returns-then-i-t c =
     let x = c.args in
-    c.wide.ensures.0 ∙ bodies_byte x.bytes.now 2 0 x.t.processes x.i x.field _ absent c.if-i-t.true (omega arith) (omega arith)
+    c.from.ensures ∙ bodies_byte x.bytes.now 2 0 x.t.processes x.i x.field _ absent c.if-i-t.true (omega arith) (omega arith)
 
 pub returns : goal.returns
 returns c =

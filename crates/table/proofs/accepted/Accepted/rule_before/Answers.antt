@@ -1,0 +1,6 @@
+-- The first group of the body is that of the states before.
+use mathlib.Core.Path.{◌∙◌}
+use Rattle.table.proofs.accepted.Accepted.rule_before.Goals as goal
+
+pub returns : goal.returns
+returns c = c.group_at.ensures ∙ c.rule_body.ensures.1

@@ -1,6 +1,0 @@
--- The second group of the body is that of the states after.
-use mathlib.Core.Path.{◌∙◌}
-use Rattle.table.proofs.fields.rule_after.Goals as goal
-
-pub returns : goal.returns
-returns c = c.group_at.ensures ∙ c.rule_body.ensures.2
