@@ -64,8 +64,8 @@ fn firing_place(table: &Accepted, k: usize, pile: &[u8], c: Placed) -> Option<us
     find(table, pile, c.top, table.rule_letter(k))
 }
 
-// Moves the letters from `top` up to p one place on, over the letter at p. Neither copy_within nor a `for`: the compiler makes both a call of memmove, and the
-// header promises that the archive imports memcpy and memset alone.
+// Moves the letters from `top` up to p one place on, over the letter at p. No copy_within, which is a call of memmove: the header promises that the archive
+// imports memcpy and memset alone.
 fn close_gap(pile: &mut [u8], top: usize, p: usize)
     requires { (top ≤ p) × (p < length pile.old) }
     ensures { pile.new ≡ closed pile.old top p }
