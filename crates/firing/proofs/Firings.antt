@@ -31,9 +31,9 @@ pub place_found : (loc : ℕ → Processes) (r : Rule) (pile : List ℕ) (c : Pl
 unfolding firing_place
 place_found loc r pile c n found e f = rw e f
 
-pub place_none : (loc : ℕ → Processes) (r : Rule) (pile : List ℕ) (c : Placed) → same_group (restrict (loc r.letter) c.states) r.before ≡ false → length pile ≤ firing_place loc r pile c
+pub place_none : (loc : ℕ → Processes) (r : Rule) (pile : List ℕ) (c : Placed) → same_group (restrict (loc r.letter) c.states) r.before ≡ false → length pile ≡ firing_place loc r pile c
 unfolding firing_place
-place_none loc r pile c e = rw e (omega arith)
+place_none loc r pile c e = rw e refl
 
 -- ---- what firing comes to
 -- the word after the step is longer than the buffer, or not

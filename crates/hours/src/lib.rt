@@ -30,8 +30,8 @@ pub struct Step {
 pub struct Openings {
     pub hours: [[Window; WINDOW_PLACES]; Table::PROCESSES],
     pub counts: [u8; Table::PROCESSES],
-    stays: [[u16; WINDOW_PLACES]; Table::PROCESSES],
-    ghost noted: { WeekStays hours counts stays },
+    pub stays: [[u16; WINDOW_PLACES]; Table::PROCESSES],
+    pub ghost noted: { WeekStays hours counts stays },
 }
 
 // ---- how long a process stays open
@@ -94,7 +94,7 @@ fn counted(windows: &[Window; WINDOW_PLACES], count: u8) -> &[Window]
 }
 
 // The stays of each process.
-fn stays_of(
+pub fn stays_of(
     hours: &[[Window; WINDOW_PLACES]; Table::PROCESSES],
     counts: &[u8; Table::PROCESSES],
 ) -> [[u16; WINDOW_PLACES]; Table::PROCESSES]

@@ -5,7 +5,7 @@ use lib.ListN.{get_or, length}
 use mathlib.Core.Bool.{and-false, cond, false, true, true≢false, false≢true}
 use mathlib.Core.List.{List, Memᴰ, [], ◌++◌, ◌∷◌}
 use mathlib.Core.Logic.{⊎_elim}
-use mathlib.Core.Path.{◌∙◌, ◌≡◌, ap, ap₂, refl, sym}
+use mathlib.Core.Path.{◌∙◌, ◌≡◌, ap, sym}
 use native.Mathlib.Omega.{arith}
 use borrow.Author.Tests.{eqb-true}
 use Rattle.model.proofs.CheckedItems.{bodies_more}
@@ -20,22 +20,17 @@ use Rattle.table.specs.Places.{Passed, advanced, bodies_at, body_at, items_befor
 use Rattle.table.specs.Reading.{Stepped, counts_of}
 use Rattle.table.specs.declared.Cursor.{Cursor}
 use Rattle.std.proofs.Common.{ControlFlow, Continue, Break, None, Result, Ok, Err, IsErrAnd}
+use Rattle.reading.proofs.Twins.{same_is}
 use Rattle.reading.specs.Marks.{ItemChecked, ItemStepped, Marked, filter_length, has_twins, mark_of, with_mark}
 use Rattle.std.specs.Prelude.{Result}
 use Rattle.model.specs.declared.Refusal.{Refusal}
 use Rattle.table.specs.declared.Table.{Table}
-use Rattle.reading.specs.Marks.{ItemAt, ItemChecked, ItemStepped, Marked, filter_length, has_twins, mark_of, with_mark}
+use Rattle.reading.specs.Marks.{ItemChecked, ItemStepped, Marked, filter_length, has_twins, mark_of, with_mark}
 
 -- ---- marks
 mark_below : (body : List ℕ) → mark_of body < 8 * filter_length
 unfolding mark_of
 mark_below body = by_test (ltb (length body) 8) (λ y. rw y (omega arith)) (λ n. rw n (omega arith))
-
-same_is : (x y : List ℕ) → same_bytes x y ≡ true → x ≡ y
-same_is [] [] e = refl
-same_is [] (b ∷ y) e = absurd (false≢true e)
-same_is (a ∷ x) [] e = absurd (false≢true e)
-same_is (a ∷ x) (b ∷ y) e = ap₂ (λ (c : ℕ) (z : List ℕ). c ∷ z) (eqb-true a b (and_left (eqb a b) (same_bytes x y) e)) (same_is x y (and_right (eqb a b) (same_bytes x y) e))
 
 -- ---- the filter of items
 marked_start : {seen : List ℕ} → length seen ≡ filter_length → Marked [] seen

@@ -2,13 +2,15 @@
 use Prim.Native.Nat.{◌*◌, ◌+◌, ◌-◌, ◌≤◌, suc, zero, ℕ}
 use lib.Dec.{eqb, leb}
 use lib.ListN.{drop, length, take}
-use mathlib.Core.Bool.{◌&&◌, true}
+use mathlib.Core.Bool.{◌&&◌, false, true, false≢true}
 use mathlib.Core.List.{List, [], ◌∷◌, ◌++◌}
 use mathlib.Core.Path.{◌∙◌, ◌≡◌, ap, ap₂, refl, sym}
 use native.Mathlib.Omega.{arith}
-use borrow.Author.Tests.{leb-true}
-use Rattle.model.proofs.Tests.{and_right}
+use borrow.Author.Tests.{eqb-true, leb-true}
+use Rattle.model.proofs.RecordBytes.{number_drop}
+use Rattle.model.proofs.Tests.{and_left, and_right, by_test}
 use Rattle.model.specs.Lists.{any_of}
+use Rattle.model.specs.Records.{number_at}
 use Rattle.model.specs.Tables.{body_length, is_twin, same_bytes}
 use Rattle.table.proofs.Cursors.{kind_place}
 use Rattle.table.proofs.Places.{bodies_below}
@@ -28,6 +30,17 @@ same_test [] [] = refl
 same_test [] (b ∷ y) = refl
 same_test (a ∷ x) [] = refl
 same_test (a ∷ x) (b ∷ y) = ap (λ t. eqb a b && t) (same_test x y)
+
+-- bytes that are compared as the same are the same
+pub same_is : (x y : List ℕ) → same_bytes x y ≡ true → x ≡ y
+same_is [] [] e = refl
+same_is [] (b ∷ y) e = absurd (false≢true e)
+same_is (a ∷ x) [] e = absurd (false≢true e)
+same_is (a ∷ x) (b ∷ y) e = ap₂ (λ (c : ℕ) (z : List ℕ). c ∷ z) (eqb-true a b (and_left (eqb a b) (same_bytes x y) e)) (same_is x y (and_right (eqb a b) (same_bytes x y) e))
+
+-- bytes that differ in a number are not the same
+pub differ_in : (x y : List ℕ) (a i j : ℕ) → j ≡ a + i → (number_at 8 y j ≡ number_at 8 x i → ⊥) → same_bytes x (drop a y) ≡ false
+differ_in x y a i j e ne = by_test (same_bytes x (drop a y)) (λ t. absurd (ne (ap (number_at 8 y) e ∙ sym (number_drop 8 y a i) ∙ ap (λ z. number_at 8 z i) (sym (same_is x (drop a y) t))))) (λ f. f)
 
 -- two lists joined at one place
 seam : (x y a b : List ℕ) → length x ≡ length a → x ++ y ≡ a ++ b → (x ≡ a) × (y ≡ b)

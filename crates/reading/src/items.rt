@@ -1,5 +1,5 @@
 // The checks of one item, in their order, and the cursor behind it.
-ghost use Rattle.std.specs.Prelude.{◌≡◌, ◌+◌, ◌-◌, ◌*◌, ◌≤◌, ◌<◌, ltb, length, IfOk};
+ghost use Rattle.std.specs.Prelude.{◌≡◌, ◌+◌, ◌-◌, ◌*◌, ◌≤◌, ◌<◌, ltb, length, drop, IfOk};
 ghost use Rattle.model.specs.Lists.{any_of};
 ghost use Rattle.model.specs.Tables.{body_length, same_bytes, is_twin, refusal};
 ghost use Rattle.table.specs.Kinds.{kind_number, last_number};
@@ -76,6 +76,22 @@ pub fn is_out_of_turn(c: Cursor, kind: Kind) -> bool
 }
 
 // ---- check 8
+// The body is the end of the item. Its first and its last eight bytes are compared at once, which tells nearly all apart that are not the same.
+fn is_end_of(item: &[u8], body: &[u8]) -> bool
+    ensures { result ≡ same_bytes body.now (drop (length item.now - length body.now) item.now) }
+{
+    let size = body.len();
+    if 8 <= size && size <= item.len() {
+        let at = item.len() - size;
+        if eight_at(item, at) != eight_at(body, 0)
+            || eight_at(item, item.len() - 8) != eight_at(body, size - 8)
+        {
+            return false;
+        }
+    }
+    item.ends_with(body)
+}
+
 // The body is one of the bodies of the `count` items right before `at`, which are as long.
 pub fn is_seen(bytes: &[u8], body: &[u8], count: usize, at: usize) -> bool
     requires { (count * (1 + length body.now) ≤ at) × (at + length body.now < length bytes.now) }
@@ -83,7 +99,7 @@ pub fn is_seen(bytes: &[u8], body: &[u8], count: usize, at: usize) -> bool
 {
     let size = 1 + body.len();
     let before = &bytes[at - count * size..at];
-    before.chunks_exact(size).any(|item| item.ends_with(body))
+    before.chunks_exact(size).any(|item| is_end_of(item, body))
 }
 
 // Check 8 asks of this kind.
