@@ -25,7 +25,6 @@ use Rattle.reading.specs.Marks.{ItemChecked, ItemStepped, Marked, filter_length,
 use Rattle.std.specs.Prelude.{Result}
 use Rattle.model.specs.declared.Refusal.{Refusal}
 use Rattle.table.specs.declared.Table.{Table}
-use Rattle.reading.specs.Marks.{ItemChecked, ItemStepped, Marked, filter_length, has_twins, mark_of, with_mark}
 
 -- ---- marks
 mark_below : (body : List ℕ) → mark_of body < 8 * filter_length
