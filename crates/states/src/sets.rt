@@ -27,9 +27,9 @@ pub fn insert(members: &mut [u8], n: usize)
     members[n / 8] |= 1 << (n % 8);
 }
 
-// All bytes are zero. It ends at the last one alone, so that the machine looks at many bytes at a time.
+// Whether all bytes are zero. It ends at the last one alone, so that the machine looks at many bytes at a time.
 fn is_zero(bytes: &[u8]) -> bool
-    ensures { result ≡ true → (i : ℕ) → i < length bytes.now → get_or bytes.now i 0 ≡ 0 }
+    ensures { (result ≡ true → (i : ℕ) → i < length bytes.now → get_or bytes.now i 0 ≡ 0) × (((i : ℕ) → i < length bytes.now → get_or bytes.now i 0 ≡ 0) → result ≡ true) }
 {
     let mut any = 0;
     for byte in bytes {

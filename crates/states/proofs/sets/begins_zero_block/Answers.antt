@@ -5,4 +5,4 @@ use Rattle.states.proofs.StateSets.{zero_block}
 use Rattle.states.proofs.sets.begins_zero_block.Goals as goal
 
 pub returns-then-n-eq0 : goal.returns-then-n-eq0
-returns-then-n-eq0 c e = zero_block c.args.members.now c.args.n c.requires.0 c.if-n-eq0.true (λ i h. grind (arith, common_steps, c.is_zero.ensures e i))
+returns-then-n-eq0 c e = zero_block c.args.members.now c.args.n c.requires.0 c.if-n-eq0.true (λ i h. grind (arith, common_steps, c.is_zero.ensures.0 e i))
